@@ -1,0 +1,3 @@
+pub mod LinesLemmas
+mod Bytes
+mod Partway

@@ -1,0 +1,4 @@
+pub mod Finite
+pub mod Rising
+pub mod Places
+pub mod Inclusion

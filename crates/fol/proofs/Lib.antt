@@ -1,0 +1,3 @@
+pub mod OrderTies
+pub mod FormedDepth
+pub mod NumberedTexts

@@ -1,0 +1,28 @@
+-- Sets of formulas: what every stored one keeps, and the test that two are equal.
+use Rattle.std.specs.Prelude.{◌≡◌, Bool, true, List}
+use Rattle.std.specs.Cmp.{IsEquivalence}
+use Rattle.std.specs.Cmp.Lexicographic.{pointwise}
+use Rattle.std.specs.List.{list_all}
+use Rattle.std.specs.Ordering.{eq_by_cmp}
+use Rattle.std.proofs.lemmas.Cmp.{eq_by_cmp_equiv, lists_equiv, on_equiv}
+use Rattle.fol.specs.Syntax.{Formula}
+use Rattle.fol.specs.Order.{formula_cmp}
+use Rattle.fol.specs.OrderLaws.{formula_total}
+use Rattle.fol.specs.Formed.{is_formed}
+use Rattle.finite.specs.Finite as set
+
+-- finite sets of formulas
+abbrev pub FormulaSet : Type 0
+FormulaSet = set.Finite formula_cmp
+
+-- the list of a set of well-formed formulas: it rises without repeats, and each formula is well formed
+pub record IsListing (items : List Formula) : Type 0 where
+  pub rises : set.IsRising formula_cmp items
+  pub formed : list_all is_formed items ≡ true
+
+-- whether two sets have the same formulas, one list beside the other
+abbrev pub same_formulas : FormulaSet → FormulaSet → Bool
+same_formulas s t = pointwise (eq_by_cmp formula_cmp) (set.listing s) (set.listing t)
+
+pub same_formulas_equiv : IsEquivalence same_formulas
+same_formulas_equiv = on_equiv set.listing (lists_equiv (eq_by_cmp_equiv formula_total))

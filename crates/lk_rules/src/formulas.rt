@@ -1,0 +1,103 @@
+//! Finite sets of well-formed formulas.
+ghost use Rattle.std.specs.Prelude.{◌≡◌, ◌↔◌, IsTrue, IfOk, OnOk, OnErr};
+ghost use Rattle.std.specs.List.{All};
+ghost use Rattle.std.specs.Cmp.{partial_equiv_from_equiv};
+ghost use Rattle.finite.specs.Finite as set;
+ghost use Rattle.lk_rules.specs.Formulas.{same_formulas, same_formulas_equiv};
+ghost use Rattle.fol.specs.Formed.{IsFormed};
+
+use fol::Formula;
+use std::alloc::{AllocError, Global};
+use std::marker::Model;
+
+/// A finite set of well-formed formulas, kept in rising order.
+#[derive(Drop, Debug)]
+pub struct Formulas {
+    items: Vec<Formula>,
+}
+
+impl Model for Formulas {
+    ghost use Rattle.finite.specs.Finite as set;
+    ghost use Rattle.fol.specs.Order.{formula_cmp};
+    ghost use Rattle.fol.specs.Codes.{coded_formula};
+    ghost use Rattle.lk_rules.specs.Formulas.{IsListing};
+
+    ghost Value = { set.Finite formula_cmp };
+
+    ghost coded = { set.code coded_formula };
+
+    ghost view = { λ a. set.of_rising a.items.items };
+
+    ghost invariant = { λ a. IsListing a.items.items };
+}
+
+impl Formulas {
+    /// The set with no formula.
+    pub fn new(alloc: Global) -> Formulas
+        ensures { result ≡ set.empty }
+    {
+        Formulas {
+            items: Vec::new(alloc),
+        }
+    }
+
+    /// The formulas in rising order.
+    pub fn as_slice(&self) -> &[Formula]
+        ensures listing { result.now ≡ set.listing self.now }
+        ensures formed { All IsFormed result.now }
+    {
+        self.items.as_slice()
+    }
+
+    /// Whether the formula is in the set, by binary search.
+    pub fn has(&self, f: &Formula) -> bool
+        ensures { result ≡ set.has self.now f.now }
+    {
+        finite::search(&self.items, f).is_ok()
+    }
+
+    /// Adds a formula, unless the set has it.
+    pub fn add(&mut self, f: Formula) -> Result<(), AllocError>
+        requires { IsFormed f }
+        ensures ok { OnOk result (self.new ≡ set.adds self.old f) }
+        ensures err { OnErr result (self.new ≡ self.old) }
+    {
+        finite::add(&mut self.items, f)
+    }
+
+    /// Whether each formula of this set is in the other.
+    pub fn subset(&self, other: &Formulas) -> bool
+        ensures { result ≡ set.subset self.now other.now }
+    {
+        finite::is_within(&self.items, &other.items)
+    }
+
+    /// The same set, whose formulas are shared.
+    pub fn copy(&self, alloc: Global) -> Result<Formulas, AllocError>
+        ensures { IfOk result (λ copy. copy ≡ self.now) }
+    {
+        let mut items = Vec::with_capacity(alloc, self.items.len())?;
+        for formula in &self.items {
+            items.push(formula.copy()?)?;
+        }
+        Ok(Formulas { items })
+    }
+}
+
+impl PartialEq for Formulas {
+    ghost eq = { same_formulas };
+
+    ghost laws = { partial_equiv_from_equiv same_formulas_equiv };
+
+    #[tactic(auto, using(crate::proofs::Listings::formulas_equality_same))]
+    fn eq(&self, other: &Formulas) -> bool
+        ensures value { result ≡ same_formulas self.now other.now }
+        ensures same { IsTrue result ↔ (self.now ≡ other.now) }
+    {
+        self.as_slice() == other.as_slice()
+    }
+}
+
+impl Eq for Formulas {
+    ghost laws = { same_formulas_equiv };
+}

@@ -1,0 +1,134 @@
+//! The check of one inference.
+ghost use Rattle.std.specs.Prelude.{◌≡◌, ◌↔◌, ◌≤◌, ◌||◌, IsOk, IsSome, option_copied};
+ghost use Rattle.std.specs.List.{list_any};
+ghost use Rattle.std.specs.Ordering.{eq_by_cmp};
+ghost use Rattle.fol.specs.Order.{formula_cmp};
+ghost use Rattle.lk_rules.specs.Rules.{IsFormedRule, needs, has_shape, main_stands, eigen_free, aux, fits_side, fits, verdict_of, Row};
+
+use crate::formulas::Formulas;
+use crate::rule::Rule;
+use crate::sequent::{Sequent, Side};
+use fol::Formula;
+
+/// What is wrong with an inference: the first fault in this order.
+#[derive(Clone, Copy, PartialEq, Eq, Debug)]
+pub enum RuleFault {
+    /// The rule has another number of premises.
+    Premises,
+    /// The main formula does not have the connective that the rule introduces.
+    Shape,
+    /// The main formula is missing from a side of the conclusion on which it must stand.
+    MainMissing,
+    /// The eigenvariable is free in the conclusion.
+    EigenFree,
+    /// The end sequent of this premise, counted from 0, is not a subsequent of the conclusion with the premise's auxiliary formulas.
+    Premise(u64),
+}
+
+/// Checks one inference: its rule, its conclusion, how many premises it has, and the end sequents of the first two of them. A rule
+/// with more than two premises doesn't exist, so those of further premises are not asked for. No memory is taken.
+pub fn check(
+    rule: &Rule,
+    end: &Sequent,
+    count: u64,
+    first: Option<&Sequent>,
+    second: Option<&Sequent>,
+) -> Result<(), RuleFault>
+    requires formed { IsFormedRule rule.now }
+    requires first_there { IsSome first ↔ (1 ≤ count) }
+    requires second_there { IsSome second ↔ (2 ≤ count) }
+    ensures verdict { result ≡ verdict_of rule.now end.now count (option_copied first.entry) (option_copied second.entry) }
+    ensures row { IsOk result ↔ Row rule.now end.now count (option_copied first.entry) (option_copied second.entry) }
+{
+    if count != premises_of(rule) {
+        return Err(RuleFault::Premises);
+    }
+    if !is_shaped(rule) {
+        return Err(RuleFault::Shape);
+    }
+    if !main_formula_stands(rule, end) {
+        return Err(RuleFault::MainMissing);
+    }
+    if eigenvariable_is_free(rule, end) {
+        return Err(RuleFault::EigenFree);
+    }
+    if !premise_fits(rule, end, 0, first) {
+        return Err(RuleFault::Premise(0));
+    }
+    if !premise_fits(rule, end, 1, second) {
+        return Err(RuleFault::Premise(1));
+    }
+    Ok(())
+}
+
+// How many premises the rule has.
+fn premises_of(rule: &Rule) -> u64
+    ensures { result ≡ needs rule.now }
+{
+    match rule {
+        Rule::Ax(_) => 0,
+        Rule::Weak => 1,
+    }
+}
+
+// Whether the main formula has the connective that the rule introduces.
+fn is_shaped(rule: &Rule) -> bool
+    ensures { result ≡ has_shape rule.now }
+{
+    match rule {
+        Rule::Ax(_) | Rule::Weak => true,
+    }
+}
+
+// Whether the main formula stands in the conclusion where the rule asks for it.
+fn main_formula_stands(rule: &Rule, end: &Sequent) -> bool
+    ensures { result ≡ main_stands rule.now end.now }
+{
+    match rule {
+        Rule::Ax(main) => end.left.has(main) && end.right.has(main),
+        Rule::Weak => true,
+    }
+}
+
+// Whether the rule has an eigenvariable that is free in the conclusion.
+fn eigenvariable_is_free(rule: &Rule, end: &Sequent) -> bool
+    ensures { result ≡ eigen_free rule.now end.now }
+{
+    match (rule, end) {
+        (Rule::Ax(_) | Rule::Weak, _) => false,
+    }
+}
+
+// Whether the formula is an auxiliary one of the premise on that side.
+fn is_auxiliary(rule: &Rule, premise: u64, side: Side, formula: &Formula) -> bool
+    ensures { result ≡ list_any (eq_by_cmp formula_cmp formula.now) (aux rule.now premise side) }
+{
+    match (rule, premise, side, formula) {
+        (Rule::Ax(_) | Rule::Weak, _, _, _) => false,
+    }
+}
+
+// Whether the end sequent of a premise, where there is one, fits the conclusion.
+fn premise_fits(rule: &Rule, end: &Sequent, premise: u64, sequent: Option<&Sequent>) -> bool
+    ensures { result ≡ fits rule.now end.now premise (option_copied sequent.entry) }
+{
+    match sequent {
+        None => true,
+        Some(sequent) => {
+            side_fits(rule, premise, Side::Left, &sequent.left, &end.left)
+                && side_fits(rule, premise, Side::Right, &sequent.right, &end.right)
+        }
+    }
+}
+
+// Whether each formula of a premise's side stands in the conclusion or is an auxiliary one.
+fn side_fits(rule: &Rule, premise: u64, side: Side, formulas: &Formulas, end: &Formulas) -> bool
+    ensures { result ≡ fits_side formulas.now end.now (aux rule.now premise side) }
+{
+    for formula in formulas.as_slice() {
+        if !end.has(formula) && !is_auxiliary(rule, premise, side, formula) {
+            return false;
+        }
+    }
+    true
+}

@@ -1,0 +1,19 @@
+//! The calculus LK: sequents, rules, and the check of one inference.
+//!
+//! A sequent is two finite sets of formulas. It says that where all formulas on its left side are true, one on its right side is.
+#![tactic(auto)]
+
+mod formulas;
+mod inference;
+mod numbers;
+mod rule;
+mod sequent;
+
+pub use formulas::Formulas;
+pub use inference::{RuleFault, check};
+pub use numbers::Numbers;
+pub use rule::{Rule, Step};
+pub use sequent::{Sequent, Side};
+
+#[cfg(test)]
+mod tests;

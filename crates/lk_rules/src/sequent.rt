@@ -1,0 +1,109 @@
+//! Sequents.
+ghost use Rattle.std.specs.Prelude.{◌≡◌, ◌↔◌, IsTrue, IfOk, OnOk, OnErr};
+ghost use Rattle.std.specs.List.{All};
+ghost use Rattle.std.specs.Cmp.{partial_equiv_from_equiv};
+ghost use Rattle.finite.specs.Finite as set;
+ghost use Rattle.fol.specs.Formed.{IsFormed};
+ghost use Rattle.lk_rules.specs.Sequents.{empty as empty_sequent, side_of, adds_to, is_subsequent, IsSubsequent, same_sequents, same_sequents_equiv};
+
+use crate::formulas::Formulas;
+use fol::Formula;
+use std::alloc::{AllocError, Global};
+
+/// The sides of a sequent: the antecedent is on the left, the succedent on the right.
+#[derive(Clone, Copy, PartialEq, Eq, Debug)]
+pub enum Side {
+    Left,
+    Right,
+}
+
+/// A sequent: two finite sets of well-formed formulas. It says that where all formulas on the left are true, one on the right is.
+#[derive(Drop, Debug)]
+pub struct Sequent {
+    pub left: Formulas,
+    pub right: Formulas,
+}
+
+impl Sequent {
+    /// The sequent with no formula, which is false.
+    pub fn empty(alloc: Global) -> Sequent
+        ensures { result ≡ empty_sequent }
+    {
+        Sequent {
+            left: Formulas::new(alloc),
+            right: Formulas::new(alloc),
+        }
+    }
+
+    /// Adds a formula to one side, unless it stands there.
+    pub fn add(&mut self, side: Side, f: Formula) -> Result<(), AllocError>
+        requires { IsFormed f }
+        ensures ok { OnOk result (self.new ≡ adds_to self.old side f) }
+        ensures err { OnErr result (self.new ≡ self.old) }
+    {
+        match side {
+            Side::Left => self.left.add(f),
+            Side::Right => self.right.add(f),
+        }
+    }
+
+    /// The formulas of the antecedent in rising order.
+    pub fn left(&self) -> &[Formula]
+        ensures listing { result.now ≡ set.listing self.now.left }
+        ensures formed { All IsFormed result.now }
+    {
+        self.left.as_slice()
+    }
+
+    /// The formulas of the succedent in rising order.
+    pub fn right(&self) -> &[Formula]
+        ensures listing { result.now ≡ set.listing self.now.right }
+        ensures formed { All IsFormed result.now }
+    {
+        self.right.as_slice()
+    }
+
+    /// Whether the formula stands on that side.
+    pub fn has(&self, side: Side, f: &Formula) -> bool
+        ensures { result ≡ set.has (side_of self.now side) f.now }
+    {
+        match side {
+            Side::Left => self.left.has(f),
+            Side::Right => self.right.has(f),
+        }
+    }
+
+    /// Whether this sequent is a subsequent of the other.
+    pub fn subset(&self, other: &Sequent) -> bool
+        ensures value { result ≡ is_subsequent self.now other.now }
+        ensures subsequent { IsTrue result ↔ IsSubsequent self.now other.now }
+    {
+        self.left.subset(&other.left) && self.right.subset(&other.right)
+    }
+
+    /// The same sequent, whose formulas are shared.
+    pub fn copy(&self, alloc: Global) -> Result<Sequent, AllocError>
+        ensures { IfOk result (λ copy. copy ≡ self.now) }
+    {
+        let left = self.left.copy(alloc)?;
+        let right = self.right.copy(alloc)?;
+        Ok(Sequent { left, right })
+    }
+}
+
+impl PartialEq for Sequent {
+    ghost eq = { same_sequents };
+
+    ghost laws = { partial_equiv_from_equiv same_sequents_equiv };
+
+    fn eq(&self, other: &Sequent) -> bool
+        ensures value { result ≡ same_sequents self.now other.now }
+        ensures same { IsTrue result ↔ (self.now ≡ other.now) }
+    {
+        self.left == other.left && self.right == other.right
+    }
+}
+
+impl Eq for Sequent {
+    ghost laws = { same_sequents_equiv };
+}
