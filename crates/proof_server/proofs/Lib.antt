@@ -1,0 +1,5 @@
+pub mod Turns
+pub mod ReplyLines
+pub mod Checks
+pub mod Midway
+pub mod Endings

@@ -1,0 +1,121 @@
+-- How far a session has come between two lines, and how one more line carries it on.
+use Rattle.std.proofs.Common.{◌≡◌, ℕ, ◌+◌, ◌<◌, ◌≤◌, ◌⊎◌, true, false, List, [], ◌∷◌, ◌++◌, length, refl, sym, ap, ◌∙◌, subst, inl, inr, arith, append_assoc, length-append}
+use Rattle.std.specs.Prelude.{Option}
+use Rattle.std.specs.Io.KnownBytes.{Consumes, Appends, IsAtEnd}
+use Rattle.std.proofs.KnownBytes.{Consumes-nil, Consumes-trans, Appends-nil, Appends-trans}
+use Rattle.std.proofs.lemmas.List.Elements.{filter-append}
+use Rattle.edge_io.specs.declared.next.Next.{Next}
+use Rattle.edge_io.specs.Causes.{Rose}
+use Rattle.edge_io.specs.Lines.{AreLines, lines_of}
+use Rattle.edge_io.specs.Reader.{Reader, allowance}
+use Rattle.edge_io.specs.Reading.{HandsOn, IsText}
+use Rattle.edge_io.proofs.LinesLemmas.{lines_nil, lines_more, lines_of_last}
+use Rattle.proof_server.specs.Jobs.{Past, in_order, is_job, jobs}
+use Rattle.proof_server.specs.Session.{out}
+use Rattle.proof_server.specs.Turn.{IsBehind, IsTaken}
+use Rattle.proof_server.specs.declared.session.Session.{Session}
+
+-- the bytes of the lines handed on are these lines: each with its newline, or all of an input that has ended
+abbrev pub Stands : Option (List ℕ) → Reader → List ℕ → List (List ℕ) → Type 0
+Stands now reader got lines = ((reader.at_end ≡ false) × AreLines got lines)
+    ⊎ ((reader.at_end ≡ true) × (lines_of got ≡ lines) × (reader.pending ≡ []) × IsAtEnd now)
+
+-- these bytes and lines have been handed on, of at most `limit` bytes
+pub record ReadSoFar (limit : ℕ) (before now : Option (List ℕ)) (reader : Reader) (got : List ℕ) (lines : List (List ℕ)) : Type 0 where
+  pub from : Consumes before now (got ++ reader.pending)
+  pub within : length got + allowance reader ≡ limit
+  pub stands : Stands now reader got lines
+
+-- the lines handed on have been answered, and nothing else was written
+pub record Midway (limit f f' k k' : ℕ) (before now : Option (List ℕ)) (reader : Reader) (old mid : Option (List ℕ)) (session : Session) : Type 0 where
+  pub got : List ℕ
+  pub lines : List (List ℕ)
+  pub done : List Past
+  pub read : ReadSoFar limit before now reader got lines
+  pub going : reader.ended ≡ false
+  pub asked : in_order done ≡ jobs lines
+  pub to : Appends old mid (out done)
+  pub behind : IsBehind session done
+  pub few : session.count + allowance reader ≤ limit
+  pub reads : f ≤ f'
+  pub writes : k ≤ k'
+
+-- the count still rose where it is compared with an earlier one
+pub Rose-since : (a b c : ℕ) → a ≤ b → Rose b c → Rose a c
+Rose-since a b c le (inl up) = inl (omega arith)
+Rose-since a b c le (inr most) = inr most
+
+pub jobs-append : (xs ys : List (List ℕ)) → jobs (xs ++ ys) ≡ jobs xs ++ jobs ys
+jobs-append xs ys = filter-append is_job xs ys
+
+pub start : (limit f k : ℕ) (before old : Option (List ℕ)) (reader : Reader) (session : Session)
+    → reader ≡ record { pending = []; room = limit; at_end = false; ended = false } → IsBehind session []
+    → Midway limit f f k k before before reader old old session
+start limit f k before old reader session fresh behind =
+    subst (λ (r : Reader). Midway limit f f k k before before r old old session) (sym fresh) (record {
+      got = [];
+      lines = [];
+      done = [];
+      read = record { from = Consumes-nil before; within = omega arith; stands = inl (refl, lines_nil) };
+      going = refl;
+      asked = refl;
+      to = Appends-nil old;
+      behind = behind;
+      few = let counted = behind.counted in omega arith;
+      reads = omega arith;
+      writes = omega arith;
+    })
+
+-- where the input hasn't ended, the bytes handed on are whole lines
+pub whole_so_far : {limit : ℕ} {before now : Option (List ℕ)} {reader : Reader} {got : List ℕ} {lines : List (List ℕ)}
+    → ReadSoFar limit before now reader got lines → reader.at_end ≡ false → AreLines got lines
+whole_so_far read fresh = elim read.stands [ inl w ↦ w.1 | inr w ↦ absurd (true_is_not_false (sym w.0 ∙ fresh)) ]
+  where
+    true_is_not_false : true ≡ false → ⊥
+    true_is_not_false h = cc
+
+-- the bytes of a line follow those of the lines before it
+hand_bytes : (got pending taken text left : List ℕ) → pending ++ taken ≡ text ++ left → (got ++ pending) ++ taken ≡ (got ++ text) ++ left
+hand_bytes got pending taken text left e =
+    append_assoc got pending taken ∙ ap (λ (x : List ℕ). got ++ x) e ∙ sym (append_assoc got text left)
+
+-- one more line is handed on
+pub hand : {limit max : ℕ} {before now later : Option (List ℕ)} {old new : Reader} {got : List ℕ} {lines : List (List ℕ)} {next : Next}
+    → ReadSoFar limit before now old got lines → (handed : HandsOn next max old new now later)
+    → ReadSoFar limit before later new (got ++ handed.text) (lines ++ handed.line ∷ [])
+hand {limit} {max} {before} {now} {later} {old} {new} {got} {lines} read handed = record {
+  from = subst (Consumes before later) (hand_bytes got old.pending handed.taken handed.text new.pending handed.bytes)
+      (Consumes-trans before now later (got ++ old.pending) handed.taken read.from handed.from);
+  within = let within = read.within in let more = handed.within in omega (arith, length-append got handed.text);
+  stands = let are = whole_so_far read handed.fresh in
+      elim handed.whole [
+        | inl w ↦ inl (w.0, subst (λ (x : List ℕ). AreLines (got ++ x) (lines ++ handed.line ∷ [])) (sym w.1) (lines_more got handed.line lines handed.one are))
+        | inr w ↦ inr (w.0, ap (λ (x : List ℕ). lines_of (got ++ x)) w.1 ∙ lines_of_last got handed.line lines are handed.one w.2, w.3, w.4)
+      ];
+}
+
+-- a line's bytes are some
+pub text_is_some : (text line : List ℕ) (new : Reader) (after : Option (List ℕ)) → IsText text line new after → 0 < length text
+text_is_some text line new after whole = elim whole [
+  | inl w ↦ omega (arith, ap length w.1, length-append line (10 ∷ []))
+  | inr w ↦ omega (arith, ap length w.1, w.2)
+]
+
+-- the line is answered
+pub go_on : {limit max f f' f'' k k' k'' : ℕ} {before now later old mid new : Option (List ℕ)} {reader reader' : Reader} {session session' : Session} {next : Next}
+    → (midway : Midway limit f f' k k' before now reader old mid session) → (handed : HandsOn next max reader reader' now later)
+    → IsTaken midway.done handed.line session session' mid new → f' ≤ f'' → k' ≤ k''
+    → Midway limit f f'' k k'' before later reader' old new session'
+go_on {later = later} {old = old} {mid = mid} {new = new} {reader = reader} {reader' = reader'} {session = session} {session' = session'} midway handed taken reads writes = record {
+  got = midway.got ++ handed.text;
+  lines = midway.lines ++ handed.line ∷ [];
+  done = taken.done;
+  read = hand midway.read handed;
+  going = handed.goes_on;
+  asked = taken.asked ∙ ap (λ (x : List (List ℕ)). x ++ jobs (handed.line ∷ [])) midway.asked ∙ sym (jobs-append midway.lines (handed.line ∷ []));
+  to = subst (Appends old new) (sym taken.bytes) (Appends-trans old mid new (out midway.done) taken.written midway.to taken.to);
+  behind = taken.behind;
+  few = let some = text_is_some handed.text handed.line reader' later handed.whole in let few = midway.few in let more = handed.within in let one = taken.few in omega arith;
+  reads = let so_far = midway.reads in omega arith;
+  writes = let so_far = midway.writes in omega arith;
+}

@@ -1,0 +1,9 @@
+-- What the session needs to know of a reply line: there is one.
+use Rattle.std.proofs.Common.{◌<◌, List, length}
+use Rattle.job_lang.proofs.Printed.{length-line_of}
+use Rattle.proof_server.specs.Jobs.{Past}
+use Rattle.proof_server.specs.Replying.{reply_of, reply_line}
+
+pub length-reply_line : (earlier : List Past) (job : Past) → 0 < length (reply_line earlier job)
+unfolding reply_line
+length-reply_line earlier job = length-line_of (reply_of earlier job)

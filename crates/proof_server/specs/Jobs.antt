@@ -1,0 +1,42 @@
+-- The jobs of a session: which lines are jobs, and what is known of a job that has been answered.
+use Rattle.std.specs.Prelude.{◌≡◌, ℕ, ◌==◌, ◌||◌, ◌<◌, ◌^◌, Bool, false, not, nat_lt, List, [], ◌∷◌, ◌++◌, length, filter, Option, Some, None}
+use Rattle.std.specs.List.{list_all}
+
+-- a longer line is never read as a job
+abbrev pub max_line : ℕ
+max_line = 16777216
+
+-- a session reads no more bytes
+abbrev pub max_input : ℕ
+max_input = 2 ^ 32
+
+-- a space, a tab or a carriage return
+abbrev pub is_blank : ℕ → Bool
+is_blank b = b == 32 || b == 9 || b == 13
+
+-- every line but one of blanks is a job; a line that is too long is one whatever it holds
+abbrev pub is_job : List ℕ → Bool
+is_job line = nat_lt max_line (length line) || not (list_all is_blank line)
+
+abbrev pub jobs : List (List ℕ) → List (List ℕ)
+jobs lines = filter is_job lines
+
+-- a job that has been answered: its line, and whether its reply was want of memory
+pub record Past : Type 0 where
+  pub line : List ℕ
+  pub lacked : Bool
+
+-- the lines of the jobs in the order in which they came: in a list of jobs the newest is first
+abbrev pub in_order : List Past → List (List ℕ)
+in_order [] = []
+in_order (job ∷ earlier) = in_order earlier ++ job.line ∷ []
+
+-- want of memory is the reply of no operation so far, so no job may have reported it
+abbrev pub IsLawful : List Past → Type 0
+IsLawful [] = Unit {0}
+IsLawful (job ∷ earlier) = (job.lacked ≡ false) × IsLawful earlier
+
+-- what a session keeps of a line that it read: its bytes, or of a too long one nothing
+abbrev pub IsKept : Option (List ℕ) → List ℕ → Type 0
+IsKept (Some bytes) line = (bytes ≡ line) × (nat_lt max_line (length line) ≡ false)
+IsKept None line = max_line < length line

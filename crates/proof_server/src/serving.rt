@@ -1,0 +1,64 @@
+ghost use Rattle.std.specs.Prelude.{◌≡◌, ◌+◌, ◌<◌, ◌≤◌, ◌^◌, List, ℕ, IfOk, length};
+ghost use Rattle.proof_server.specs.Ending.{Ends};
+ghost use Rattle.std.specs.Io.KnownBytes.{Keeps};
+ghost use Rattle.proof_server.specs.Jobs.{max_input};
+ghost use Rattle.proof_server.specs.Turn.{ended_of, Finishes};
+
+use crate::ending::Ended;
+use crate::session::{Session, Stop};
+use edge_io::{LineReader, Next, Sink, Source, next_line};
+use std::alloc::Global;
+
+const MAX_LINE: u64 = 16_777_216;
+
+const MAX_INPUT: u64 = 4_294_967_296;
+
+/// How a session ends that can't go on.
+fn ended_by(stop: Stop) -> Ended
+    ensures { result ≡ ended_of stop }
+{
+    match stop {
+        Stop::WriteFault => Ended::WriteFault,
+        Stop::Memory => Ended::Memory,
+    }
+}
+
+/// Flushes what was written, at the end of the reading.
+fn finish<K: Sink>(sink: &mut K, ended: Ended) -> Ended
+    ensures done { Finishes result ended (K.faults sink.old) (K.faults sink.new) (K.written sink.new) (K.flushed sink.new) }
+    ensures bytes { Keeps (K.written sink.old) (K.written sink.new) }
+    ensures kept { K.faults sink.old ≤ K.faults sink.new }
+{
+    match sink.flush() {
+        Ok(()) => ended,
+        Err(_) => Ended::WriteFault,
+    }
+}
+
+/// A whole session: every job of the source gets its reply on the sink, in order.
+pub fn serve<S: Source, K: Sink>(alloc: Global, source: &mut S, sink: &mut K) -> Ended
+    ensures ends { Ends result max_input (S.faults source.old) (S.faults source.new) (K.faults sink.old) (K.faults sink.new)
+        (S.left source.old) (S.left source.new) (K.written sink.old) (K.written sink.new) (K.flushed sink.new) }
+{
+    let mut reader = match LineReader::new(alloc, MAX_INPUT) {
+        Ok(reader) => reader,
+        Err(_) => return Ended::Memory,
+    };
+    let mut session = Session::new();
+    'lines: loop {
+        match next_line(&mut reader, source, MAX_LINE) {
+            Next::Line(line) => match session.take(alloc, sink, Some(line.as_slice())) {
+                Ok(()) => {}
+                Err(stop) => return ended_by(stop),
+            },
+            Next::TooLong => match session.take(alloc, sink, None) {
+                Ok(()) => {}
+                Err(stop) => return ended_by(stop),
+            },
+            Next::End => return finish(sink, Ended::Done(session.good)),
+            Next::ReadFault => return finish(sink, Ended::ReadFault),
+            Next::InputFull => return finish(sink, Ended::InputFull),
+            Next::Memory => return Ended::Memory,
+        }
+    }
+}

@@ -1,0 +1,100 @@
+ghost use Rattle.std.specs.Prelude.{◌≡◌, ◌+◌, ◌<◌, ◌≤◌, ◌^◌, List, [], ℕ, IfOk, length, IsTrue};
+ghost use Rattle.std.specs.List.{list_all};
+ghost use Rattle.std.specs.Option.{option_copied};
+ghost use Rattle.proof_server.specs.Jobs.{Past, IsKept, is_blank as is_blank_of, is_job};
+ghost use Rattle.proof_server.specs.Turn.{IsBehind, Takes};
+
+use crate::reply::reply_to;
+use edge_io::{Sink, write_whole};
+use std::alloc::Global;
+
+/// Where a session stands: how many jobs it has answered, and whether no reply was an error.
+#[derive(Debug, Drop)]
+pub struct Session {
+    pub count: u64,
+    pub good: bool,
+}
+
+/// Why a session can't go on.
+#[derive(Clone, Copy, Debug, PartialEq, Eq)]
+pub enum Stop {
+    WriteFault,
+    Memory,
+}
+
+fn is_blank(b: u8) -> bool
+    ensures { result ≡ is_blank_of b }
+{
+    b == b' ' || b == b'\t' || b == b'\r'
+}
+
+/// Whether the line holds blanks alone, and so is no job.
+fn is_empty_line(line: &[u8]) -> bool
+    ensures { result ≡ list_all is_blank_of line.now }
+{
+    line.iter().all(|b| is_blank(*b))
+}
+
+impl Session {
+    pub fn new() -> Session
+        ensures { IsBehind result [] }
+    {
+        Session {
+            count: 0,
+            good: true,
+        }
+    }
+
+    /// Answers a line, `None` for one that is too long: a job gets its reply, and an empty line has all replies
+    /// so far flushed.
+    pub fn take<K: Sink>(
+        &mut self,
+        alloc: Global,
+        sink: &mut K,
+        line: Option<&[u8]>,
+    ) -> Result<(), Stop>
+        requires { self.old.count + 1 < 2 ^ 64 }
+        ensures takes { (earlier : List Past) (text : List ℕ) → IsBehind self.old earlier
+            → IsKept (option_copied line.entry) text
+            → Takes result earlier text self.old self.new (K.faults sink.old) (K.faults sink.new)
+            (K.written sink.old) (K.written sink.new) }
+        ensures faults { K.faults sink.old ≤ K.faults sink.new }
+    {
+        if let Some(bytes) = line {
+            if is_empty_line(bytes) {
+                return match sink.flush() {
+                    Ok(()) => Ok(()),
+                    Err(_) => Err(Stop::WriteFault),
+                };
+            }
+        }
+        self.answer(alloc, sink, line)
+    }
+
+    fn answer<K: Sink>(
+        &mut self,
+        alloc: Global,
+        sink: &mut K,
+        line: Option<&[u8]>,
+    ) -> Result<(), Stop>
+        requires { self.old.count + 1 < 2 ^ 64 }
+        ensures takes { (earlier : List Past) (text : List ℕ) → IsBehind self.old earlier
+            → IsKept (option_copied line.entry) text
+            → IsTrue (is_job text)
+            → Takes result earlier text self.old self.new (K.faults sink.old) (K.faults sink.new)
+            (K.written sink.old) (K.written sink.new) }
+        ensures faults { K.faults sink.old ≤ K.faults sink.new }
+    {
+        let reply = match reply_to(alloc, self.count, line) {
+            Ok(reply) => reply,
+            Err(_) => return Err(Stop::Memory),
+        };
+        match write_whole(sink, &reply.bytes) {
+            Ok(()) => {}
+            Err(_) => return Err(Stop::WriteFault),
+        }
+        self.count += 1;
+        self.good = self.good && reply.is_ok;
+        Ok(())
+    }
+}
