@@ -12,3 +12,6 @@ mod session;
 pub use command::top;
 pub use ending::Ended;
 pub use gates::{Gate, NoGate};
+
+#[cfg(test)]
+mod tests;

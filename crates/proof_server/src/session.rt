@@ -1,4 +1,4 @@
-ghost use Rattle.std.specs.Prelude.{◌≡◌, ◌+◌, ◌<◌, ◌≤◌, ◌^◌, List, [], ℕ, IfOk, length, IsTrue};
+ghost use Rattle.std.specs.Prelude.{◌≡◌, ◌+◌, ◌<◌, ◌≤◌, ◌^◌, List, [], ℕ, IfOk, OnOk, length, IsTrue, false};
 ghost use Rattle.std.specs.List.{list_all};
 ghost use Rattle.std.specs.Option.{option_copied};
 ghost use Rattle.proof_server.specs.Jobs.{Past, IsKept, is_blank as is_blank_of, is_job};
@@ -58,6 +58,8 @@ impl Session {
             → IsKept (option_copied line.entry) text
             → Takes result earlier text self.old self.new (K.faults sink.old) (K.faults sink.new)
             (K.written sink.old) (K.written sink.new) }
+        ensures flushed { (text : List ℕ) → IsKept (option_copied line.entry) text → is_job text ≡ false
+            → OnOk result (K.flushed sink.new ≡ K.written sink.new) }
         ensures faults { K.faults sink.old ≤ K.faults sink.new }
     {
         if let Some(bytes) = line {
