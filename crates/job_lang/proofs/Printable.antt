@@ -3,6 +3,7 @@ use Rattle.std.proofs.Common.{◌≡◌, ℕ, ◌<◌, zero, suc, true, ◌&&◌
 use Rattle.std.specs.Prelude.{nat_lt, nat_le}
 use Rattle.std.specs.List.{list_all}
 use Rattle.std.specs.Str.{IsAscii, IsUtf8}
+use Rattle.std.proofs.lemmas.Bool.{and_parts, and_from}
 use Rattle.std.proofs.lemmas.Bool.Decides.{nat_tests}
 use Rattle.std.proofs.lemmas.Str.{IsUtf8-from_ascii}
 use Rattle.std.proofs.lemmas.Str.Ascii.{IsAscii-nil}
@@ -10,7 +11,6 @@ use Rattle.fol.specs.Syntax.{Formula, atom, top, bot, not, and, or, imp, all, ex
 use Rattle.fol.specs.Formed.{is_printable, is_name, IsFormed, count_terms, are_formed_terms_at}
 use Rattle.job_lang.specs.Names.{is_name_byte, is_job_name}
 use Rattle.job_lang.specs.Replies.{formula_text}
-use Rattle.job_lang.proofs.Words.{both, first_of_both, second_of_both}
 
 printable_is_ascii : (b : ℕ) → is_printable b ≡ true → b < 128
 printable_is_ascii b h = grind (arith, nat_tests)
@@ -22,8 +22,8 @@ ascii_more b bs first rest (suc i) = rest i
 pub ascii_of_printable : (text : List ℕ) → list_all is_printable text ≡ true → IsAscii text
 ascii_of_printable [] h = IsAscii-nil
 ascii_of_printable (b ∷ bs) h =
-    ascii_more b bs (printable_is_ascii b (first_of_both (is_printable b) (list_all is_printable bs) h))
-    (ascii_of_printable bs (second_of_both (is_printable b) (list_all is_printable bs) h))
+    let parts = and_parts (is_printable b) (list_all is_printable bs) h in
+    ascii_more b bs (printable_is_ascii b parts.0) (ascii_of_printable bs parts.1)
 
 pub utf8_of_printable : (text : List ℕ) → list_all is_printable text ≡ true → IsUtf8 text
 utf8_of_printable text h = IsUtf8-from_ascii text (ascii_of_printable text h)
@@ -34,19 +34,20 @@ name_byte_is_printable b h = grind (arith, nat_tests)
 name_bytes_are_printable : (bs : List ℕ) → list_all is_name_byte bs ≡ true → list_all is_printable bs ≡ true
 name_bytes_are_printable [] h = refl
 name_bytes_are_printable (b ∷ bs) h =
-    both (is_printable b) (list_all is_printable bs) (name_byte_is_printable b (first_of_both (is_name_byte b) (list_all is_name_byte bs) h))
-    (name_bytes_are_printable bs (second_of_both (is_name_byte b) (list_all is_name_byte bs) h))
+    let parts = and_parts (is_name_byte b) (list_all is_name_byte bs) h in
+    and_from (is_printable b) (list_all is_printable bs) (name_byte_is_printable b parts.0) (name_bytes_are_printable bs parts.1)
 
 -- a job's name is printable
 pub job_name_is_printable : (text : List ℕ) → is_job_name text ≡ true → list_all is_printable text ≡ true
 job_name_is_printable text h =
-    name_bytes_are_printable text (second_of_both (nat_lt 0 (length text) && nat_le (length text) 64) (list_all is_name_byte text) h)
+    name_bytes_are_printable text (and_parts (nat_lt 0 (length text) && nat_le (length text) 64) (list_all is_name_byte text) h).1
 
 -- what is printed of a well-formed formula is printable
 pub formula_text_is_printable : (f : Formula) → IsFormed f → list_all is_printable (formula_text f) ≡ true
 formula_text_is_printable (atom s ts) h =
-    second_of_both (nat_lt 0 (length s.name)) (list_all is_printable s.name)
-    (first_of_both (is_name s.name) (eqb (count_terms ts) s.arity) (first_of_both (is_name s.name && eqb (count_terms ts) s.arity) (are_formed_terms_at 0 ts) h))
+    let symbol = (and_parts (is_name s.name && eqb (count_terms ts) s.arity) (are_formed_terms_at 0 ts) h).0 in
+    let name = (and_parts (is_name s.name) (eqb (count_terms ts) s.arity) symbol).0 in
+    (and_parts (nat_lt 0 (length s.name)) (list_all is_printable s.name) name).1
 formula_text_is_printable top h = refl
 formula_text_is_printable bot h = refl
 formula_text_is_printable (not f) h = refl

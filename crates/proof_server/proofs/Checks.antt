@@ -2,6 +2,7 @@
 use Rattle.std.proofs.Common.{◌≡◌, ℕ, ◌+◌, ◌<◌, ◌≤◌, zero, suc, Bool, true, false, ◌&&◌, List, [], ◌∷◌, ◌++◌, length, get_or, drop, Bor, refl, sym, ap, ◌∙◌, subst, inl, inr, arith, add-one, drop-cons}
 use Rattle.std.specs.Prelude.{Option, Some, None, IsSome, option_copied, option_map, slice_get, nat_lt}
 use Rattle.std.specs.List.{list_all}
+use Rattle.std.proofs.lemmas.Bool.{and_parts}
 use Rattle.std.proofs.lemmas.Bool.Decides.{nat_tests}
 use Rattle.std.proofs.lemmas.List.{drop_all}
 use Rattle.std.proofs.lemmas.Option.{slice_get_cases}
@@ -9,14 +10,6 @@ use Rattle.lk_rules.specs.declared.sequent.Sequent.{Sequent}
 use Rattle.lk_rules.specs.declared.rule.Step.{Step}
 use Rattle.job_lang.specs.declared.replies.StepShown.{StepShown}
 use Rattle.proof_server.specs.Checking.{premise_end, fault_of, fault_from, or_later, last_end}
-
-first_holds : (a b : Bool) → (a && b) ≡ true → a ≡ true
-first_holds true b h = refl
-first_holds false b h = h
-
-second_holds : (a b : Bool) → (a && b) ≡ true → b ≡ true
-second_holds true b h = h
-second_holds false b h = cc
 
 below_by_test : (p i : ℕ) → nat_lt p i ≡ true → p < i
 below_by_test p i h = grind (arith, nat_tests)
@@ -32,10 +25,10 @@ premise_there : (steps : List Step) (i : ℕ) → i ≤ length steps → (premis
     → (IsSome (premise_end steps premises k) → k < length premises) × (k < length premises → IsSome (premise_end steps premises k))
 premise_there steps i within [] k earlier = (λ h. cc, λ h. absurd (omega arith))
 premise_there steps i within (p ∷ ps) zero earlier =
-    let below = below_by_test p i (first_holds (nat_lt p i) (list_all (λ q. nat_lt q i) ps) earlier) in
+    let below = below_by_test p i (and_parts (nat_lt p i) (list_all (λ q. nat_lt q i) ps) earlier).0 in
     (λ h. omega arith, λ h. end_there steps p (omega arith))
 premise_there steps i within (p ∷ ps) (suc k) earlier =
-    let rest = premise_there steps i within ps k (second_holds (nat_lt p i) (list_all (λ q. nat_lt q i) ps) earlier) in
+    let rest = premise_there steps i within ps k (and_parts (nat_lt p i) (list_all (λ q. nat_lt q i) ps) earlier).1 in
     (λ h. let more : k < length ps = rest.0 h in omega arith, λ h. let more : k < length ps = omega arith in rest.1 more)
 
 copied_there : (o : Option (Bor Sequent)) → (IsSome o → IsSome (option_copied o)) × (IsSome (option_copied o) → IsSome o)
