@@ -1,10 +1,10 @@
 -- Which step of a list is the first faulty one. A list with none is a proof of its last step's end sequent.
-use Rattle.std.specs.Prelude.{ℕ, ◌+◌, nat_lt, List, [], ◌∷◌, length, slice_get, Option, Some, None, option_and_then, option_map, Result, Ok, Err, if◌then◌else◌}
-use Rattle.std.specs.List.{list_all}
+use Rattle.std.specs.Prelude.{◌≡◌, ◌<◌, ℕ, ◌+◌, nat_lt, List, [], ◌∷◌, length, slice_get, Option, Some, None, option_and_then, option_map, Result, Ok, Err, if◌then◌else◌}
+use Rattle.std.specs.List.{All, list_all}
 use Rattle.lk_rules.specs.declared.sequent.Sequent.{Sequent}
 use Rattle.lk_rules.specs.declared.rule.Step.{Step}
 use Rattle.lk_rules.specs.declared.inference.RuleFault.{RuleFault}
-use Rattle.lk_rules.specs.Rules.{verdict_of}
+use Rattle.lk_rules.specs.Rules.{verdict_of, Row}
 use Rattle.lk_rules.specs.Sequents.{empty}
 use Rattle.job_lang.specs.declared.replies.StepShown.{StepShown}
 use Rattle.job_lang.specs.declared.replies.StepShown.TheVariants.{Reference, Rule}
@@ -42,3 +42,19 @@ abbrev pub last_end : List Step → Sequent
 last_end [] = empty
 last_end (step ∷ []) = step.end
 last_end (step ∷ next ∷ rest) = last_end (next ∷ rest)
+
+-- the step at place i is right: its premises are earlier steps, and it follows its rule over their end sequents
+pub record IsRight (steps : List Step) (i : ℕ) (step : Step) : Type 0 where
+  pub earlier : All (λ p. p < i) step.premises
+  pub row : Row step.rule step.end (length step.premises) (premise_end steps step.premises 0) (premise_end steps step.premises 1)
+
+-- each step is right
+abbrev pub IsProof : List Step → Type 0
+IsProof steps = (i : ℕ) (step : Step) → slice_get steps i ≡ Some step → IsRight steps i step
+
+-- the first step that isn't right is at place i, and this is its first fault
+pub record IsFirstFault (steps : List Step) (i : ℕ) (cause : StepShown) : Type 0 where
+  pub before : (j : ℕ) (step : Step) → j < i → slice_get steps j ≡ Some step → IsRight steps j step
+  pub step : Step
+  pub there : slice_get steps i ≡ Some step
+  pub fault : fault_of steps i step ≡ Some cause

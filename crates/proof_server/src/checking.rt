@@ -1,8 +1,8 @@
 //! The check of a list of steps.
-ghost use Rattle.std.specs.Prelude.{◌≡◌, ◌<◌, ◌↔◌, IsSome, IfSome, IfNone, nat_lt, length, slice_get, option_copied};
+ghost use Rattle.std.specs.Prelude.{◌≡◌, ◌<◌, ◌↔◌, IsNone, IfSome, nat_lt, length, slice_get, option_copied};
 ghost use Rattle.std.specs.List.{list_all, All};
 ghost use Rattle.lk_rules.specs.Rules.{IsFormedRule};
-ghost use Rattle.proof_server.specs.Checking.{premise_end as end_of_premise, fault_of as step_fault, fault_from, first_fault as first_step_fault};
+ghost use Rattle.proof_server.specs.Checking.{premise_end as end_of_premise, fault_of as step_fault, fault_from, first_fault as first_step_fault, IsProof, IsFirstFault};
 
 use job_lang::StepShown;
 use lk_rules::{Sequent, Step, check};
@@ -45,8 +45,8 @@ fn fault_of(steps: &[Step], place: usize, step: &Step) -> Option<StepShown>
     }
 }
 
-/// The first faulty step, with its first fault.
-pub fn first_fault(steps: &[Step]) -> Option<(u64, StepShown)>
+// The first faulty step, by a walk over the steps.
+fn find_fault(steps: &[Step]) -> Option<(u64, StepShown)>
     requires { All (λ s. IsFormedRule s.rule) steps.now }
     ensures { result ≡ first_step_fault steps.now }
 {
@@ -56,4 +56,14 @@ pub fn first_fault(steps: &[Step]) -> Option<(u64, StepShown)>
         }
     }
     None
+}
+
+/// The first faulty step, with its first fault. Where there is none, the list is a proof of its last step's end sequent.
+pub fn first_fault(steps: &[Step]) -> Option<(u64, StepShown)>
+    requires { All (λ s. IsFormedRule s.rule) steps.now }
+    ensures value { result ≡ first_step_fault steps.now }
+    ensures proof { IsNone result ↔ IsProof steps.now }
+    ensures first { IfSome result (λ found. IsFirstFault steps.now found.0 found.1) }
+{
+    find_fault(steps)
 }
