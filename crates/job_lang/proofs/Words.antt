@@ -1,5 +1,5 @@
 -- A lower-case word is a name of a symbol.
-use Rattle.std.proofs.Common.{◌≡◌, ℕ, Bool, true, false, ◌&&◌, ◌||◌, eqb, List, [], ◌∷◌, refl, ap, ◌∙◌, arith}
+use Rattle.std.proofs.Common.{◌≡◌, ℕ, true, ◌&&◌, ◌||◌, eqb, List, [], ◌∷◌, refl, arith}
 use Rattle.std.specs.Prelude.{nat_lt, length}
 use Rattle.std.specs.List.{list_all}
 use Rattle.std.specs.Char.{is_ascii_lowercase, is_ascii_alphanumeric}
@@ -26,7 +26,7 @@ lower_word_is_name [] h = cc
 lower_word_is_name (b ∷ bs) h =
     let parts = and_parts (is_ascii_lowercase b) (list_all (λ c. is_ascii_alphanumeric c || eqb c 95) bs) h in
     and_from (nat_lt 0 (length (b ∷ bs))) (list_all is_printable (b ∷ bs)) some
-      (and_from (is_printable b) (list_all is_printable bs) (printable_first b parts.0) (printable_words bs parts.1))
+    (and_from (is_printable b) (list_all is_printable bs) (printable_first b parts.0) (printable_words bs parts.1))
   where
     some : nat_lt 0 (length (b ∷ bs)) ≡ true
     some = grind (arith, nat_tests)

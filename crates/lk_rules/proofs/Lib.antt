@@ -1,3 +1,5 @@
 pub mod Listings
 pub mod Subsequents
 pub mod Rows
+pub mod RuleTies
+pub mod SequentVariables

@@ -1,15 +1,16 @@
 -- The lists that show sets of well-formed formulas.
 use Rattle.std.proofs.Common.{◌≡◌, ◌↔◌, IsTrue, Bool, true, List, Result, Ok, Err, OnOk, OnErr, refl, sym, ap, subst, ◌∙◌}
 use Rattle.std.specs.declared.cmp.Ordering.TheVariants.{Equal}
-use Rattle.std.specs.List.{list_all}
+use Rattle.std.specs.List.{list_all, list_any}
 use Rattle.std.specs.Ordering.{eq_by_cmp}
+use Rattle.std.proofs.lemmas.Cmp.{eq_by_cmp_equiv}
 use lib.Pointwise.{pointwise_decides}
 use Rattle.fol.specs.Syntax.{Formula}
 use Rattle.fol.specs.Order.{formula_cmp}
 use Rattle.fol.specs.OrderLaws.{formula_total}
 use Rattle.fol.proofs.OrderTies.{formula_ties, formula_equality_same}
 use Rattle.finite.specs.Finite as set
-use Rattle.finite.proofs.Finite.{listing-of_rising, of_rising-listing, all-adds}
+use Rattle.finite.proofs.Finite.{has-listing, listing-of_rising, of_rising-listing, all-adds}
 use Rattle.fol.specs.Formed.{is_formed, IsFormed}
 use Rattle.lk_rules.specs.Formulas.{FormulaSet, IsListing, same_formulas}
 
@@ -36,3 +37,11 @@ pub formulas_equality_same : (s t : FormulaSet) (r : Bool) → r ≡ same_formul
 formulas_equality_same s t r e =
     let lists = pointwise_decides formula_decides (set.listing s) (set.listing t) in
     (λ yes. sym (of_rising-listing s) ∙ ap set.of_rising (lists.0 (sym e ∙ yes)) ∙ of_rising-listing t, λ same. e ∙ lists.1 (ap set.listing same))
+
+-- a set has the formulas of its list
+pub has_listed : (s : FormulaSet) (q : Formula) → set.has s q ≡ list_any (eq_by_cmp formula_cmp q) (set.listing s)
+has_listed s q = has-listing s q
+
+-- the test of equality does not mind the order of the two
+pub equal_either_way : (f g : Formula) → eq_by_cmp formula_cmp f g ≡ eq_by_cmp formula_cmp g f
+equal_either_way f g = (eq_by_cmp_equiv formula_total).symm f g

@@ -1,3 +1,4 @@
 pub mod Formulas
 pub mod Sequents
 pub mod Rules
+pub mod RuleOrder

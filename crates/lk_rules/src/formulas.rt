@@ -1,14 +1,20 @@
 //! Finite sets of well-formed formulas.
-ghost use Rattle.std.specs.Prelude.{◌≡◌, ◌↔◌, IsTrue, IfOk, OnOk, OnErr};
-ghost use Rattle.std.specs.List.{All};
+ghost use Rattle.std.specs.Prelude.{◌≡◌, ◌↔◌, ◌++◌, IsTrue, IfOk, OnOk, OnErr};
+ghost use Rattle.std.specs.List.{All, list_any};
 ghost use Rattle.std.specs.Cmp.{partial_equiv_from_equiv};
 ghost use Rattle.finite.specs.Finite as set;
-ghost use Rattle.lk_rules.specs.Formulas.{same_formulas, same_formulas_equiv};
+ghost use Rattle.std.specs.FinMap as fin;
+ghost use Rattle.free_variables.specs.Union.{union_of};
+ghost use Rattle.substitution.specs.Image.{IsFormedMap};
+ghost use Rattle.lk_rules.specs.Formulas.{same_formulas, same_formulas_equiv, image_set, var_lists};
 ghost use Rattle.fol.specs.Formed.{IsFormed};
+ghost use Rattle.free_variables.specs.Occurrence.{is_free_in};
 
-use fol::Formula;
+use fol::{Formula, Var};
+use free_variables::{occurs_free, push_free_vars};
 use std::alloc::{AllocError, Global};
 use std::marker::Model;
+use substitution::{Subst, apply};
 
 /// A finite set of well-formed formulas, kept in rising order.
 #[derive(Drop, Debug)]
@@ -70,6 +76,48 @@ impl Formulas {
         ensures { result ≡ set.subset self.now other.now }
     {
         finite::is_within(&self.items, &other.items)
+    }
+
+    /// Whether the variable is free in a formula of the set.
+    pub fn has_free(&self, var: &Var) -> bool
+        ensures { result ≡ list_any (is_free_in var.now) (set.listing self.now) }
+    {
+        self.as_slice()
+            .iter()
+            .any(|formula| occurs_free(var, formula))
+    }
+
+    /// The formulas of both sets.
+    pub fn union(&self, alloc: Global, other: &Formulas) -> Result<Formulas, AllocError>
+        ensures { IfOk result (λ union. union ≡ union_of self.now other.now) }
+    {
+        let mut union = self.copy(alloc)?;
+        for formula in other.as_slice() {
+            union.add(formula.copy()?)?;
+        }
+        Ok(union)
+    }
+
+    /// The images of the formulas under a map whose terms are well formed. Formulas that fall together become one.
+    pub fn image(&self, alloc: Global, map: &Subst) -> Result<Formulas, AllocError>
+        requires { IsFormedMap (fin.get map.now) }
+        ensures { IfOk result (λ image. image ≡ image_set (fin.get map.now) self.now) }
+    {
+        let mut image = Formulas::new(alloc);
+        for formula in self.as_slice() {
+            image.add(apply(alloc, map, formula)?)?;
+        }
+        Ok(image)
+    }
+
+    /// Appends the free variables of the formulas, one for each occurrence. After an error some of them may stand there.
+    pub fn push_free_vars(&self, list: &mut Vec<Var>) -> Result<(), AllocError>
+        ensures { IfOk result (λ _. list.new.items ≡ list.old.items ++ var_lists (set.listing self.now)) }
+    {
+        for formula in self.as_slice() {
+            push_free_vars(list, formula)?;
+        }
+        Ok(())
     }
 
     /// The same set, whose formulas are shared.

@@ -2,13 +2,17 @@
 ghost use Rattle.std.specs.Prelude.{◌≡◌, ◌↔◌, ◌≤◌, ◌||◌, IsOk, IsSome, option_copied};
 ghost use Rattle.std.specs.List.{list_any};
 ghost use Rattle.std.specs.Ordering.{eq_by_cmp};
+ghost use Rattle.fol.specs.Syntax.{top, bot};
 ghost use Rattle.fol.specs.Order.{formula_cmp};
+ghost use Rattle.finite.specs.Finite as set;
 ghost use Rattle.lk_rules.specs.Rules.{IsFormedRule, needs, has_shape, main_stands, eigen_free, aux, fits_side, fits, verdict_of, Row};
 
 use crate::formulas::Formulas;
 use crate::rule::Rule;
 use crate::sequent::{Sequent, Side};
-use fol::Formula;
+use crate::variable_instances::is_variable_instance;
+use fol::{Formula, FormulaNode};
+use substitution::is_instance;
 
 /// What is wrong with an inference: the first fault in this order.
 #[derive(Clone, Copy, PartialEq, Eq, Debug)]
@@ -66,50 +70,151 @@ fn premises_of(rule: &Rule) -> u64
     ensures { result ≡ needs rule.now }
 {
     match rule {
-        Rule::Ax(_) => 0,
-        Rule::Weak => 1,
+        Rule::Ax(_) | Rule::TopR | Rule::BotL => 0,
+        Rule::NegL(_)
+        | Rule::NegR(_)
+        | Rule::AndL(_)
+        | Rule::OrR(_)
+        | Rule::ImpR(_)
+        | Rule::AllL(..)
+        | Rule::AllR(..)
+        | Rule::ExL(..)
+        | Rule::ExR(..)
+        | Rule::Weak => 1,
+        Rule::AndR(_) | Rule::OrL(_) | Rule::ImpL(_) | Rule::Cut(_) => 2,
     }
 }
 
-// Whether the main formula has the connective that the rule introduces.
+// Whether the main formula has the connective or the quantifier that the rule introduces.
 fn is_shaped(rule: &Rule) -> bool
     ensures { result ≡ has_shape rule.now }
 {
     match rule {
-        Rule::Ax(_) | Rule::Weak => true,
+        Rule::NegL(main) | Rule::NegR(main) => matches!(main.node(), FormulaNode::Not(_)),
+        Rule::AndL(main) | Rule::AndR(main) => matches!(main.node(), FormulaNode::And(..)),
+        Rule::OrL(main) | Rule::OrR(main) => matches!(main.node(), FormulaNode::Or(..)),
+        Rule::ImpL(main) | Rule::ImpR(main) => matches!(main.node(), FormulaNode::Imp(..)),
+        Rule::AllL(main, _) | Rule::AllR(main, _) => matches!(main.node(), FormulaNode::All(_)),
+        Rule::ExL(main, _) | Rule::ExR(main, _) => matches!(main.node(), FormulaNode::Ex(_)),
+        Rule::Ax(_) | Rule::TopR | Rule::BotL | Rule::Cut(_) | Rule::Weak => true,
     }
 }
 
 // Whether the main formula stands in the conclusion where the rule asks for it.
+#[tactic(auto, using(crate::proofs::Listings::has_listed))]
 fn main_formula_stands(rule: &Rule, end: &Sequent) -> bool
     ensures { result ≡ main_stands rule.now end.now }
 {
     match rule {
         Rule::Ax(main) => end.left.has(main) && end.right.has(main),
-        Rule::Weak => true,
+        Rule::TopR => has_top(&end.right),
+        Rule::BotL => has_bot(&end.left),
+        Rule::NegL(main)
+        | Rule::AndL(main)
+        | Rule::OrL(main)
+        | Rule::ImpL(main)
+        | Rule::AllL(main, _)
+        | Rule::ExL(main, _) => end.left.has(main),
+        Rule::NegR(main)
+        | Rule::AndR(main)
+        | Rule::OrR(main)
+        | Rule::ImpR(main)
+        | Rule::AllR(main, _)
+        | Rule::ExR(main, _) => end.right.has(main),
+        Rule::Cut(_) | Rule::Weak => true,
     }
+}
+
+// Whether truth is in the set. Unlike `has` it needs no formula to look for, and so no memory.
+fn has_top(formulas: &Formulas) -> bool
+    ensures { result ≡ list_any (eq_by_cmp formula_cmp top) (set.listing formulas.now) }
+{
+    formulas.as_slice().iter().any(|formula| is_top(formula))
+}
+
+// Whether falsity is in the set.
+fn has_bot(formulas: &Formulas) -> bool
+    ensures { result ≡ list_any (eq_by_cmp formula_cmp bot) (set.listing formulas.now) }
+{
+    formulas.as_slice().iter().any(|formula| is_bot(formula))
+}
+
+fn is_top(formula: &Formula) -> bool
+    ensures { result ≡ eq_by_cmp formula_cmp top formula.now }
+{
+    matches!(formula.node(), FormulaNode::Top)
+}
+
+fn is_bot(formula: &Formula) -> bool
+    ensures { result ≡ eq_by_cmp formula_cmp bot formula.now }
+{
+    matches!(formula.node(), FormulaNode::Bot)
 }
 
 // Whether the rule has an eigenvariable that is free in the conclusion.
 fn eigenvariable_is_free(rule: &Rule, end: &Sequent) -> bool
     ensures { result ≡ eigen_free rule.now end.now }
 {
-    match (rule, end) {
-        (Rule::Ax(_) | Rule::Weak, _) => false,
+    match rule {
+        Rule::AllR(_, variable) | Rule::ExL(_, variable) => end.has_free(variable),
+        _ => false,
     }
 }
 
 // Whether the formula is an auxiliary one of the premise on that side.
+#[tactic(auto, using(crate::proofs::Listings::equal_either_way))]
 fn is_auxiliary(rule: &Rule, premise: u64, side: Side, formula: &Formula) -> bool
+    requires { IsFormedRule rule.now }
     ensures { result ≡ list_any (eq_by_cmp formula_cmp formula.now) (aux rule.now premise side) }
 {
-    match (rule, premise, side, formula) {
-        (Rule::Ax(_) | Rule::Weak, _, _, _) => false,
+    match (rule, premise, side) {
+        (Rule::NegL(main), 0, Side::Right) | (Rule::NegR(main), 0, Side::Left) => {
+            matches!(main.node(), FormulaNode::Not(a) if formula == a)
+        }
+        (Rule::AndL(main), 0, Side::Left) => {
+            matches!(main.node(), FormulaNode::And(a, b) if formula == a || formula == b)
+        }
+        (Rule::AndR(main), 0, Side::Right) => {
+            matches!(main.node(), FormulaNode::And(a, _) if formula == a)
+        }
+        (Rule::AndR(main), 1, Side::Right) => {
+            matches!(main.node(), FormulaNode::And(_, b) if formula == b)
+        }
+        (Rule::OrL(main), 0, Side::Left) => {
+            matches!(main.node(), FormulaNode::Or(a, _) if formula == a)
+        }
+        (Rule::OrL(main), 1, Side::Left) => {
+            matches!(main.node(), FormulaNode::Or(_, b) if formula == b)
+        }
+        (Rule::OrR(main), 0, Side::Right) => {
+            matches!(main.node(), FormulaNode::Or(a, b) if formula == a || formula == b)
+        }
+        (Rule::ImpL(main), 0, Side::Right) | (Rule::ImpR(main), 0, Side::Left) => {
+            matches!(main.node(), FormulaNode::Imp(a, _) if formula == a)
+        }
+        (Rule::ImpL(main), 1, Side::Left) | (Rule::ImpR(main), 0, Side::Right) => {
+            matches!(main.node(), FormulaNode::Imp(_, b) if formula == b)
+        }
+        (Rule::AllL(main, term), 0, Side::Left) => {
+            matches!(main.node(), FormulaNode::All(body) if is_instance(body, term, formula))
+        }
+        (Rule::AllR(main, variable), 0, Side::Right) => {
+            matches!(main.node(), FormulaNode::All(body) if is_variable_instance(body, variable, formula))
+        }
+        (Rule::ExL(main, variable), 0, Side::Left) => {
+            matches!(main.node(), FormulaNode::Ex(body) if is_variable_instance(body, variable, formula))
+        }
+        (Rule::ExR(main, term), 0, Side::Right) => {
+            matches!(main.node(), FormulaNode::Ex(body) if is_instance(body, term, formula))
+        }
+        (Rule::Cut(main), 0, Side::Right) | (Rule::Cut(main), 1, Side::Left) => formula == main,
+        _ => false,
     }
 }
 
 // Whether the end sequent of a premise, where there is one, fits the conclusion.
 fn premise_fits(rule: &Rule, end: &Sequent, premise: u64, sequent: Option<&Sequent>) -> bool
+    requires { IsFormedRule rule.now }
     ensures { result ≡ fits rule.now end.now premise (option_copied sequent.entry) }
 {
     match sequent {
@@ -123,6 +228,7 @@ fn premise_fits(rule: &Rule, end: &Sequent, premise: u64, sequent: Option<&Seque
 
 // Whether each formula of a premise's side stands in the conclusion or is an auxiliary one.
 fn side_fits(rule: &Rule, premise: u64, side: Side, formulas: &Formulas, end: &Formulas) -> bool
+    requires { IsFormedRule rule.now }
     ensures { result ≡ fits_side formulas.now end.now (aux rule.now premise side) }
 {
     for formula in formulas.as_slice() {

@@ -1,15 +1,15 @@
 -- A step without a fault is right, and the walk over the steps finds the first that isn't.
-use Rattle.std.proofs.Common.{◌≡◌, ℕ, ◌+◌, ◌<◌, ◌≤◌, ◌↔◌, zero, suc, Bool, true, false, cond, List, [], ◌∷◌, length, refl, sym, ap, ◌∙◌, subst, arith}
+use Rattle.std.proofs.Common.{◌≡◌, ℕ, ◌+◌, ◌<◌, ◌↔◌, zero, suc, Bool, true, false, cond, List, [], ◌∷◌, length, refl, sym, ap, ◌∙◌, subst, arith}
 use Rattle.std.specs.Prelude.{Option, Some, None, IsNone, IfSome, IsOk, is_some, unwrap_or, option_map, slice_get, nat_lt, Result, Ok, Err}
-use Rattle.std.specs.List.{All, AllPass, list_all}
+use Rattle.std.specs.List.{list_all}
 use Rattle.std.proofs.lemmas.Bool.Decides.{nat_tests}
 use Rattle.std.proofs.lemmas.List.Sums.{AllPass-from_list_all, list_all-from_AllPass}
 use Rattle.lk_rules.specs.declared.rule.Step.{Step}
 use Rattle.lk_rules.specs.declared.inference.RuleFault.{RuleFault}
-use Rattle.lk_rules.specs.Rules.{verdict_of, Row}
+use Rattle.lk_rules.specs.Rules.{verdict_of}
 use Rattle.lk_rules.proofs.Rows.{row_of, row_back}
 use Rattle.job_lang.specs.declared.replies.StepShown.{StepShown}
-use Rattle.job_lang.specs.declared.replies.StepShown.TheVariants.{Reference, Rule}
+use Rattle.job_lang.specs.declared.replies.StepShown.TheVariants.{Reference}
 use Rattle.proof_server.specs.Checking.{premise_end, rule_fault, fault_of, or_later, fault_from, first_fault, IsRight, IsProof, IsFirstFault}
 
 ok_by_fault : (v : Result (Unit {0}) RuleFault) → rule_fault v ≡ None → IsOk v

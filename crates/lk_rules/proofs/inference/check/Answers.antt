@@ -15,3 +15,7 @@ returns-then-not-premise_fits-clause-row c =
 pub returns-clause-row : goal.returns-clause-row
 returns-clause-row c =
     row_checked c.args.rule.now c.args.end.now c.args.count (option_copied c.args.first) (option_copied c.args.second) (Ok tt) (search rules)
+
+pub returns-then-not-premise_fits-2-clause-row : goal.returns-then-not-premise_fits-2-clause-row
+returns-then-not-premise_fits-2-clause-row c =
+    row_checked c.args.rule.now c.args.end.now c.args.count (option_copied c.args.first) (option_copied c.args.second) (Err (Premise 1)) (search rules)

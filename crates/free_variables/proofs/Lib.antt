@@ -1,0 +1,4 @@
+pub mod RisingLists
+pub mod OccurrenceLaws
+pub mod FreshVariables
+pub mod FormedMembers

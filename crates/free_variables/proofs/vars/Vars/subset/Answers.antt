@@ -1,0 +1,8 @@
+-- The test of inclusion decides it.
+use Rattle.std.proofs.Common.{rules}
+use Rattle.fol.specs.OrderLaws.{var_total}
+use Rattle.free_variables.proofs.RisingLists.{subset_tested}
+use Rattle.free_variables.proofs.vars.Vars.subset.Goals as goal
+
+pub returns-clause-subset : goal.returns-clause-subset
+returns-clause-subset c = subset_tested var_total c.args.self.now c.args.other.now c.is_within.result (search rules)

@@ -1,0 +1,5 @@
+pub mod Sets
+pub mod Occurrence
+pub mod Grade
+pub mod Fresh
+pub mod Union

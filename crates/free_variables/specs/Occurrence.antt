@@ -1,0 +1,94 @@
+-- Which variables are free in a formula, and which predicate symbols stand in it.
+--     is_free_in, is_pred_in      whether one does
+--     var_list, pred_list      one for each occurrence, from the left
+--     vars_formula, preds_formula      a set with those of a formula added
+use Rattle.std.specs.Prelude.{Bool, false, ◌||◌, List, [], ◌∷◌, ◌++◌}
+use Rattle.std.specs.Ordering.{eq_by_cmp}
+use Rattle.fol.specs.declared.symbols.Sym.{Sym}
+use Rattle.fol.specs.declared.symbols.Var.{Var}
+use Rattle.fol.specs.Syntax.{Term, free, bound, app, Terms, nil, cons, Formula, atom, top, bot, not, and, or, imp, all, ex}
+use Rattle.fol.specs.Order.{var_cmp, sym_cmp}
+use Rattle.finite.specs.Finite as set
+use Rattle.free_variables.specs.Sets.{VarSet, SymSet}
+
+-- whether v stands in a term
+abbrev mutual
+  pub is_free_in_term : Var → Term → Bool
+  is_free_in_term v (free w) = eq_by_cmp var_cmp v w
+  is_free_in_term v (bound i) = false
+  is_free_in_term v (app s ts) = is_free_in_terms v ts
+
+  pub is_free_in_terms : Var → Terms → Bool
+  is_free_in_terms v nil = false
+  is_free_in_terms v (cons t ts) = is_free_in_term v t || is_free_in_terms v ts
+
+-- whether v is free in a formula
+abbrev pub is_free_in : Var → Formula → Bool
+is_free_in v (atom s ts) = is_free_in_terms v ts
+is_free_in v top = false
+is_free_in v bot = false
+is_free_in v (not f) = is_free_in v f
+is_free_in v (and f g) = is_free_in v f || is_free_in v g
+is_free_in v (or f g) = is_free_in v f || is_free_in v g
+is_free_in v (imp f g) = is_free_in v f || is_free_in v g
+is_free_in v (all f) = is_free_in v f
+is_free_in v (ex f) = is_free_in v f
+
+-- whether s is the predicate symbol of an atom of a formula
+abbrev pub is_pred_in : Sym → Formula → Bool
+is_pred_in s (atom r ts) = eq_by_cmp sym_cmp s r
+is_pred_in s top = false
+is_pred_in s bot = false
+is_pred_in s (not f) = is_pred_in s f
+is_pred_in s (and f g) = is_pred_in s f || is_pred_in s g
+is_pred_in s (or f g) = is_pred_in s f || is_pred_in s g
+is_pred_in s (imp f g) = is_pred_in s f || is_pred_in s g
+is_pred_in s (all f) = is_pred_in s f
+is_pred_in s (ex f) = is_pred_in s f
+
+-- the variables of a term, one for each occurrence
+abbrev mutual
+  pub var_list_term : Term → List Var
+  var_list_term (free v) = v ∷ []
+  var_list_term (bound i) = []
+  var_list_term (app s ts) = var_list_terms ts
+
+  pub var_list_terms : Terms → List Var
+  var_list_terms nil = []
+  var_list_terms (cons t ts) = var_list_term t ++ var_list_terms ts
+
+-- the free variables of a formula, one for each occurrence
+abbrev pub var_list : Formula → List Var
+var_list (atom s ts) = var_list_terms ts
+var_list top = []
+var_list bot = []
+var_list (not f) = var_list f
+var_list (and f g) = var_list f ++ var_list g
+var_list (or f g) = var_list f ++ var_list g
+var_list (imp f g) = var_list f ++ var_list g
+var_list (all f) = var_list f
+var_list (ex f) = var_list f
+
+-- the predicate symbols of a formula, one for each atom
+abbrev pub pred_list : Formula → List Sym
+pred_list (atom s ts) = s ∷ []
+pred_list top = []
+pred_list bot = []
+pred_list (not f) = pred_list f
+pred_list (and f g) = pred_list f ++ pred_list g
+pred_list (or f g) = pred_list f ++ pred_list g
+pred_list (imp f g) = pred_list f ++ pred_list g
+pred_list (all f) = pred_list f
+pred_list (ex f) = pred_list f
+
+-- a set with the variables of a term
+abbrev pub vars_term : Term → VarSet → VarSet
+vars_term t vs = set.adds_each vs (var_list_term t)
+
+-- a set with the free variables of a formula
+abbrev pub vars_formula : Formula → VarSet → VarSet
+vars_formula f vs = set.adds_each vs (var_list f)
+
+-- a set with the predicate symbols of a formula
+abbrev pub preds_formula : Formula → SymSet → SymSet
+preds_formula f ss = set.adds_each ss (pred_list f)

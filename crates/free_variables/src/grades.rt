@@ -1,0 +1,22 @@
+//! The grade of a formula.
+ghost use Rattle.std.specs.Prelude.{◌≡◌, ◌-◌, ◌^◌, min};
+ghost use Rattle.free_variables.specs.Grade.{grade_of};
+
+use fol::{Formula, FormulaNode};
+
+/// The number of connectives and quantifiers, at most `u64::MAX`.
+pub fn grade(formula: &Formula) -> u64
+    ensures { result ≡ min (grade_of formula.now) (2 ^ 64 - 1) }
+{
+    match formula.node() {
+        FormulaNode::Atom(..) | FormulaNode::Top | FormulaNode::Bot => 0,
+        FormulaNode::Not(body) | FormulaNode::All(body) | FormulaNode::Ex(body) => {
+            grade(body).saturating_add(1)
+        }
+        FormulaNode::And(first, second)
+        | FormulaNode::Or(first, second)
+        | FormulaNode::Imp(first, second) => {
+            grade(first).saturating_add(grade(second)).saturating_add(1)
+        }
+    }
+}

@@ -1,0 +1,12 @@
+pub mod Booleans
+pub mod Depth
+pub mod Ties
+pub mod InstanceFormed
+pub mod ImageFormed
+pub mod Places
+pub mod MapLaws
+pub mod ClosedLaws
+pub mod ImageLaws
+pub mod BindLaws
+pub mod FreeLaws
+pub mod ShapeLaws

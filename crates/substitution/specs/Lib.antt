@@ -1,0 +1,5 @@
+pub mod Closed
+pub mod Instance
+pub mod Image
+pub mod Sharing
+pub mod Maps

@@ -1,0 +1,18 @@
+//! Substitution in formulas: instances of quantified formulas, binding of a variable, and simultaneous replacement of free variables.
+#![tactic(auto)]
+
+mod binding;
+mod bindings;
+mod images;
+mod instances;
+pub mod laws;
+mod maps;
+mod sharing;
+
+pub use binding::bind;
+pub use images::{apply, apply_term};
+pub use instances::{instance, is_instance};
+pub use maps::Subst;
+
+#[cfg(test)]
+mod tests;
