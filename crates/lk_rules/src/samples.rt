@@ -10,7 +10,8 @@ fn symbol(alloc: Global, letter: u8, arity: u32) -> Result<Sym, AllocError> {
     Ok(Sym { name, arity })
 }
 
-fn variable(alloc: Global, letter: u8) -> Result<Var, AllocError> {
+/// The variable whose word is this letter as a capital.
+pub fn variable(alloc: Global, letter: u8) -> Result<Var, AllocError> {
     let word = Text::from_vec(alloc, vec![in alloc; letter.to_ascii_uppercase()]?)?;
     Ok(Var::Word(word))
 }
@@ -20,8 +21,8 @@ fn applied(alloc: Global, term: Term) -> Result<Term, AllocError> {
     Term::app(alloc, symbol(alloc, b'f', 1)?, argument)
 }
 
-// `x` and `y` are variables, `0` and `1` indices, `f` is the term f(Y), and another letter is a constant.
-fn term(alloc: Global, code: u8) -> Result<Term, AllocError> {
+/// A term by one byte: `x` and `y` are variables, `0` and `1` indices, `f` is the term f(Y), and another letter is a constant.
+pub fn term(alloc: Global, code: u8) -> Result<Term, AllocError> {
     match code {
         b'x' | b'y' => Term::free(alloc, variable(alloc, code)?),
         b'0' => Term::bound(alloc, 0),

@@ -1,10 +1,11 @@
 //! Inferences by each rule, right and with each fault, worked by hand. A text stands for a sequent, as `samples` says.
 use super::*;
-use crate::samples::{rule, sequent};
-use fol::Formula;
+use crate::samples::{rule, sequent, term, variable};
+use fol::{Formula, well_formed_term};
 use std::alloc::{AllocError, Global};
 use std::process::Abort;
 use std::test::Fail;
+use substitution::Subst;
 
 // What `check` answers, for as many premises as are not `-`.
 fn verdict<R: Abort>(
@@ -406,6 +407,34 @@ fn members_and_subsequents(rt: HostRuntime) -> Result<(), Fail> {
     assert!(rt; !both.subset(&left));
     assert!(rt; !both.subset(&right));
     assert!(rt; both == both.copy(alloc)?);
+    Ok(())
+}
+
+#[test]
+fn unions_and_free_variables(rt: HostRuntime) -> Result<(), Fail> {
+    let alloc = rt.alloc();
+    let first = sequent(&rt, alloc, "px/qA")?;
+    let second = sequent(&rt, alloc, "xr/B")?;
+    let both = sequent(&rt, alloc, "prx/qAB")?;
+    assert!(rt; first.union(alloc, &second)? == both);
+    let vars = both.free_vars(alloc)?;
+    assert_eq!(rt; vars.as_slice().len(), 2);
+    assert!(rt; both.has_free(&variable(alloc, b'x')?));
+    assert!(rt; !first.has_free(&variable(alloc, b'y')?));
+    Ok(())
+}
+
+// Two formulas that fall together become one.
+#[test]
+#[tactic(auto, using(substitution::proofs::ImageLaws::formed_insert, substitution::proofs::ImageLaws::formed_empty))]
+fn images(rt: HostRuntime) -> Result<(), Fail> {
+    let alloc = rt.alloc();
+    let replacement = term(alloc, b'a')?;
+    assert!(rt; well_formed_term(&replacement));
+    let mut map = Subst::new(alloc);
+    map.set(variable(alloc, b'y')?, replacement)?;
+    let image = sequent(&rt, alloc, "ayp/yA")?.image(alloc, &map)?;
+    assert!(rt; image == sequent(&rt, alloc, "ap/aA")?);
     Ok(())
 }
 
