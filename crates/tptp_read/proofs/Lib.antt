@@ -1,0 +1,9 @@
+pub mod Sound
+pub mod Complete
+pub mod Fronts
+pub mod Faults
+pub mod Depth
+pub mod Reading
+pub mod Whole
+pub mod Formed
+pub mod TextEnds

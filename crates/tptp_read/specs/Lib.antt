@@ -1,0 +1,5 @@
+pub mod Meaning
+pub mod Grammar
+pub mod Machine
+pub mod Texts
+pub mod Given

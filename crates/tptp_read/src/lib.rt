@@ -1,0 +1,20 @@
+//! Formulas and terms in TPTP syntax: the grammar, and a reader that goes token by token.
+#![tactic(auto)]
+
+mod endings;
+mod errors;
+mod machine;
+mod pieces;
+mod reader;
+mod state;
+mod terms;
+mod units;
+mod variables;
+
+pub use errors::{StepError, TextError};
+pub use reader::{read_formula, read_term};
+pub use state::{Call, Frame, LIMITS, Limits, Mode, Outcome, Part, Side, State};
+pub use variables::Variables;
+
+#[cfg(test)]
+mod tests;

@@ -1,0 +1,55 @@
+//! The variables of a quantifier.
+ghost use Rattle.std.specs.Prelude.{◌≡◌, [], ◌∷◌, length, IfOk, OnOk, MatchOption};
+
+use fol::Var;
+use std::alloc::{AllocError, Global};
+use std::collections::VecDeque;
+use std::marker::Model;
+
+/// The variables of a quantifier, the last one first.
+#[derive(Drop, Debug)]
+pub struct Variables {
+    items: VecDeque<Var>,
+}
+
+impl Model for Variables {
+    ghost use Rattle.std.specs.Prelude.{List};
+    ghost use Rattle.fol.specs.declared.symbols.Var.{Var};
+
+    ghost Value = { List Var };
+
+    ghost view = { λ v. v.items.items };
+}
+
+impl Variables {
+    /// No variables.
+    pub fn empty(alloc: Global) -> Variables
+        ensures { result ≡ [] }
+    {
+        Variables {
+            items: VecDeque::new(alloc),
+        }
+    }
+
+    /// How many they are.
+    pub fn len(&self) -> usize
+        ensures { result ≡ length self.now }
+    {
+        self.items.len()
+    }
+
+    /// Puts one more in front.
+    pub fn push(&mut self, var: Var) -> Result<(), AllocError>
+        ensures { OnOk result (self.new ≡ var ∷ self.old) }
+    {
+        self.items.push_front(var)?;
+        Ok(())
+    }
+
+    /// Takes the first one off.
+    pub fn pop(&mut self) -> Option<Var>
+        ensures { MatchOption result ((self.old ≡ []) × (self.new ≡ [])) (λ v. self.old ≡ v ∷ self.new) }
+    {
+        self.items.pop_front()
+    }
+}

@@ -1,0 +1,3 @@
+pub mod Lexer
+pub mod Stream
+pub mod Formed

@@ -1,0 +1,13 @@
+//! The tokens of TPTP texts: what stands at the front of a text, and how it goes on from there.
+#![tactic(auto)]
+
+mod front;
+mod symbols;
+mod tokens;
+mod words;
+
+pub use front::{read_variable, scan};
+pub use tokens::{BinaryOperator, ChainOperator, Quantifier, Scan, TextFault, TextKind, Token};
+
+#[cfg(test)]
+mod tests;
