@@ -7,3 +7,4 @@ pub mod Reading
 pub mod Whole
 pub mod Formed
 pub mod TextEnds
+pub mod Readings

@@ -14,7 +14,7 @@ use Rattle.tptp_read.specs.Machine.{Reading, start}
 use Rattle.tptp_read.specs.Texts.{read, IsText, IsFirstFault, IsFormulaText, IsTermText, IsFormulaFault, IsTermFault}
 use Rattle.tptp_read.proofs.Faults.{ok_text, text_ok, one_reading, err_fault, fault_err, one_fault}
 
-some_variables : 1 ≤ LIMITS.variables
+pub some_variables : 1 ≤ LIMITS.variables
 some_variables = omega arith
 
 -- where only texts of one sort are read

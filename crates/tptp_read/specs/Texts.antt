@@ -12,7 +12,7 @@ use Rattle.tptp_read.specs.declared.state.Outcome.{Outcome}
 use Rattle.tptp_read.specs.declared.state.Outcome.TheVariants.{Formula as FormulaRead, Term as TermRead}
 use Rattle.tptp_read.specs.declared.state.TheConstants.{LIMITS}
 use Rattle.tptp_read.specs.Grammar.{Sort, formulas, terms, Reads, IsFront, IsAnyFront}
-use Rattle.tptp_read.specs.Machine.{Reading, step, ending, ◌>>=◌}
+use Rattle.tptp_read.specs.Machine.{Reading, start, step, ending, ◌>>=◌}
 
 -- the whole text is tokens of the grammar, and means w
 pub record IsText (lim : Limits) (sort : Sort) (st : Stream) (w : Outcome) : Type 0 where
@@ -73,3 +73,22 @@ abbrev pub read : Limits → Reading → Stream → Result Outcome TextFault
 read lim r (next at t st) = placed at (step lim r t) >>= λ s. read lim s st
 read lim r (ends at) = placed at (ending r)
 read lim r (bad at k) = Err (record { at = at; kind = k })
+
+-- the formula or the term that was read; a text that is read as one is never the other
+abbrev pub formula_in : Result Outcome TextFault → Result Formula TextFault
+formula_in (Ok (FormulaRead f)) = Ok f
+formula_in (Ok (TermRead t)) = Err (record { at = 0; kind = Expected })
+formula_in (Err e) = Err e
+
+abbrev pub term_in : Result Outcome TextFault → Result Term TextFault
+term_in (Ok (TermRead t)) = Ok t
+term_in (Ok (FormulaRead f)) = Err (record { at = 0; kind = Expected })
+term_in (Err e) = Err e
+
+-- The reading of a text as a function: the formula or the term that the text is, or its first fault. The laws of readings say that it
+-- is the one function of which `IsFormulaText` and `IsFormulaFault` (`IsTermText` and `IsTermFault`) hold.
+unfoldable pub formula_reading : List ℕ → Result Formula TextFault
+formula_reading bytes = formula_in (read LIMITS (start formulas) (stream_of bytes))
+
+unfoldable pub term_reading : List ℕ → Result Term TextFault
+term_reading bytes = term_in (read LIMITS (start terms) (stream_of bytes))

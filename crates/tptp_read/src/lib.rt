@@ -3,6 +3,7 @@
 
 mod endings;
 mod errors;
+pub mod laws;
 mod machine;
 mod pieces;
 mod reader;

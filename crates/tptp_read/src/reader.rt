@@ -8,7 +8,7 @@ ghost use Rattle.tptp_read.specs.declared.state.Outcome.TheVariants.{Formula as 
 ghost use Rattle.tptp_read.specs.Given.{meaning, GivesText, IfFault, text_error};
 ghost use Rattle.tptp_read.specs.Grammar.{formulas, terms};
 ghost use Rattle.tptp_read.specs.Machine.{start, step as step_by, ending};
-ghost use Rattle.tptp_read.specs.Texts.{placed, read, IsFormulaText, IsTermText, IsFormulaFault, IsTermFault};
+ghost use Rattle.tptp_read.specs.Texts.{placed, read, IsFormulaText, IsTermText, IsFormulaFault, IsTermFault, formula_reading, term_reading};
 
 use crate::errors::{StepError, TextError};
 use crate::state::{LIMITS, Limits, Outcome, State};
@@ -31,6 +31,8 @@ pub fn read_formula(alloc: Global, text: &[u8]) -> Result<Formula, TextError>
     // A text has at most one reading and at most one first fault.
     ensures one { (f g : FormulaMeaning) → IsFormulaText text.now f → IsFormulaText text.now g → f ≡ g }
     ensures one_fault { (d e : TextFault) → IsFormulaFault text.now d → IsFormulaFault text.now e → d ≡ e }
+    // It is the text's reading as a function.
+    ensures reading { GivesText (λ f. f) result (formula_reading text.now) }
     // What is read is well formed.
     ensures formed { IfOk result IsFormed }
 {
@@ -61,6 +63,8 @@ pub fn read_term(alloc: Global, text: &[u8]) -> Result<Term, TextError>
     // A text has at most one reading and at most one first fault.
     ensures one { (t u : TermMeaning) → IsTermText text.now t → IsTermText text.now u → t ≡ u }
     ensures one_fault { (d e : TextFault) → IsTermFault text.now d → IsTermFault text.now e → d ≡ e }
+    // It is the text's reading as a function.
+    ensures reading { GivesText (λ t. t) result (term_reading text.now) }
     // What is read is well formed.
     ensures formed { IfOk result IsFormedTerm }
 {

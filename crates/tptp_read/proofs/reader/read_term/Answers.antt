@@ -1,5 +1,6 @@
 use Rattle.tptp_read.proofs.Whole.{term_text, term_only, term_fault, term_first, one_term_text, one_term_fault}
 use Rattle.tptp_read.proofs.Formed.{term_formed_text}
+use Rattle.tptp_read.proofs.Readings.{term_given}
 use Rattle.tptp_read.proofs.reader.read_term.Goals as goal
 
 pub returns-clause-text : goal.returns-clause-text
@@ -22,3 +23,6 @@ returns-clause-one_fault c = one_term_fault c.args.text.now
 
 pub returns-clause-formed : goal.returns-clause-formed
 returns-clause-formed c = term_formed_text c.args.text.now c.term_of.result (term_text c.args.text.now c.term_of.result c.term_of.ensures)
+
+pub returns-clause-reading : goal.returns-clause-reading
+returns-clause-reading c = term_given c.args.text.now c.term_of.result c.term_of.ensures

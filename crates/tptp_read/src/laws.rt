@@ -1,0 +1,13 @@
+//! The laws of readings. The function does nothing: its contract is the laws.
+ghost use Rattle.std.specs.Prelude.{◌≡◌, ◌↔◌, ℕ, List, Ok, Err};
+ghost use Rattle.fol.specs.Syntax.{Formula as FormulaMeaning, Term as TermMeaning};
+ghost use Rattle.tptp_tokens.specs.declared.tokens.TextFault.{TextFault};
+ghost use Rattle.tptp_read.specs.Texts.{IsFormulaText, IsTermText, IsFormulaFault, IsTermFault, formula_reading, term_reading};
+
+/// The reading of a text gives exactly the formula or the term that the text is by the grammar, and exactly its first fault.
+pub fn readings()
+    ensures formula { (text : List ℕ) (f : FormulaMeaning) → (formula_reading text ≡ Ok f) ↔ IsFormulaText text f }
+    ensures formula_fault { (text : List ℕ) (e : TextFault) → (formula_reading text ≡ Err e) ↔ IsFormulaFault text e }
+    ensures term { (text : List ℕ) (t : TermMeaning) → (term_reading text ≡ Ok t) ↔ IsTermText text t }
+    ensures term_fault { (text : List ℕ) (e : TextFault) → (term_reading text ≡ Err e) ↔ IsTermFault text e }
+{}
