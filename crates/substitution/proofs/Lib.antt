@@ -10,3 +10,4 @@ pub mod ImageLaws
 pub mod BindLaws
 pub mod FreeLaws
 pub mod ShapeLaws
+pub mod ClosingLaws

@@ -3,3 +3,4 @@ pub mod Instance
 pub mod Image
 pub mod Sharing
 pub mod Maps
+pub mod Closing

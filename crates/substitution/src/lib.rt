@@ -3,6 +3,7 @@
 
 mod binding;
 mod bindings;
+mod closing;
 mod images;
 mod instances;
 pub mod laws;
@@ -10,6 +11,7 @@ mod maps;
 mod sharing;
 
 pub use binding::bind;
+pub use closing::{close_all, close_ex};
 pub use images::{apply, apply_term};
 pub use instances::{instance, is_instance};
 pub use maps::Subst;

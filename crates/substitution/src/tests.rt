@@ -2,7 +2,7 @@
 //!
 //! Formulas are written with each operator after its parts: `X` to `Z` are free variables, `0` to `2` indices, `a` to `e` constants, `f`
 //! a function, `P` and `R` predicates of one and of two arguments, `T` truth, `~`, `&`, `|` and `>` connectives, `A` and `E` quantifiers.
-use crate::{Subst, apply, apply_term, bind, instance, is_instance};
+use crate::{Subst, apply, apply_term, bind, close_all, close_ex, instance, is_instance};
 use fol::{Formula, FormulaNode, Sym, Term, Terms, Text, Var, well_formed, well_formed_term};
 use std::alloc::{AllocError, Global};
 use std::test::Fail;
@@ -204,6 +204,36 @@ fn bound_formulas(rt: HostRuntime) -> Result<(), Fail> {
         assert!(rt;
             matches!(&back, Some((result, true)) if *result == whole),
             "back at {code}"
+        );
+    }
+    Ok(())
+}
+
+#[test]
+fn closed_formulas(rt: HostRuntime) -> Result<(), Fail> {
+    let alloc = rt.alloc();
+    let cases = [
+        ("", "XP", "XP", "XP"),
+        ("X", "XP", "0PA", "0PE"),
+        ("XY", "XYR", "10RAA", "10REE"),
+        ("XX", "XP", "0PAA", "0PEE"),
+        ("XYX", "XYR", "01RAAA", "01REEE"),
+        ("XY", "X0RE", "20REAA", "20REEE"),
+        ("Z", "XP~T&", "XP~T&A", "XP~T&E"),
+    ];
+    for (listed, code, universal, existential) in cases {
+        let mut vars = Vec::new(alloc);
+        for byte in listed.as_bytes() {
+            vars.push(word(alloc, *byte)?)?;
+        }
+        let whole = formula(alloc, code)?;
+        assert!(rt;
+            close_all(alloc, &vars, &whole)? == formula(alloc, universal)?,
+            "at {code}"
+        );
+        assert!(rt;
+            close_ex(alloc, &vars, &whole)? == formula(alloc, existential)?,
+            "at {code}"
         );
     }
     Ok(())

@@ -7,4 +7,5 @@ pub mod Reading
 pub mod Whole
 pub mod Formed
 pub mod TextEnds
+pub mod Closing
 pub mod Readings

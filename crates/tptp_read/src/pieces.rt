@@ -2,14 +2,14 @@
 ghost use Rattle.std.specs.Prelude.{◌≡◌, IfOk};
 ghost use Rattle.fol.specs.Formed.{count_terms};
 ghost use Rattle.fol.specs.Syntax.{nil};
-ghost use Rattle.tptp_read.specs.Meaning.{chained_by, joined_by, truth as truth_of, equality_sym, equation as equation_of, application as application_of, quantified_by};
+ghost use Rattle.tptp_read.specs.Meaning.{chained_by, joined_by, truth as truth_of, equality_sym, equation as equation_of, application as application_of};
 ghost use Rattle.tptp_read.specs.Machine.{turned_onto, closed as closed_by, called as called_with, completed as completed_by};
 
 use crate::state::{Call, Part};
 use crate::variables::Variables;
-use fol::{Formula, Sym, Term, Terms, TermsLink, Text, Var};
+use fol::{Formula, Sym, Term, Terms, TermsLink, Text};
 use std::alloc::{AllocError, Global};
-use substitution::bind;
+use substitution::{close_all, close_ex};
 use tptp_tokens::{BinaryOperator, ChainOperator, Quantifier};
 
 /// One more member of a chain.
@@ -146,21 +146,6 @@ pub fn called(alloc: Global, call: Call, term: Term) -> Result<Term, AllocError>
     application(alloc, name, terms)
 }
 
-fn quantified(
-    alloc: Global,
-    quantifier: Quantifier,
-    var: Var,
-    formula: Formula,
-) -> Result<Formula, AllocError>
-    ensures { IfOk result (λ f. f ≡ quantified_by quantifier var formula) }
-{
-    let body = bind(alloc, &formula, &var)?;
-    match quantifier {
-        Quantifier::All => Formula::all(alloc, body),
-        Quantifier::Ex => Formula::ex(alloc, body),
-    }
-}
-
 /// The formula with all variables quantified, the innermost one first.
 pub fn closed(
     alloc: Global,
@@ -170,12 +155,11 @@ pub fn closed(
 ) -> Result<Formula, AllocError>
     ensures { IfOk result (λ f. f ≡ closed_by quantifier variables formula) }
 {
-    let mut variables = variables;
-    let mut closed = formula;
-    while let Some(var) = variables.pop() {
-        closed = quantified(alloc, quantifier, var, closed)?;
+    let variables = variables.in_order(alloc)?;
+    match quantifier {
+        Quantifier::All => close_all(alloc, &variables, &formula),
+        Quantifier::Ex => close_ex(alloc, &variables, &formula),
     }
-    Ok(closed)
 }
 
 /// The formula that ends with a unit.

@@ -1,5 +1,5 @@
 //! The variables of a quantifier.
-ghost use Rattle.std.specs.Prelude.{◌≡◌, [], ◌∷◌, length, IfOk, OnOk, MatchOption};
+ghost use Rattle.std.specs.Prelude.{◌≡◌, [], ◌∷◌, length, reverse, IfOk, OnOk};
 
 use fol::Var;
 use std::alloc::{AllocError, Global};
@@ -46,10 +46,10 @@ impl Variables {
         Ok(())
     }
 
-    /// Takes the first one off.
-    pub fn pop(&mut self) -> Option<Var>
-        ensures { MatchOption result ((self.old ≡ []) × (self.new ≡ [])) (λ v. self.old ≡ v ∷ self.new) }
+    /// The variables as they stand in the text, the first one first.
+    pub fn in_order(self, alloc: Global) -> Result<Vec<Var>, AllocError>
+        ensures { IfOk result (λ vars. vars.items ≡ reverse self) }
     {
-        self.items.pop_front()
+        self.items.into_iter().rev().collect(alloc)
     }
 }

@@ -1,0 +1,7 @@
+use Rattle.command_words.proofs.LineLemmas.{answers_taken}
+use Rattle.command_words.proofs.reading.read_line.Goals as goal
+
+pub returns-in-Ok : goal.returns-in-Ok
+returns-in-Ok c =
+    answers_taken _ _ c.in-Ok.matches _ _ _ _ c.in_ok-command.ensures c.in-Ok.ensures.kinds c.in-Ok.ensures.matches c.get_str.ensures c.get_str-in-Ok.ensures
+    c.settings_with.ensures c.ok_or.ensures.value

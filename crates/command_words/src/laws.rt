@@ -1,0 +1,43 @@
+//! What the command takes, without clap. Each function does nothing: its contract is the law.
+ghost use Rattle.std.specs.Prelude.{◌≡◌, ◌≤◌, ◌∷◌, ◌++◌, ℕ, [], Some, None, codes};
+ghost use Rattle.std.specs.Fmt.{decimal};
+ghost use Rattle.command_words.specs.Words.{settings_of};
+
+/// No words ask for four workers.
+pub fn no_words()
+    ensures { settings_of [] ≡ Some (record { workers = 4; generate = None }) }
+{}
+
+/// `--workers=N` asks for N workers, `--gen=N` for N jobs.
+pub fn one_number()
+    ensures workers { (n : ℕ) → 1 ≤ n → n ≤ 16 → settings_of ((codes "--workers=" ++ decimal n) ∷ []) ≡ Some (record { workers = n; generate = None }) }
+    ensures generate { (n : ℕ) → 1 ≤ n → n ≤ 100000 → settings_of ((codes "--gen=" ++ decimal n) ∷ []) ≡ Some (record { workers = 4; generate = Some n }) }
+{}
+
+/// Words that the command doesn't take.
+pub fn refused_words()
+    ensures help { settings_of (codes "--help" ∷ []) ≡ None }
+    ensures short_help { settings_of (codes "-h" ∷ []) ≡ None }
+    ensures version { settings_of (codes "--version" ∷ []) ≡ None }
+    ensures unknown { settings_of (codes "--sessions" ∷ []) ≡ None }
+    ensures positional { settings_of (codes "x" ∷ []) ≡ None }
+    ensures empty { settings_of ([] ∷ []) ≡ None }
+    ensures abbreviated { settings_of (codes "--work" ∷ codes "4" ∷ []) ≡ None }
+    ensures no_value { settings_of (codes "--workers" ∷ []) ≡ None }
+    ensures option_for_value { settings_of (codes "--workers" ∷ codes "--gen" ∷ codes "1" ∷ []) ≡ None }
+    ensures twice { settings_of (codes "--workers" ∷ codes "1" ∷ codes "--workers=2" ∷ []) ≡ None }
+    ensures behind_dashes { settings_of (codes "--" ∷ codes "--gen" ∷ codes "1" ∷ []) ≡ None }
+{}
+
+/// Values that aren't numbers in the range.
+pub fn refused_values()
+    ensures zero { settings_of (codes "--workers" ∷ codes "0" ∷ []) ≡ None }
+    ensures too_many { settings_of (codes "--workers" ∷ codes "17" ∷ []) ≡ None }
+    ensures leading_zero { settings_of (codes "--workers" ∷ codes "04" ∷ []) ≡ None }
+    ensures plus { settings_of (codes "--workers" ∷ codes "+4" ∷ []) ≡ None }
+    ensures minus { settings_of (codes "--workers=-4" ∷ []) ≡ None }
+    ensures no_digits { settings_of (codes "--workers=" ∷ []) ≡ None }
+    ensures letters { settings_of (codes "--workers" ∷ codes "4a" ∷ []) ≡ None }
+    ensures generate_zero { settings_of (codes "--gen" ∷ codes "0" ∷ []) ≡ None }
+    ensures generate_too_many { settings_of (codes "--gen" ∷ codes "100001" ∷ []) ≡ None }
+{}

@@ -1,0 +1,11 @@
+//! The words of the command line: `gaptd [--workers N] [--gen N]`.
+#![tactic(auto)]
+
+pub mod laws;
+mod numbers;
+mod reading;
+
+pub use reading::{Settings, WordsError, read_words};
+
+#[cfg(test)]
+mod tests;

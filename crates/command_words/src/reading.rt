@@ -1,0 +1,105 @@
+//! The settings that the words ask for.
+ghost use Rattle.std.specs.Prelude.{◌≡◌, ◌∷◌, codes, IfOk, map, option_map, string_bytes};
+ghost use Rattle.clap.specs.Words.{app_of};
+ghost use Rattle.command_words.specs.Words.{gaptd, generate_of, workers_of, Answers, settings_from, settings_of, settings_of_line};
+
+use crate::numbers::number_up_to;
+use clap::error::ErrorKind;
+use clap::{Arg, Command};
+use std::alloc::{AllocError, Global};
+
+/// How many workers there are where the words don't say.
+const DEFAULT_WORKERS: u64 = 4;
+
+/// The greatest number of workers.
+const MOST_WORKERS: u64 = 16;
+
+/// The greatest number of jobs to generate.
+const MOST_GENERATED: u64 = 100_000;
+
+/// What the words ask for.
+#[derive(Clone, Copy, Debug, PartialEq, Eq)]
+pub struct Settings {
+    /// How many workers there are, from 1 to 16.
+    pub workers: u64,
+    /// How many jobs to generate in place of reading the input, from 1 to 100,000.
+    pub generate: Option<u64>,
+}
+
+/// Why there are no settings.
+#[derive(Clone, Copy, Debug, PartialEq, Eq)]
+pub enum WordsError {
+    /// The command doesn't take the words.
+    Usage,
+    /// Memory ran out.
+    Memory,
+}
+
+impl From<AllocError> for WordsError {
+    ghost use Rattle.std.specs.Prelude.{◌≡◌};
+    ghost use Rattle.command_words.specs.declared.reading.WordsError.{WordsError};
+    ghost use Rattle.command_words.specs.declared.reading.WordsError.TheVariants as errors;
+
+    ghost from_gives = { λ _ error. error ≡ errors.Memory };
+
+    fn from(_error: AllocError) -> WordsError {
+        WordsError::Memory
+    }
+}
+
+/// The command: two options, each with one value.
+fn command<'a>(alloc: Global) -> Result<Command<'a>, AllocError>
+    ensures { IfOk result (λ c. app_of c ≡ gaptd) }
+{
+    let workers = Arg::new(alloc, "workers").long("workers");
+    let generate = Arg::new(alloc, "gen").long("gen");
+    Command::new(alloc, "gaptd").arg(workers)?.arg(generate)
+}
+
+/// The settings for the values of the two options.
+fn settings_with(workers: Option<&str>, generate: Option<&str>) -> Option<Settings>
+    ensures { result ≡ settings_from (workers_of (option_map (λ text. text.now) workers.entry)) (generate_of (option_map (λ text. text.now) generate.entry)) }
+{
+    let workers = match workers {
+        Some(text) => number_up_to(MOST_WORKERS, text)?,
+        None => DEFAULT_WORKERS,
+    };
+    let generate = match generate {
+        Some(text) => Some(number_up_to(MOST_GENERATED, text)?),
+        None => None,
+    };
+    Some(Settings { workers, generate })
+}
+
+/// The settings that a command line asks for, its first word the program's name.
+fn read_line(alloc: Global, line: &[&str]) -> Result<Settings, WordsError>
+    ensures { Answers (settings_of_line (map (λ word. word.now) line.now)) result }
+{
+    match command(alloc)?.try_get_matches_from(line) {
+        Ok(matches) => settings_with(matches.get_str("workers"), matches.get_str("gen")).ok_or(
+            WordsError::Usage,
+        ),
+        Err(error) if error.kind() == ErrorKind::OutOfMemory => Err(WordsError::Memory),
+        Err(_) => Err(WordsError::Usage),
+    }
+}
+
+/// The words with the program's name before them.
+fn line_of(alloc: Global, words: &[String]) -> Result<Vec<&str>, AllocError>
+    ensures { IfOk result (λ line. map (λ word. word.now) line.items ≡ codes "gaptd" ∷ map string_bytes words.now) }
+{
+    let mut line = Vec::new(alloc);
+    line.push("gaptd")?;
+    for word in words {
+        line.push(word.as_str())?;
+    }
+    Ok(line)
+}
+
+/// The settings that the words after the program's name ask for.
+pub fn read_words(alloc: Global, words: &[String]) -> Result<Settings, WordsError>
+    ensures { Answers (settings_of (map string_bytes words.now)) result }
+{
+    let line = line_of(alloc, words)?;
+    read_line(alloc, line.as_slice())
+}
