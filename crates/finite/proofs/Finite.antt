@@ -94,6 +94,11 @@ module _ {K : Type 0} {R : K → K → Ordering} (o : IsTotalOrder R) where
       rw (f x (ap (λ r. is_eq r || list_any (eq_by_cmp R x) xs) (tied_itself o x)))
       (all_pass p xs (λ q later. f q (or_true (eq_by_cmp R q x) _ later)))
 
+  -- a test that ties answer alike, and that each key of a list passes, each key of a list with no other keys passes
+  pub all_among : (p : K → Bool) → ((q x : K) → R q x ≡ Equal → p x ≡ p q) → (ks js : List K) → list_all p ks ≡ true
+      → ((q : K) → list_any (eq_by_cmp R q) js ≡ true → list_any (eq_by_cmp R q) ks ≡ true) → list_all p js ≡ true
+  all_among p alike ks js all among = all_pass p js (λ q one. member_passes p alike ks all q (among q one))
+
   pub members_of_subset : (s t : Finite R) → subset s t ≡ true → IsSubset s t
   members_of_subset s t all q one = member_passes (has t) (has_tied t) (listing s) all q (sym (has-listing s q) ∙ one)
 

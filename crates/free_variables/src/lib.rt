@@ -5,7 +5,7 @@ mod fresh_variables;
 mod grades;
 pub mod laws;
 mod occurrences;
-mod rising;
+pub mod rising;
 mod sets;
 mod syms;
 mod texts;

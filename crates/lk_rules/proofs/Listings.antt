@@ -1,9 +1,11 @@
 -- The lists that show sets of well-formed formulas.
 use Rattle.std.proofs.Common.{◌≡◌, ◌↔◌, IsTrue, Bool, true, List, Result, Ok, Err, OnOk, OnErr, refl, sym, ap, subst, ◌∙◌}
 use Rattle.std.specs.declared.cmp.Ordering.TheVariants.{Equal}
-use Rattle.std.specs.List.{list_all, list_any}
+use Rattle.std.specs.List.{All, list_all, list_any}
 use Rattle.std.specs.Ordering.{eq_by_cmp}
+use Rattle.std.specs.Set.{sorted_merge}
 use Rattle.std.proofs.lemmas.Cmp.{eq_by_cmp_equiv}
+use Rattle.std.proofs.lemmas.List.Sums.{list_all-from_AllPass}
 use lib.Pointwise.{pointwise_decides}
 use Rattle.fol.specs.Syntax.{Formula}
 use Rattle.fol.specs.Order.{formula_cmp}
@@ -12,6 +14,7 @@ use Rattle.fol.proofs.OrderTies.{formula_ties, formula_equality_same}
 use Rattle.finite.specs.Finite as set
 use Rattle.finite.proofs.Finite.{has-listing, listing-of_rising, of_rising-listing, all-adds}
 use Rattle.fol.specs.Formed.{is_formed, IsFormed}
+use Rattle.free_variables.proofs.RisingLists.{list_passes, merge_rises, merge_passes}
 use Rattle.lk_rules.specs.Formulas.{FormulaSet, IsListing, same_formulas}
 
 -- a test of formulas answers alike at formulas that tie, since they are equal
@@ -28,6 +31,21 @@ added_listing (Ok u) old new f h formed up is same =
       formed = ap (list_all is_formed) (sym (listing-of_rising formula_cmp new up) ∙ ap set.listing is) ∙ all-adds formula_total is_formed (alike is_formed) (set.of_rising old) f before formed;
     }
 added_listing (Err e) old new f h formed up is same = subst (λ fs. IsListing fs) (sym same) h
+
+-- a rising list with the formulas of a list of well-formed formulas
+pub listing_of_list : (new old : List Formula) → All IsFormed old → set.IsRising formula_cmp new
+    → ((q : Formula) → list_any (eq_by_cmp formula_cmp q) new ≡ list_any (eq_by_cmp formula_cmp q) old) → IsListing new
+listing_of_list new old formed up same = record {
+  rises = up;
+  formed = list_passes formula_total is_formed (alike is_formed) new old (list_all-from_AllPass is_formed old formed) same;
+}
+
+-- the merge of two lists
+pub listing_of_merge : (xs ys : List Formula) → IsListing xs → IsListing ys → IsListing (sorted_merge formula_cmp true xs ys)
+listing_of_merge xs ys h g = record {
+  rises = merge_rises formula_total formula_ties xs ys h.rises g.rises;
+  formed = merge_passes formula_total is_formed (alike is_formed) xs ys h.formed g.formed;
+}
 
 formula_decides : (f g : Formula) → (eq_by_cmp formula_cmp f g ≡ true → f ≡ g) × (f ≡ g → eq_by_cmp formula_cmp f g ≡ true)
 formula_decides f g = let both = formula_equality_same f g (eq_by_cmp formula_cmp f g) refl in (both.0, both.1)

@@ -11,7 +11,7 @@ ghost use Rattle.fol.specs.Formed.{IsFormed};
 ghost use Rattle.free_variables.specs.Occurrence.{is_free_in};
 
 use fol::{Formula, Var};
-use free_variables::{occurs_free, push_free_vars};
+use free_variables::{occurs_free, push_free_vars, rising};
 use std::alloc::{AllocError, Global};
 use std::marker::Model;
 use substitution::{Subst, apply};
@@ -45,6 +45,16 @@ impl Formulas {
         Formulas {
             items: Vec::new(alloc),
         }
+    }
+
+    /// The set of the formulas of a list, in O(n log n) comparisons and without memory.
+    pub fn from_vec(items: Vec<Formula>) -> Formulas
+        requires { All IsFormed items.items }
+        ensures { result ≡ set.adds_each set.empty items.items }
+    {
+        let mut items = items;
+        rising::sort_distinct(&mut items);
+        Formulas { items }
     }
 
     /// The formulas in rising order.
@@ -87,15 +97,12 @@ impl Formulas {
             .any(|formula| occurs_free(var, formula))
     }
 
-    /// The formulas of both sets.
+    /// The formulas of both sets, by one walk over both.
     pub fn union(&self, alloc: Global, other: &Formulas) -> Result<Formulas, AllocError>
         ensures { IfOk result (λ union. union ≡ union_of self.now other.now) }
     {
-        let mut union = self.copy(alloc)?;
-        for formula in other.as_slice() {
-            union.add(formula.copy()?)?;
-        }
-        Ok(union)
+        let items = rising::merge(alloc, &self.items, &other.items)?;
+        Ok(Formulas { items })
     }
 
     /// The images of the formulas under a map whose terms are well formed. Formulas that fall together become one.
@@ -103,11 +110,11 @@ impl Formulas {
         requires { IsFormedMap (fin.get map.now) }
         ensures { IfOk result (λ image. image ≡ image_set (fin.get map.now) self.now) }
     {
-        let mut image = Formulas::new(alloc);
+        let mut images = Vec::with_capacity(alloc, self.items.len())?;
         for formula in self.as_slice() {
-            image.add(apply(alloc, map, formula)?)?;
+            images.push(apply(alloc, map, formula)?)?;
         }
-        Ok(image)
+        Ok(Formulas::from_vec(images))
     }
 
     /// Appends the free variables of the formulas, one for each occurrence. After an error some of them may stand there.
@@ -125,9 +132,7 @@ impl Formulas {
         ensures { IfOk result (λ copy. copy ≡ self.now) }
     {
         let mut items = Vec::with_capacity(alloc, self.items.len())?;
-        for formula in &self.items {
-            items.push(formula.copy()?)?;
-        }
+        rising::push_shared(&mut items, &self.items)?;
         Ok(Formulas { items })
     }
 }

@@ -1,5 +1,5 @@
 //! Formulas, sequents and rules from short texts, for tests.
-use crate::{Rule, Sequent, Side};
+use crate::{Formulas, Rule, Sequent, Side};
 use fol::{Formula, Sym, Term, Terms, Text, Var, well_formed};
 use std::alloc::{AllocError, Global};
 use std::process::Abort;
@@ -95,6 +95,17 @@ pub fn sequent<R: Abort>(rt: &R, alloc: Global, text: &str) -> Result<Sequent, F
         }
     }
     Ok(sequent)
+}
+
+/// The set of the formulas of a text, each by one byte, from their list.
+pub fn formulas<R: Abort>(rt: &R, alloc: Global, text: &str) -> Result<Formulas, Fail> {
+    let mut list = Vec::new(alloc);
+    for code in text.as_bytes() {
+        let formula = formula(alloc, *code)?;
+        assert!(rt; well_formed(&formula));
+        list.push(formula)?;
+    }
+    Ok(Formulas::from_vec(list))
 }
 
 // A rule that names a formula alone.

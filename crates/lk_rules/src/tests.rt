@@ -1,6 +1,6 @@
 //! Inferences by each rule, right and with each fault, worked by hand. A text stands for a sequent, as `samples` says.
 use super::*;
-use crate::samples::{rule, sequent, term, variable};
+use crate::samples::{formulas, rule, sequent, term, variable};
 use fol::{Formula, well_formed_term};
 use std::alloc::{AllocError, Global};
 use std::process::Abort;
@@ -407,6 +407,17 @@ fn members_and_subsequents(rt: HostRuntime) -> Result<(), Fail> {
     assert!(rt; !both.subset(&left));
     assert!(rt; !both.subset(&right));
     assert!(rt; both == both.copy(alloc)?);
+    Ok(())
+}
+
+// A list in any order gives the set of its formulas, each once.
+#[test]
+fn sets_of_lists(rt: HostRuntime) -> Result<(), Fail> {
+    let alloc = rt.alloc();
+    let set = formulas(&rt, alloc, "rAprqxpAr")?;
+    assert_eq!(rt; set.as_slice().len(), 5);
+    assert!(rt; set == sequent(&rt, alloc, "pqrxA/")?.left);
+    assert!(rt; formulas(&rt, alloc, "")? == Formulas::new(alloc));
     Ok(())
 }
 
