@@ -1,3 +1,9 @@
 mod NumberLemmas
 mod LineLemmas
 mod Readings
+mod Lexing
+mod Walks
+mod Moves
+mod Sound
+mod Complete
+mod Taken

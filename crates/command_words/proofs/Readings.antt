@@ -1,13 +1,11 @@
 -- What the command makes of the words that it takes.
-use Rattle.std.proofs.Common.{◌≡◌, ◌<◌, ◌≤◌, ◌^◌, ℕ, true, [], ◌∷◌, ◌++◌, Some, None, refl, sym, codes, get_or, arith}
+use Rattle.std.proofs.Common.{◌≡◌, ◌<◌, ◌≤◌, ◌^◌, ℕ, true, [], ◌∷◌, Some, sym, get_or, arith}
 use Rattle.std.specs.Fmt.{decimal}
 use Rattle.std.specs.Str.{all_ascii_digits}
 use Rattle.std.proofs.lemmas.Bool.Decides.{nat_tests}
 use Rattle.std.proofs.lemmas.Fmt.{decimal_nonempty, digits_decimal, digits_value-decimal, first_decimal}
 use Rattle.clap.specs.Walk.{Text}
-use Rattle.clap.proofs.OnLiterals.{clap_on_literals}
 use Rattle.command_words.specs.Numbers.{has_leading_digit, number_up_to}
-use Rattle.command_words.specs.Words.{generate_of, settings_from, settings_of, workers_of}
 use Rattle.command_words.proofs.NumberLemmas.{number_within, own_digits}
 
 leads : (text : Text) → 48 < get_or text 0 0 → all_ascii_digits text ≡ true → has_leading_digit text ≡ true
@@ -21,11 +19,3 @@ number_back most n fits low high =
     let digits = digits_decimal own_digits n small in
     sym (number_within most (decimal n) n (leads (decimal n) (first_decimal n (omega arith) small) digits)
     (digits, decimal_nonempty n small, rw value small) (sym value) high)
-
-pub workers_joined : (v : Text) → settings_of ((codes "--workers=" ++ v) ∷ []) ≡ settings_from (workers_of (Some v)) (generate_of None)
-unfolding clap_on_literals
-workers_joined v = refl
-
-pub generate_joined : (v : Text) → settings_of ((codes "--gen=" ++ v) ∷ []) ≡ settings_from (workers_of None) (generate_of (Some v))
-unfolding clap_on_literals
-generate_joined v = refl

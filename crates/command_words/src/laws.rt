@@ -1,17 +1,22 @@
-//! What the command takes, without clap. Each function does nothing: its contract is the law.
-ghost use Rattle.std.specs.Prelude.{◌≡◌, ◌≤◌, ◌∷◌, ◌++◌, ℕ, [], Some, None, codes};
-ghost use Rattle.std.specs.Fmt.{decimal};
+//! What the words ask for. Each function does nothing: its contract is the law.
+ghost use Rattle.std.specs.Prelude.{◌≡◌, ◌∷◌, ℕ, List, [], Some, None, codes};
+ghost use Rattle.std.specs.List.{All};
+ghost use Rattle.std.specs.Str.{IsUtf8};
+ghost use Rattle.command_words.specs.Taken.{AskFor};
 ghost use Rattle.command_words.specs.Words.{settings_of};
+
+use crate::reading::Settings;
+
+/// What clap makes of the words, said without clap: the words that are taken are those that ask for settings, and they ask for one.
+pub fn taken_words()
+    ensures asked { (words : List (List ℕ)) (settings : Settings) → All IsUtf8 words → settings_of words ≡ Some settings → AskFor words settings }
+    ensures taken { (words : List (List ℕ)) (settings : Settings) → AskFor words settings → settings_of words ≡ Some settings }
+    ensures one { (words : List (List ℕ)) (settings others : Settings) → AskFor words settings → AskFor words others → settings ≡ others }
+{}
 
 /// No words ask for four workers.
 pub fn no_words()
     ensures { settings_of [] ≡ Some (record { workers = 4; generate = None }) }
-{}
-
-/// `--workers=N` asks for N workers, `--gen=N` for N jobs.
-pub fn one_number()
-    ensures workers { (n : ℕ) → 1 ≤ n → n ≤ 16 → settings_of ((codes "--workers=" ++ decimal n) ∷ []) ≡ Some (record { workers = n; generate = None }) }
-    ensures generate { (n : ℕ) → 1 ≤ n → n ≤ 100000 → settings_of ((codes "--gen=" ++ decimal n) ∷ []) ≡ Some (record { workers = 4; generate = Some n }) }
 {}
 
 /// Words that the command doesn't take.

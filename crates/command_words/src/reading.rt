@@ -1,6 +1,7 @@
 //! The settings that the words ask for.
-ghost use Rattle.std.specs.Prelude.{◌≡◌, ◌∷◌, codes, IfOk, map, option_map, string_bytes};
+ghost use Rattle.std.specs.Prelude.{◌≡◌, ◌∷◌, codes, Err, IfOk, map, option_map, string_bytes};
 ghost use Rattle.clap.specs.Words.{app_of};
+ghost use Rattle.command_words.specs.Taken.{AskFor};
 ghost use Rattle.command_words.specs.Words.{gaptd, generate_of, workers_of, Answers, settings_from, settings_of, settings_of_line};
 
 use crate::numbers::number_up_to;
@@ -97,8 +98,17 @@ fn line_of(alloc: Global, words: &[String]) -> Result<Vec<&str>, AllocError>
 }
 
 /// The settings that the words after the program's name ask for.
+///
+/// The words are `--workers N` or `--workers=N`, and `--gen N` or `--gen=N`, each option at most once and in any order, and
+/// then perhaps `--` as the last word. Where `--workers` is absent there are 4 workers. All else is `Usage`: an option without
+/// its value, an option given twice, a number out of its range, with a sign or with a leading zero, an abbreviated name, a
+/// positional word and an unknown option, `--help`, `-h` and `--version` among them.
+///
+/// The clauses say this without clap. The last one ties it to what clap states of the command.
 pub fn read_words(alloc: Global, words: &[String]) -> Result<Settings, WordsError>
-    ensures { Answers (settings_of (map string_bytes words.now)) result }
+    ensures taken { IfOk result (AskFor (map string_bytes words.now)) }
+    ensures refused { result ≡ Err WordsError.Usage → (settings : Settings) → AskFor (map string_bytes words.now) settings → ⊥ }
+    ensures by_clap { Answers (settings_of (map string_bytes words.now)) result }
 {
     let line = line_of(alloc, words)?;
     read_line(alloc, line.as_slice())

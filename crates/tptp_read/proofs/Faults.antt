@@ -101,11 +101,11 @@ module _ (lim : Limits) (some : 1 ≤ lim.variables) where
   start_room formulas = tt
   start_room terms = tt
 
-  start_clean : (sort : Sort) → IsClean lim sort []
+  pub start_clean : (sort : Sort) → IsClean lim sort []
   start_clean sort = inl (front_within lim sort [] (start sort) refl (start_room sort))
 
   -- tokens that are taken begin a text within the limits, but for that comma
-  clean_more : (sort : Sort) (ts : List Token) (t : Token) (r s : Reading) → after lim (start sort) ts ≡ Ok r → step lim r t ≡ Ok s → IsClean lim sort (ts ++ t ∷ [])
+  pub clean_more : (sort : Sort) (ts : List Token) (t : Token) (r s : Reading) → after lim (start sort) ts ≡ Ok r → step lim r t ≡ Ok s → IsClean lim sort (ts ++ t ∷ [])
   clean_more sort ts t r s e made =
       elim (step_roomy r t s made) [
         | inl room ↦ inl (front_within lim sort (ts ++ t ∷ []) s (after_more lim ts t (start sort) r s e made) room)
@@ -170,7 +170,7 @@ free_step lim other (limited x n r) s f e = absurd f
 
 module _ (lim : Limits) where
   -- why a step fails
-  because : (sort : Sort) (ts : List Token) (t : Token) (r : Reading) (k : TextKind) → after lim (start sort) ts ≡ Ok r → step lim r t ≡ Err k → Because lim sort ts t k
+  pub because : (sort : Sort) (ts : List Token) (t : Token) (r : Reading) (k : TextKind) → after lim (start sort) ts ≡ Ok r → step lim r t ≡ Err k → Because lim sort ts t k
   because sort ts t r k e stop =
       elim (move r t) as (λ (m : Move). move r t ≡ m → checked lim m ≡ Err k → Because lim sort ts t k) [
         | refused ↦ λ is made. let kind : Expected ≡ k = cc in subst (λ (x : TextKind). Because lim sort ts t x) kind (refused_front lim sort ts t r e is)
@@ -231,7 +231,7 @@ module _ (lim : Limits) where
   begins_more whole rest ts (behind at' t' st' rest' ts' b) at t st is = behind at' t' st' st (ts' ++ t ∷ []) (begins_more st' rest' ts' b at t st is)
 
   -- the end of tokens that were read
-  read_end : (ts : List Token) (r s : Reading) → after lim r ts ≡ Ok s → read_tokens lim r ts ≡ ending s
+  pub read_end : (ts : List Token) (r s : Reading) → after lim r ts ≡ Ok s → read_tokens lim r ts ≡ ending s
   read_end ts r s e = subst (λ (zs : List Token). read_tokens lim r zs ≡ ending s) (append-nil ts) (read_on lim ts [] r ∙ ap (λ (x : Result Reading TextKind). x >>= λ (z : Reading). read_tokens lim z []) e)
 
   no_end : (sort : Sort) (ts : List Token) (r : Reading) (w : Outcome) (k : TextKind) → after lim (start sort) ts ≡ Ok r → ending r ≡ Err k → Reads lim sort ts w → ⊥
@@ -333,7 +333,7 @@ module _ (lim : Limits) where
   blamed some sort ts r led (bad at k) e (place, kind) = λ i. Err (record { at = sym place i; kind = sym kind i })
 
   -- clean tokens lead somewhere
-  clean_leads : (sort : Sort) (ts : List Token) → IsAnyFront sort ts → IsClean lim sort ts → (s : Reading) × (after lim (start sort) ts ≡ Ok s)
+  pub clean_leads : (sort : Sort) (ts : List Token) → IsAnyFront sort ts → IsClean lim sort ts → (s : Reading) × (after lim (start sort) ts ≡ Ok s)
   clean_leads sort ts any (inl front) = front_leads lim sort ts front
   clean_leads sort ts any (inr (us, (is, front))) =
       let led = front_leads lim sort us front in

@@ -61,9 +61,9 @@ nesting_bound v (all f) k = ap (λ (n : ℕ). n + 1) (nesting_bound v f (k + 1))
 nesting_bound v (ex f) k = ap (λ (n : ℕ). n + 1) (nesting_bound v f (k + 1))
 
 -- a formula is well formed, and at most n quantifiers stand inside one another
-record IsSound (n : ℕ) (f : Formula) : Type 0 where
-  formed : is_formed_at 0 f ≡ true
-  nested : nesting f ≤ n
+pub record IsSound (n : ℕ) (f : Formula) : Type 0 where
+  pub formed : is_formed_at 0 f ≡ true
+  pub nested : nesting f ≤ n
 
 deeper : (n m : ℕ) (f : Formula) → n ≤ m → IsSound n f → IsSound m f
 deeper n m f le h = let nested : nesting f ≤ n = h.nested in record { formed = h.formed; nested = omega arith }
@@ -177,7 +177,7 @@ module _ (lim : Limits) where
         let inner = unit_formed l' us' zs' f u (omega arith) listed.0 in
         (deeper (length vs + l' * lim.variables) (suc l' * lim.variables) (quantified q' vs f) (omega arith) (quantified_sound q' vs (l' * lim.variables) f (omega arith) inner.0), inner.1)
 
-    formula_formed : (l : ℕ) (ts us : List Token) (f : Formula) → IsFormula lim l ts f us → l * lim.variables < 2 ^ 32 → AreFormedTokens ts → IsSound (l * lim.variables) f × AreFormedTokens us
+    pub formula_formed : (l : ℕ) (ts us : List Token) (f : Formula) → IsFormula lim l ts f us → l * lim.variables < 2 ^ 32 → AreFormedTokens ts → IsSound (l * lim.variables) f × AreFormedTokens us
     formula_formed l ts us f (alone l' ts' us' g u) small p = unit_formed l' ts' us' g u small p
     formula_formed l ts us f (binary l' ts' us' vs' b g h u v) small p =
         let one = unit_formed l' ts' (Binary b ∷ us') g u small p in

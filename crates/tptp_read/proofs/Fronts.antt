@@ -55,7 +55,7 @@ wider_bound lim wide h operators = h.more_operators
 wider_bound lim wide h variables = h.more_variables
 
 -- a limit that is kept, and one that isn't
-limit_kept : (lim : Limits) (x : Limit) (n : ℕ) (r : Reading) → n ≤ bound_by lim x → checked lim (limited x n r) ≡ Ok r
+pub limit_kept : (lim : Limits) (x : Limit) (n : ℕ) (r : Reading) → n ≤ bound_by lim x → checked lim (limited x n r) ≡ Ok r
 limit_kept lim x n r fits = ap (λ (b : Bool). if b then Ok r else Err Deep) (le-leb n (bound_by lim x) fits)
 
 checked_wider : (lim wide : Limits) → IsWider lim wide → (m : Move) (s : Reading) → checked lim m ≡ Ok s → checked wide m ≡ Ok s
@@ -67,7 +67,7 @@ checked_wider lim wide h (limited x n r) s e =
       | false ↦ λ test made. cc
     ] refl e
 
-after_wider : (lim wide : Limits) → IsWider lim wide → (ts : List Token) (r s : Reading) → after lim r ts ≡ Ok s → after wide r ts ≡ Ok s
+pub after_wider : (lim wide : Limits) → IsWider lim wide → (ts : List Token) (r s : Reading) → after lim r ts ≡ Ok s → after wide r ts ≡ Ok s
 after_wider lim wide h [] r s e = e
 after_wider lim wide h (t ∷ ts) r s e =
     elim (step lim r t) as (λ (x : Result Reading TextKind). step lim r t ≡ x → (x >>= λ (z : Reading). after lim z ts) ≡ Ok s → after wide r (t ∷ ts) ≡ Ok s) [
@@ -90,16 +90,16 @@ one_state lim other (t ∷ ts) r s z e d =
     ] refl e
 
 -- The shortest end of a text from each state.
-some_variable : Var
+pub some_variable : Var
 some_variable = Num 0
 
-abbrev closings : List Frame → List Token
+abbrev pub closings : List Frame → List Token
 closings [] = []
 closings (Group p ∷ k) = Close ∷ closings k
 closings (Negated ∷ k) = closings k
 closings (Quantified q vs ∷ k) = closings k
 
-abbrev finish_term : Term → Side → List Call → List Frame → List Token
+abbrev pub finish_term : Term → Side → List Call → List Frame → List Token
 finish_term x s (c ∷ cs) k = Close ∷ finish_term (called c x) s cs k
 finish_term x Whole [] k = []
 finish_term x (Right sign y) [] k = closings k
@@ -107,7 +107,7 @@ finish_term (app f xs) Lead [] k = closings k
 finish_term (free v) Lead [] k = Equality true ∷ Variable some_variable ∷ closings k
 finish_term (bound i) Lead [] k = Equality true ∷ Variable some_variable ∷ closings k
 
-abbrev finish : Mode → Side → List Call → List Frame → List Token
+abbrev pub finish : Mode → Side → List Call → List Frame → List Token
 finish WantUnit s cs k = Truth true ∷ closings k
 finish (AfterUnit f) s cs k = closings k
 finish WantTerm s cs k = Variable some_variable ∷ finish_term (free some_variable) s cs k
@@ -118,13 +118,13 @@ finish (WantVariable q vs) s cs k = Variable some_variable ∷ CloseSquare ∷ C
 finish (AfterVariable q vs) s cs k = CloseSquare ∷ Colon ∷ Truth true ∷ closings k
 finish (WantColon q vs) s cs k = Colon ∷ Truth true ∷ closings k
 
-behind_closings : (k : List Frame) → BehindUnit (closings k)
+pub behind_closings : (k : List Frame) → BehindUnit (closings k)
 behind_closings [] = tt
 behind_closings (Group p ∷ k) = tt
 behind_closings (Negated ∷ k) = behind_closings k
 behind_closings (Quantified q vs ∷ k) = behind_closings k
 
-term_closings : (k : List Frame) → BehindTerm (closings k)
+pub term_closings : (k : List Frame) → BehindTerm (closings k)
 term_closings [] = tt
 term_closings (Group p ∷ k) = tt
 term_closings (Negated ∷ k) = term_closings k
@@ -143,14 +143,14 @@ HasRoom lim (WantVariable q vs) = suc (length vs) ≤ lim.variables
 HasRoom lim m = Unit {0}
 
 module _ (lim : Limits) where
-  abbrev IsRead : Reading → List Token → Type 0
+  abbrev pub IsRead : Reading → List Token → Type 0
   IsRead r ts = (w : Outcome) × (read_tokens lim r ts ≡ Ok w)
 
   after_unit : (f : Formula) (s : Side) (cs : List Call) (p : Part) (k : List Frame) (ts : List Token) → reads lim (in_term (AfterUnit f) s cs p k) ts ≡ reads lim (at (AfterUnit f) p k) ts
   after_unit f s cs p k [] = refl
   after_unit f s cs p k (t ∷ ts) = refl
 
-  closings_read : (k : List Frame) (p : Part) (f : Formula) → IsRead (at (AfterUnit f) p k) (closings k)
+  pub closings_read : (k : List Frame) (p : Part) (f : Formula) → IsRead (at (AfterUnit f) p k) (closings k)
   closings_read [] p f = (FormulaRead (completed p f), refl)
   closings_read (Group q ∷ k) p f = let rest = closings_read k q (completed p f) in (rest.0, group_ends lim q k (closings k) p f ∙ rest.1)
   closings_read (Negated ∷ k) p f = let rest = closings_read k p (not f) in (rest.0, negation_ends lim f p k (closings k) ∙ rest.1)
@@ -164,7 +164,7 @@ module _ (lim : Limits) where
   finish_term_read (free v) Lead [] p k = let rest = closings_read k p (equation true (free v) (free some_variable)) in (rest.0, equation_ends lim true (free v) (free some_variable) p k (closings k) ∙ rest.1)
   finish_term_read (bound i) Lead [] p k = let rest = closings_read k p (equation true (bound i) (free some_variable)) in (rest.0, equation_ends lim true (bound i) (free some_variable) p k (closings k) ∙ rest.1)
 
-  finish_read : (m : Mode) (s : Side) (cs : List Call) (p : Part) (k : List Frame) → HasRoom lim m → IsRead (in_term m s cs p k) (finish m s cs k)
+  pub finish_read : (m : Mode) (s : Side) (cs : List Call) (p : Part) (k : List Frame) → HasRoom lim m → IsRead (in_term m s cs p k) (finish m s cs k)
   finish_read WantUnit s cs p k room = closings_read k p (truth true)
   finish_read (AfterUnit f) s cs p k room = let rest = closings_read k p f in (rest.0, after_unit f s cs p k (closings k) ∙ rest.1)
   finish_read WantTerm s cs p k room = finish_term_read (free some_variable) s cs p k
@@ -261,14 +261,14 @@ failed_front lim sort ts t s k e stop (more, (w, d)) =
     cc
 
 -- a token that a limit stops goes on with a text without limits
-wide : Limits → ℕ → Limits
+pub wide : Limits → ℕ → Limits
 wide lim n = record { levels = lim.levels + n; operators = lim.operators + n; variables = lim.variables + n }
 
-wide_wider : (lim : Limits) (n : ℕ) → IsWider lim (wide lim n)
+pub wide_wider : (lim : Limits) (n : ℕ) → IsWider lim (wide lim n)
 unfolding wide
 wide_wider lim n = record { more_levels = omega arith; more_operators = omega arith; more_variables = omega arith }
 
-wide_keeps : (lim : Limits) (n : ℕ) (x : Limit) → n ≤ bound_by (wide lim n) x
+pub wide_keeps : (lim : Limits) (n : ℕ) (x : Limit) → n ≤ bound_by (wide lim n) x
 unfolding wide
 wide_keeps lim n levels = omega arith
 wide_keeps lim n operators = omega arith

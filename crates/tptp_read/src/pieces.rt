@@ -2,12 +2,12 @@
 ghost use Rattle.std.specs.Prelude.{◌≡◌, IfOk};
 ghost use Rattle.fol.specs.Formed.{count_terms};
 ghost use Rattle.fol.specs.Syntax.{nil};
-ghost use Rattle.tptp_read.specs.Meaning.{chained_by, joined_by, truth as truth_of, equality_sym, equation as equation_of, application as application_of};
+ghost use Rattle.tptp_read.specs.Meaning.{chained_by, joined_by, truth as truth_of, equality_sym, equation as equation_of, application as application_of, quantified as quantified_in};
 ghost use Rattle.tptp_read.specs.Machine.{turned_onto, closed as closed_by, called as called_with, completed as completed_by};
 
 use crate::state::{Call, Part};
 use crate::variables::Variables;
-use fol::{Formula, Sym, Term, Terms, TermsLink, Text};
+use fol::{Formula, Sym, Term, Terms, TermsLink, Text, Var};
 use std::alloc::{AllocError, Global};
 use substitution::{close_all, close_ex};
 use tptp_tokens::{BinaryOperator, ChainOperator, Quantifier};
@@ -147,6 +147,7 @@ pub fn called(alloc: Global, call: Call, term: Term) -> Result<Term, AllocError>
 }
 
 /// The formula with all variables quantified, the innermost one first.
+#[tactic(auto, using(crate::proofs::Closing::closed_turned))]
 pub fn closed(
     alloc: Global,
     quantifier: Quantifier,
@@ -155,10 +156,24 @@ pub fn closed(
 ) -> Result<Formula, AllocError>
     ensures { IfOk result (λ f. f ≡ closed_by quantifier variables formula) }
 {
-    let variables = variables.in_order(alloc)?;
+    let vars = variables.in_order(alloc)?;
+    let closed = quantified(alloc, quantifier, &vars, &formula)?;
+    Ok(closed)
+}
+
+// The first variable is the outermost.
+#[tactic(auto, using(crate::proofs::Closing::over_all, crate::proofs::Closing::over_ex))]
+fn quantified(
+    alloc: Global,
+    quantifier: Quantifier,
+    vars: &[Var],
+    formula: &Formula,
+) -> Result<Formula, AllocError>
+    ensures { IfOk result (λ f. f ≡ quantified_in quantifier vars.now formula.now) }
+{
     match quantifier {
-        Quantifier::All => close_all(alloc, &variables, &formula),
-        Quantifier::Ex => close_ex(alloc, &variables, &formula),
+        Quantifier::All => close_all(alloc, vars, formula),
+        Quantifier::Ex => close_ex(alloc, vars, formula),
     }
 }
 

@@ -1,0 +1,15 @@
+pub mod Tokens
+pub mod Words
+pub mod Pieces
+pub mod Clauses
+pub mod BodyTexts
+pub mod AnnotationTexts
+pub mod EntryTexts
+pub mod Closures
+pub mod Problems
+pub mod ClausePlaces
+pub mod Readers
+pub mod BodyReader
+pub mod AnnotationReader
+pub mod EntryReader
+pub mod Reading

@@ -1,0 +1,109 @@
+//! Reading of whole problems.
+ghost use Rattle.std.specs.Prelude.{◌≡◌, ◌<◌, ◌^◌, ℕ, List, true, length, Ok, Err, IfOk, OnOk, if◌then◌else◌};
+ghost use Rattle.std.specs.BTreeSet.{contains};
+ghost use Rattle.std.specs.Ordering.{eq_by_cmp};
+ghost use Rattle.fol.specs.Order.{text_cmp};
+ghost use Rattle.tptp_problem.specs.Closures.{AreFormedEntries};
+ghost use Rattle.tptp_problem.specs.Problems.{IsProblemText, IsProblemFault, GivesProblem, IfFault};
+ghost use Rattle.tptp_problem.specs.declared.errors.ProblemKind.{ProblemKind as Kind};
+ghost use Rattle.tptp_problem.specs.declared.problems.Problem.{Problem as ProblemMeaning};
+ghost use Rattle.tptp_problem.specs.EntryReader.{EntriesRead, ProblemRead, counted};
+ghost use Rattle.tptp_problem.specs.Reading.{problem_reading};
+
+use crate::entries::read_entry;
+use crate::errors::{ProblemError, ReadError};
+use crate::problems::{Entries, Entry, Problem, Role};
+use crate::sequents::sequent_of;
+use crate::tokens::next_token;
+use fol::Text;
+use std::alloc::{AllocError, Global};
+use std::collections::BTreeSet;
+
+/// The problem that the text is: entries with white space and comments around their tokens. A text has at most 1,000 conjectures, and
+/// each formula at most 200 levels of open parentheses, negations and quantifiers, its entry's own parenthesis included, and at most
+/// 1,000 members in a chain and variables in a quantifier.
+pub fn read_problem(alloc: Global, text: &[u8]) -> Result<Problem, ProblemError>
+    requires { length text.now < 2 ^ 32 }
+    // It is the one reading of the whole text.
+    ensures text { IfOk result (λ p. IsProblemText text.now p) }
+    // A text that has a reading is read, unless memory runs out.
+    ensures only { (p : ProblemMeaning) → IsProblemText text.now p → GivesProblem result (Ok p) }
+    // A fault is the first one of the text.
+    ensures fault { IfFault result (λ at kind. IsProblemFault text.now at kind) }
+    // A text that has a first fault is refused with it, unless memory runs out.
+    ensures first { (at : ℕ) (kind : Kind) → IsProblemFault text.now at kind → GivesProblem result (Err (at, kind)) }
+    // A text has at most one reading and at most one first fault.
+    ensures one { (p q : ProblemMeaning) → IsProblemText text.now p → IsProblemText text.now q → p ≡ q }
+    ensures one_fault { (at other : ℕ) (kind otherwise : Kind) → IsProblemFault text.now at kind → IsProblemFault text.now other otherwise → (at ≡ other) × (kind ≡ otherwise) }
+    // It answers the reading of the text, unless memory runs out.
+    ensures reading { GivesProblem result (problem_reading text.now) }
+    // The formula of each entry is well formed.
+    ensures formed { IfOk result (λ p. AreFormedEntries p.entries) }
+{
+    problem_of(alloc, text)
+}
+
+// The problem that the text is, by its entries.
+fn problem_of(alloc: Global, text: &[u8]) -> Result<Problem, ProblemError>
+    ensures value { ProblemRead text.now result }
+    ensures formed { IfOk result (λ p. AreFormedEntries p.entries) }
+{
+    match formed_entries(alloc, text) {
+        Ok(entries) => match sequent_of(alloc, &entries) {
+            Ok(sequent) => Ok(Problem {
+                entries: Entries::from_vec(entries),
+                sequent,
+            }),
+            Err(_) => Err(ProblemError::Memory),
+        },
+        Err(ReadError::Memory) => Err(ProblemError::Memory),
+        Err(ReadError::Fault(fault)) => Err(ProblemError::At {
+            at: text.len().saturating_sub(fault.left) as u64,
+            kind: fault.kind,
+        }),
+    }
+}
+
+// Notes the name of an entry, and counts it where it is a conjecture.
+fn note_entry(
+    names: &mut BTreeSet<Text>,
+    conjectures: &mut usize,
+    entry: &Entry,
+) -> Result<(), AllocError>
+    ensures named { OnOk result ((x : List ℕ) → contains text_cmp names.new x ≡ (if eq_by_cmp text_cmp entry.now.name x then true else contains text_cmp names.old x)) }
+    ensures counted { OnOk result (conjectures.new ≡ counted entry.now.role conjectures.old) }
+{
+    if entry.role == Role::Conjecture {
+        *conjectures = conjectures.checked_add(1).ok_or(AllocError)?;
+    }
+    names.insert(entry.name.copy()?)?;
+    Ok(())
+}
+
+// The entries that the text is, which are well formed.
+fn formed_entries(alloc: Global, text: &[u8]) -> Result<Vec<Entry>, ReadError>
+    ensures value { EntriesRead (λ v. v.items) text.now result }
+    ensures formed { IfOk result (λ v. AreFormedEntries v.items) }
+{
+    read_entries(alloc, text)
+}
+
+// The entries that the text is.
+fn read_entries(alloc: Global, text: &[u8]) -> Result<Vec<Entry>, ReadError>
+    ensures { EntriesRead (λ v. v.items) text.now result }
+{
+    let mut entries: Vec<Entry> = Vec::new(alloc);
+    let mut names: BTreeSet<Text> = BTreeSet::new(alloc);
+    let mut conjectures = 0;
+    let mut rest = text;
+    loop {
+        let (_, front) = next_token(alloc, rest)?;
+        if front.is_empty() {
+            return Ok(entries);
+        }
+        let (entry, behind) = read_entry(alloc, &names, conjectures, front)?;
+        note_entry(&mut names, &mut conjectures, &entry)?;
+        entries.push(entry)?;
+        rest = behind;
+    }
+}

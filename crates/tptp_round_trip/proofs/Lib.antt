@@ -1,0 +1,9 @@
+pub mod Tokens
+pub mod Opened
+pub mod TermTokens
+pub mod FormulaTokens
+pub mod Bytes
+pub mod Texts
+pub mod Names
+pub mod RoundTrip
+pub mod Exact

@@ -1,0 +1,167 @@
+-- A formula with the printed variables for the bound ones of the quantifiers around it, and binding of such a variable.
+--     m      how many quantifiers stand around, j of them in the formula itself
+use Rattle.std.proofs.Common.{◌≡◌, inl, inr, ℕ, ◌+◌, ◌-◌, ◌^◌, ◌<◌, ◌≤◌, Bool, true, false, eqb, ltb, ◌&&◌, ◌||◌, if◌then◌else◌, refl, sym, ap, ◌∙◌, arith}
+use Rattle.std.specs.Ordering.{eq_by_cmp}
+use Rattle.std.proofs.lemmas.Bool.Decides.{nat_tests}
+use Rattle.std.proofs.lemmas.Bool.{and_parts, cases_lt}
+use Rattle.std.specs.Cmp.{unsigned_tied}
+use Rattle.fol.specs.declared.symbols.Var.TheVariants.{Num}
+use Rattle.fol.specs.Syntax.{Term, free, bound, app, Terms, nil, cons, Formula, atom, top, bot, not, and, or, imp, all, ex}
+use Rattle.fol.specs.Order.{var_cmp}
+use Rattle.fol.specs.Formed.{count_terms, is_formed_term_at, are_formed_terms_at, is_formed_at}
+use Rattle.free_variables.specs.Occurrence.{is_free_in, is_free_in_term, is_free_in_terms}
+use Rattle.substitution.specs.Instance.{bind_term_at, bind_terms_at, bind_at}
+
+abbrev mutual
+  pub opened_term : (ℕ → ℕ) → ℕ → ℕ → Term → Term
+  opened_term names m j (free v) = free v
+  opened_term names m j (bound i) = if ltb i j then bound i else free (Num (names (m - (i + 1))))
+  opened_term names m j (app s ts) = app s (opened_terms names m j ts)
+
+  pub opened_terms : (ℕ → ℕ) → ℕ → ℕ → Terms → Terms
+  opened_terms names m j nil = nil
+  opened_terms names m j (cons t ts) = cons (opened_term names m j t) (opened_terms names m j ts)
+
+abbrev pub opened : (ℕ → ℕ) → ℕ → ℕ → Formula → Formula
+opened names m j (atom s ts) = atom s (opened_terms names m j ts)
+opened names m j top = top
+opened names m j bot = bot
+opened names m j (not f) = not (opened names m j f)
+opened names m j (and f g) = and (opened names m j f) (opened names m j g)
+opened names m j (or f g) = or (opened names m j f) (opened names m j g)
+opened names m j (imp f g) = imp (opened names m j f) (opened names m j g)
+opened names m j (all f) = all (opened names (m + 1) (j + 1) f)
+opened names m j (ex f) = ex (opened names (m + 1) (j + 1) f)
+
+-- parts of conjunctions and disjunctions of tests
+pub both_first : (a b : Bool) → (a && b) ≡ true → a ≡ true
+both_first a b h = (and_parts a b h).0
+
+pub both_second : (a b : Bool) → (a && b) ≡ true → b ≡ true
+both_second a b h = (and_parts a b h).1
+
+pub neither_first : (a b : Bool) → (a || b) ≡ false → a ≡ false
+neither_first true b e = e
+neither_first false b e = refl
+
+pub neither_second : (a b : Bool) → (a || b) ≡ false → b ≡ false
+neither_second true b e = cc
+neither_second false b e = e
+
+pub count-opened : (names : ℕ → ℕ) (m j : ℕ) (ts : Terms) → count_terms (opened_terms names m j ts) ≡ count_terms ts
+count-opened names m j nil = refl
+count-opened names m j (cons t ts) = ap (λ n. n + 1) (count-opened names m j ts)
+
+-- what has no index of a quantifier outside stays
+
+module _ (names : ℕ → ℕ) where
+  stays : (i m j w : ℕ) → (ltb i j && ltb i w) ≡ true → (if ltb i j then bound i else free (Num (names (m - (i + 1))))) ≡ bound i
+  stays i m j w h = let below : ltb i j ≡ true = both_first (ltb i j) (ltb i w) h in rw below refl
+
+  mutual
+    pub opened_closed_term : (t : Term) (m j : ℕ) → is_formed_term_at j t ≡ true → opened_term names m j t ≡ t
+    opened_closed_term (free v) m j h = refl
+    opened_closed_term (bound i) m j h = stays i m j (2 ^ 32) h
+    opened_closed_term (app s ts) m j h = ap (app s) (opened_closed_terms ts m j (both_second _ (are_formed_terms_at j ts) h))
+
+    opened_closed_terms : (ts : Terms) (m j : ℕ) → are_formed_terms_at j ts ≡ true → opened_terms names m j ts ≡ ts
+    opened_closed_terms nil m j h = refl
+    opened_closed_terms (cons t ts) m j h =
+        λ i. cons (opened_closed_term t m j (both_first _ (are_formed_terms_at j ts) h) i) (opened_closed_terms ts m j (both_second (is_formed_term_at j t) _ h) i)
+
+  pub opened_closed : (f : Formula) (m j : ℕ) → is_formed_at j f ≡ true → opened names m j f ≡ f
+  opened_closed (atom s ts) m j h = ap (atom s) (opened_closed_terms ts m j (both_second _ (are_formed_terms_at j ts) h))
+  opened_closed top m j h = refl
+  opened_closed bot m j h = refl
+  opened_closed (not f) m j h = ap not (opened_closed f m j h)
+  opened_closed (and f g) m j h = λ i. and (opened_closed f m j (both_first _ (is_formed_at j g) h) i) (opened_closed g m j (both_second (is_formed_at j f) _ h) i)
+  opened_closed (or f g) m j h = λ i. or (opened_closed f m j (both_first _ (is_formed_at j g) h) i) (opened_closed g m j (both_second (is_formed_at j f) _ h) i)
+  opened_closed (imp f g) m j h = λ i. imp (opened_closed f m j (both_first _ (is_formed_at j g) h) i) (opened_closed g m j (both_second (is_formed_at j f) _ h) i)
+  opened_closed (all f) m j h = ap all (opened_closed f (m + 1) (j + 1) h)
+  opened_closed (ex f) m j h = ap ex (opened_closed f (m + 1) (j + 1) h)
+
+-- binding the variable of the innermost quantifier around
+
+abbrev pub AreRising : (ℕ → ℕ) → Type 0
+AreRising names = (c d : ℕ) → c < d → names c < names d
+
+same_test : (n : ℕ) → eqb n n ≡ true
+same_test n = grind (arith, nat_tests)
+
+other_test : (n p : ℕ) → p < n → eqb n p ≡ false
+other_test n p l = grind (arith, nat_tests)
+
+test_true : (a b : ℕ) → a < b → ltb a b ≡ true
+test_true a b l = grind (arith, nat_tests)
+
+test_false : (a b : ℕ) → b ≤ a → ltb a b ≡ false
+test_false a b l = grind (arith, nat_tests)
+
+from_test : (a b : ℕ) → ltb a b ≡ true → a < b
+from_test a b h = grind (arith, nat_tests)
+
+pub same_number : (n : ℕ) → eq_by_cmp var_cmp (Num n) (Num n) ≡ true
+same_number n = unsigned_tied n n ∙ same_test n
+
+other_number : (n p : ℕ) → p < n → eq_by_cmp var_cmp (Num n) (Num p) ≡ false
+other_number n p l = unsigned_tied n p ∙ other_test n p l
+
+module _ (names : ℕ → ℕ) (rising : AreRising names) where
+  bound_same : (i j d k : ℕ) → d ≡ k → i ≡ j → bind_term_at (Num (names k)) j (free (Num (names d))) ≡ bound i
+  bound_same i j d k level index =
+      ap (λ (n : ℕ). bind_term_at (Num (names k)) j (free (Num (names n)))) level ∙ (rw (same_number (names k)) (ap bound (sym index)))
+
+  bound_other : (j d k : ℕ) → d < k → bind_term_at (Num (names k)) j (free (Num (names d))) ≡ free (Num (names d))
+  bound_other j d k lower = let apart : eq_by_cmp var_cmp (Num (names k)) (Num (names d)) ≡ false = other_number (names k) (names d) (rising d k lower) in rw apart refl
+
+  bound_index : (i k m j w : ℕ) → k + (j + 1) ≡ m → (ltb i m && ltb i w) ≡ true
+      → bind_term_at (Num (names k)) j (if ltb i j then bound i else free (Num (names (m - (i + 1))))) ≡ (if ltb i (j + 1) then bound i else free (Num (names (m - (i + 1)))))
+  bound_index i k m j w e h =
+      let fits : i < m = from_test i m (both_first (ltb i m) (ltb i w) h) in
+      elim (cases_lt i j) [
+        | inl lower ↦ let p : ltb i j ≡ true = test_true i j lower in let q : ltb i (j + 1) ≡ true = test_true i (j + 1) (omega arith) in rw (p, q) refl
+        | inr upper ↦ elim (cases_lt i (j + 1)) [
+          | inl last ↦
+              let p : ltb i j ≡ false = test_false i j upper in
+              let q : ltb i (j + 1) ≡ true = test_true i (j + 1) last in
+              rw (p, q) (bound_same i j (m - (i + 1)) k (omega arith) (omega arith))
+          | inr above ↦
+              let p : ltb i j ≡ false = test_false i j upper in
+              let q : ltb i (j + 1) ≡ false = test_false i (j + 1) above in
+              rw (p, q) (bound_other j (m - (i + 1)) k (omega arith))
+        ]
+      ]
+
+  mutual
+    bind_opened_term : (t : Term) (k m j : ℕ) → k + (j + 1) ≡ m → is_formed_term_at m t ≡ true → is_free_in_term (Num (names k)) t ≡ false
+        → bind_term_at (Num (names k)) j (opened_term names m j t) ≡ opened_term names m (j + 1) t
+    bind_opened_term (free v) k m j e h apart = rw apart refl
+    bind_opened_term (bound i) k m j e h apart = bound_index i k m j (2 ^ 32) e h
+    bind_opened_term (app s ts) k m j e h apart = ap (app s) (bind_opened_terms ts k m j e (both_second _ (are_formed_terms_at m ts) h) apart)
+
+    bind_opened_terms : (ts : Terms) (k m j : ℕ) → k + (j + 1) ≡ m → are_formed_terms_at m ts ≡ true → is_free_in_terms (Num (names k)) ts ≡ false
+        → bind_terms_at (Num (names k)) j (opened_terms names m j ts) ≡ opened_terms names m (j + 1) ts
+    bind_opened_terms nil k m j e h apart = refl
+    bind_opened_terms (cons t ts) k m j e h apart =
+        λ i. cons (bind_opened_term t k m j e (both_first _ (are_formed_terms_at m ts) h) (neither_first _ (is_free_in_terms (Num (names k)) ts) apart) i)
+        (bind_opened_terms ts k m j e (both_second (is_formed_term_at m t) _ h) (neither_second (is_free_in_term (Num (names k)) t) _ apart) i)
+
+  abbrev Bound : Formula → Type 0
+  Bound f = (k m j : ℕ) → k + (j + 1) ≡ m → is_formed_at m f ≡ true → is_free_in (Num (names k)) f ≡ false → bind_at (Num (names k)) j (opened names m j f) ≡ opened names m (j + 1) f
+
+  pub bind_opened : (f : Formula) → Bound f
+  bind_opened (atom s ts) k m j e h apart = ap (atom s) (bind_opened_terms ts k m j e (both_second _ (are_formed_terms_at m ts) h) apart)
+  bind_opened top k m j e h apart = refl
+  bind_opened bot k m j e h apart = refl
+  bind_opened (not f) k m j e h apart = ap not (bind_opened f k m j e h apart)
+  bind_opened (and f g) k m j e h apart =
+      λ i. and (bind_opened f k m j e (both_first _ (is_formed_at m g) h) (neither_first _ (is_free_in (Num (names k)) g) apart) i)
+      (bind_opened g k m j e (both_second (is_formed_at m f) _ h) (neither_second (is_free_in (Num (names k)) f) _ apart) i)
+  bind_opened (or f g) k m j e h apart =
+      λ i. or (bind_opened f k m j e (both_first _ (is_formed_at m g) h) (neither_first _ (is_free_in (Num (names k)) g) apart) i)
+      (bind_opened g k m j e (both_second (is_formed_at m f) _ h) (neither_second (is_free_in (Num (names k)) f) _ apart) i)
+  bind_opened (imp f g) k m j e h apart =
+      λ i. imp (bind_opened f k m j e (both_first _ (is_formed_at m g) h) (neither_first _ (is_free_in (Num (names k)) g) apart) i)
+      (bind_opened g k m j e (both_second (is_formed_at m f) _ h) (neither_second (is_free_in (Num (names k)) f) _ apart) i)
+  bind_opened (all f) k m j e h apart = ap all (bind_opened f k (m + 1) (j + 1) (omega arith) h apart)
+  bind_opened (ex f) k m j e h apart = ap ex (bind_opened f k (m + 1) (j + 1) (omega arith) h apart)

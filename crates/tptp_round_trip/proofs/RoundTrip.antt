@@ -1,0 +1,167 @@
+-- Canonical texts are read as what they were printed from.
+use Rattle.std.proofs.Common.{◌≡◌, ℕ, ◌+◌, ◌^◌, ◌<◌, ◌≤◌, suc, Bool, true, false, if◌then◌else◌, List, [], ◌∷◌, length, Result, Ok, Err, IfOk, refl, sym, ap, subst, append-nil, lit≤, arith}
+use Rattle.std.specs.List.{filter_map}
+use Rattle.fol.specs.declared.symbols.Var.{Var}
+use Rattle.fol.specs.declared.symbols.Var.TheVariants.{Word, Num}
+use Rattle.fol.specs.Syntax.{Term, Formula, atom, top, bot, not, and, or, imp, all, ex}
+use Rattle.fol.specs.Formed.{IsFormed, IsFormedTerm}
+use Rattle.finite.specs.Finite as set
+use Rattle.free_variables.specs.Occurrence.{is_free_in, vars_formula}
+use Rattle.tptp_tokens.specs.declared.tokens.Token.{Token}
+use Rattle.tptp_tokens.specs.declared.tokens.TextKind.{TextKind}
+use Rattle.tptp_tokens.specs.Stream.{Stream, ends, stream_of, Begins, here, behind}
+use Rattle.tptp_read.specs.declared.errors.TextError.{TextError}
+use Rattle.tptp_read.specs.Given.{GivesText}
+use Rattle.tptp_read.specs.declared.state.Limits.{Limits}
+use Rattle.tptp_read.specs.declared.state.Outcome.{Outcome}
+use Rattle.tptp_read.specs.declared.state.Outcome.TheVariants.{Formula as FormulaRead, Term as TermRead}
+use Rattle.tptp_read.specs.declared.state.Part.TheVariants.{First}
+use Rattle.tptp_read.specs.declared.state.Side.TheVariants.{Whole}
+use Rattle.tptp_read.specs.declared.state.TheConstants.{LIMITS}
+use Rattle.tptp_read.specs.Grammar.{IsTerm, IsFormula, formulas, terms}
+use Rattle.tptp_read.specs.Machine.{Reading, start, step, ending, read_tokens, ◌>>=◌}
+use Rattle.tptp_read.specs.Texts.{placed, read, IsFormulaText, IsTermText}
+use Rattle.tptp_read.proofs.Faults.{text_ok, one_reading}
+use Rattle.tptp_print.specs.Choice.{number_of, numbers_of, outside}
+use Rattle.tptp_print.specs.Canonical.{is_equality, is_binary, is_and, is_or, term_text, formula_text, quantifier_depth, canonical, canonical_term}
+use Rattle.tptp_round_trip.specs.Limits.{term_levels, formula_levels, unit_levels, left_of_and_levels, left_of_or_levels, negation_levels, IsWithinLimits, IsTermWithinLimits, AreNumbersInRange, AreTermNumbersInRange}
+use Rattle.tptp_round_trip.proofs.Tokens.{term_tokens, formula_tokens}
+use Rattle.tptp_round_trip.proofs.Opened.{opened_closed, opened_closed_term}
+use Rattle.tptp_round_trip.proofs.TermTokens.{term_reads}
+use Rattle.tptp_round_trip.proofs.FormulaTokens.{formula_reads}
+use Rattle.tptp_round_trip.proofs.Bytes.{Lexes, nothing_lexes}
+use Rattle.tptp_round_trip.proofs.Texts.{term_spelt, formula_spelt}
+use Rattle.tptp_round_trip.proofs.Exact.{term_within, formula_within}
+use Rattle.tptp_round_trip.proofs.Names.{at_most, names_rise, names_apart}
+
+formula_lexes : (names : ℕ → ℕ) (f : Formula) → IsFormed f → ((n : ℕ) → is_free_in (Num n) f ≡ true → n < 2 ^ 64) → ((d : ℕ) → d < quantifier_depth f → names d < 2 ^ 64) → Lexes (formula_text names 0 f) (formula_tokens names 0 f [])
+formula_lexes names f formed short few =
+    subst (λ (w : List ℕ). Lexes w (formula_tokens names 0 f [])) (append-nil (formula_text names 0 f))
+    (formula_spelt names (quantifier_depth f) few 0 f (omega arith) formed short [] [] refl nothing_lexes)
+
+pub formula_is_read : (f : Formula) → IsFormed f → IsWithinLimits f → AreNumbersInRange f → IsFormulaText (canonical f) f
+unfolding canonical
+formula_is_read f formed fits short =
+    let names = outside (numbers_of (vars_formula f set.empty)) in
+    let text = formula_lexes names f formed short.0 short.1 0 in
+    record {
+      tokens = formula_tokens names 0 f [];
+      length = text.0;
+      whole = text.1;
+      reads = subst (λ (g : Formula). IsFormula LIMITS 200 (formula_tokens names 0 f []) g []) (opened_closed names f 0 0 formed)
+          (formula_reads LIMITS names (names_rise f) (lit≤ tt) 0 f 200 [] formed (names_apart f) fits.1 fits.0);
+    }
+
+term_lexes : (names : ℕ → ℕ) (t : Term) → IsFormedTerm t → AreTermNumbersInRange t → Lexes (term_text names 0 t) (term_tokens names 0 t [])
+term_lexes names t formed short =
+    subst (λ (w : List ℕ). Lexes w (term_tokens names 0 t [])) (append-nil (term_text names 0 t))
+    (term_spelt names 0 (λ d l. absurd (omega arith)) 0 (omega arith) t formed short [] [] refl nothing_lexes)
+
+pub term_is_read : (t : Term) → IsFormedTerm t → IsTermWithinLimits t → AreTermNumbersInRange t → IsTermText (canonical_term t) t
+unfolding canonical_term
+term_is_read t formed fits short =
+    let names : ℕ → ℕ = λ d. d in
+    let text = term_lexes names t formed short 0 in
+    record {
+      tokens = term_tokens names 0 t [];
+      length = text.0;
+      whole = text.1;
+      reads = subst (λ (u : Term). IsTerm LIMITS 200 (term_tokens names 0 t []) u []) (opened_closed_term names t 0 0 formed) (term_reads LIMITS names 0 t 200 [] fits formed);
+    }
+
+-- what is read shows that the formula is within the limits
+
+end_read : (lim : Limits) (r : Reading) (at : ℕ) (w : Outcome) → read lim r (ends at) ≡ Ok w → ending r ≡ Ok w
+end_read lim r at w h =
+    elim (ending r) as (λ (x : Result Outcome TextKind). placed at x ≡ Ok w → x ≡ Ok w) [
+      | Ok v ↦ λ e. let same : v ≡ w = cc in ap (λ (z : Outcome). Ok z) same
+      | Err k ↦ λ e. cc
+    ] h
+
+tokens_read : (lim : Limits) (w : Outcome) (st rest : Stream) (ts : List Token) → Begins st ts rest → (end : ℕ) → rest ≡ ends end → (r : Reading) → read lim r st ≡ Ok w → read_tokens lim r ts ≡ Ok w
+tokens_read lim w st rest ts (here st') end is r h = end_read lim r end w (subst (λ (z : Stream). read lim r z ≡ Ok w) is h)
+tokens_read lim w st rest ts (behind at t st' rest' ts' begins) end is r h =
+    elim (step lim r t) as (λ (x : Result Reading TextKind). (placed at x >>= λ (s : Reading). read lim s st') ≡ Ok w → (x >>= λ (s : Reading). read_tokens lim s ts') ≡ Ok w) [
+      | Ok s ↦ λ e. tokens_read lim w st' rest' ts' begins end is s e
+      | Err k ↦ λ e. cc
+    ] h
+
+pub formula_fits : (f g : Formula) → IsFormed f → AreNumbersInRange f → IsFormulaText (canonical f) g → IsWithinLimits f
+unfolding canonical
+formula_fits f g formed short text =
+    let names = outside (numbers_of (vars_formula f set.empty)) in
+    let lexes = formula_lexes names f formed short.0 short.1 0 in
+    let answer : read LIMITS (start formulas) (stream_of (formula_text names 0 f)) ≡ Ok (FormulaRead g) = text_ok LIMITS formulas (stream_of (formula_text names 0 f)) (FormulaRead g) text in
+    let reach = tokens_read LIMITS (FormulaRead g) (stream_of (formula_text names 0 f)) (ends lexes.0) (formula_tokens names 0 f []) lexes.1 lexes.0 refl (start formulas) answer in
+    let shown = formula_within LIMITS names (FormulaRead g) (names_rise f) (lit≤ tt) f [] formed (names_apart f) reach in
+    let levels : 0 + formula_levels f ≤ 200 = shown.0 in
+    (omega arith, shown.1)
+
+pub formula_only : (f g : Formula) → IsFormed f → AreNumbersInRange f → IsFormulaText (canonical f) g → g ≡ f
+formula_only f g formed short text =
+    let same = one_reading LIMITS formulas (stream_of (canonical f)) (FormulaRead g) (FormulaRead f) text (formula_is_read f formed (formula_fits f g formed short text) short) in cc
+
+pub term_fits : (t u : Term) → IsFormedTerm t → AreTermNumbersInRange t → IsTermText (canonical_term t) u → IsTermWithinLimits t
+unfolding canonical_term
+term_fits t u formed short text =
+    let names : ℕ → ℕ = λ d. d in
+    let lexes = term_lexes names t formed short 0 in
+    let answer : read LIMITS (start terms) (stream_of (term_text names 0 t)) ≡ Ok (TermRead u) = text_ok LIMITS terms (stream_of (term_text names 0 t)) (TermRead u) text in
+    let reach = tokens_read LIMITS (TermRead u) (stream_of (term_text names 0 t)) (ends lexes.0) (term_tokens names 0 t []) lexes.1 lexes.0 refl (start terms) answer in
+    let levels : 0 + term_levels t ≤ 200 = term_within LIMITS names (TermRead u) 0 t Whole [] First [] [] (lit≤ tt) formed reach in
+    omega arith
+
+pub term_only : (t u : Term) → IsFormedTerm t → AreTermNumbersInRange t → IsTermText (canonical_term t) u → u ≡ t
+term_only t u formed short text =
+    let same = one_reading LIMITS terms (stream_of (canonical_term t)) (TermRead u) (TermRead t) text (term_is_read t formed (term_fits t u formed short text) short) in cc
+
+-- the reader's answer to a canonical text
+
+pub back_same : (bytes : List ℕ) (f : Formula) (r : Result Formula TextError) → bytes ≡ canonical f → IsFormed f → IfOk r (λ g. IsFormulaText bytes g) → AreNumbersInRange f → IfOk r (λ g. g ≡ f)
+back_same bytes f (Ok g) is formed text short = formula_only f g formed short (subst (λ (x : List ℕ). IsFormulaText x g) is text)
+back_same bytes f (Err e) is formed text short = tt
+
+pub back_read : (bytes : List ℕ) (f : Formula) (r : Result Formula TextError) → bytes ≡ canonical f → IsFormed f → ((g : Formula) → IsFormulaText bytes g → GivesText (λ h. h) r (Ok g)) → IsWithinLimits f → AreNumbersInRange f
+    → GivesText (λ h. h) r (Ok f)
+back_read bytes f r is formed only fits short = only f (subst (λ (x : List ℕ). IsFormulaText x f) (sym is) (formula_is_read f formed fits short))
+
+-- each quantifier is a level
+
+in_unit : (f : Formula) (n : ℕ) → n ≤ unit_levels f n
+in_unit f n = elim (is_binary f) as (λ (b : Bool). n ≤ (if b then suc n else n)) [ true ↦ omega arith | false ↦ omega arith ]
+
+in_left_of_and : (f : Formula) (n : ℕ) → n ≤ left_of_and_levels f n
+in_left_of_and f n = elim (is_and f) as (λ (b : Bool). n ≤ (if b then n else unit_levels f n)) [ true ↦ omega arith | false ↦ in_unit f n ]
+
+in_left_of_or : (f : Formula) (n : ℕ) → n ≤ left_of_or_levels f n
+in_left_of_or f n = elim (is_or f) as (λ (b : Bool). n ≤ (if b then n else unit_levels f n)) [ true ↦ omega arith | false ↦ in_unit f n ]
+
+in_negation : (f : Formula) (n : ℕ) → n ≤ negation_levels f n
+in_negation (atom s ts) n = elim (is_equality s ts) as (λ (b : Bool). n ≤ (if b then n else suc n)) [ true ↦ omega arith | false ↦ omega arith ]
+in_negation f n = omega (arith, in_unit f n)
+
+quantifiers_are_levels : (f : Formula) → quantifier_depth f ≤ formula_levels f
+quantifiers_are_levels (atom s ts) = omega arith
+quantifiers_are_levels top = omega arith
+quantifiers_are_levels bot = omega arith
+quantifiers_are_levels (not f) = omega (arith, quantifiers_are_levels f, in_negation f (formula_levels f))
+quantifiers_are_levels (and f g) = omega (arith, quantifiers_are_levels f, quantifiers_are_levels g, in_left_of_and f (formula_levels f), in_unit g (formula_levels g))
+quantifiers_are_levels (or f g) = omega (arith, quantifiers_are_levels f, quantifiers_are_levels g, in_left_of_or f (formula_levels f), in_unit g (formula_levels g))
+quantifiers_are_levels (imp f g) = omega (arith, quantifiers_are_levels f, quantifiers_are_levels g, in_unit f (formula_levels f), in_unit g (formula_levels g))
+quantifiers_are_levels (all f) = omega (arith, quantifiers_are_levels f, in_unit f (formula_levels f))
+quantifiers_are_levels (ex f) = omega (arith, quantifiers_are_levels f, in_unit f (formula_levels f))
+
+-- there are no more numbered variables than variables
+fewer_numbers : (vs : List Var) → length (filter_map number_of vs) ≤ length vs
+fewer_numbers [] = omega arith
+fewer_numbers (Word x ∷ vs) = omega (arith, fewer_numbers vs)
+fewer_numbers (Num n ∷ vs) = omega (arith, fewer_numbers vs)
+
+chosen_short : (ns : List ℕ) (d k n w : ℕ) → d < k → k ≤ 200 → length ns ≤ n → n < 2 ^ 63 → outside ns d < 2 ^ 64
+chosen_short ns d k n w l few fewer small = omega (arith, at_most ns d)
+
+-- a formula within the limits with fewer than 2 ^ 63 free variables, whose numbers are short, is printed with short numbers
+pub few_variables : (f : Formula) → IsWithinLimits f → length (set.listing (vars_formula f set.empty)) < 2 ^ 63 → ((n : ℕ) → is_free_in (Num n) f ≡ true → n < 2 ^ 64) → AreNumbersInRange f
+few_variables f fits few short =
+    let vs = set.listing (vars_formula f set.empty) in
+    (short, λ d l. chosen_short (filter_map number_of vs) d (quantifier_depth f) (length vs) 0 l (omega (arith, quantifiers_are_levels f, fits.0)) (fewer_numbers vs) few)
