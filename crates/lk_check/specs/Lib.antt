@@ -1,0 +1,3 @@
+pub mod Checking
+pub mod StepTrees
+pub mod Admission

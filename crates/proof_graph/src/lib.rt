@@ -1,0 +1,19 @@
+//! Proofs as shared trees: each node stands once, and a reference to it means a valid tree.
+#![tactic(auto)]
+
+mod graph;
+mod index;
+mod key;
+mod node;
+mod reference;
+mod tree;
+
+pub use graph::{Graph, GraphPass};
+pub use key::Key;
+pub use node::Node;
+pub use reference::ProofRef;
+
+#[cfg(test)]
+mod samples;
+#[cfg(test)]
+mod tests;

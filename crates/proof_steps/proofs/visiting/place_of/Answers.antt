@@ -1,0 +1,26 @@
+-- The tree is at the place of its node, or it is new.
+use Rattle.std.proofs.Common.{◌≡◌, [], ◌∷◌, ◌++◌, refl, sym, ◌∙◌}
+use Rattle.std.specs.Prelude.{slice_get}
+use Rattle.proof_steps.proofs.Standing.{get_last}
+use Rattle.proof_steps.proofs.Appending.{appended_new}
+use Rattle.proof_steps.proofs.Visits.{found_tree, found_known}
+use Rattle.proof_steps.proofs.visiting.place_of.Goals as goal
+
+pub returns-in-Some-clause-place : goal.returns-in-Some-clause-place
+returns-in-Some-clause-place c =
+    found_tree c.args.listing.now.trees c.known.ensures.closed c.args.proof.now.tree c.args.key c.in-Some.place c.requires.premises c.requires.key c.in-Some.ensures.found
+
+pub returns-in-Some-clause-trees : goal.returns-in-Some-clause-trees
+returns-in-Some-clause-trees c =
+    found_known c.args.listing.now.trees c.args.proof.now.tree c.in-Some.place
+    (found_tree c.args.listing.now.trees c.known.ensures.closed c.args.proof.now.tree c.args.key c.in-Some.place c.requires.premises c.requires.key c.in-Some.ensures.found)
+
+pub returns-in_ok-push-in-None-clause-trees : goal.returns-in_ok-push-in-None-clause-trees
+returns-in_ok-push-in-None-clause-trees c =
+    let pushed : c.push.new.self.trees ≡ c.args.listing.now.trees ++ c.args.proof.now.tree ∷ [] = rw c.in_ok-keep-in-None.ensures at c.in_ok-push-in-None.ensures.ok in
+    pushed ∙ sym (appended_new c.args.listing.now.trees c.args.proof.now.tree (λ there. c.in-None.ensures.absent refl c.args.proof.now.tree there (sym c.requires.key)))
+
+pub returns-in_ok-push-in-None-clause-place : goal.returns-in_ok-push-in-None-clause-place
+returns-in_ok-push-in-None-clause-place c =
+    let pushed : c.push.new.self.trees ≡ c.args.listing.now.trees ++ c.args.proof.now.tree ∷ [] = rw c.in_ok-keep-in-None.ensures at c.in_ok-push-in-None.ensures.ok in
+    (λ i. slice_get (pushed i) (c.len-place.ensures i)) ∙ get_last c.args.listing.now.trees c.args.proof.now.tree

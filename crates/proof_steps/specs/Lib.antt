@@ -1,0 +1,5 @@
+pub mod Counts
+pub mod Subtrees
+pub mod Places
+pub mod Listed
+pub mod Kept

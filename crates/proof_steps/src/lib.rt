@@ -1,0 +1,15 @@
+//! Proofs as lists of steps, and counts of nodes. Each distinct subtree is looked at once.
+#![tactic(auto)]
+
+mod counting;
+mod listing;
+mod step_list;
+mod visiting;
+
+pub use counting::{cuts, quants, size};
+pub use step_list::{first_cut, nodes, steps};
+
+#[cfg(test)]
+mod samples;
+#[cfg(test)]
+mod tests;
