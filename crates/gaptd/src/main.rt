@@ -7,6 +7,19 @@ use std::alloc::AllocError;
 use std::env;
 use std::io::{self, ErrorKind};
 use std::process::ExitCode;
+use std::thread::{Builder, Promise};
+
+/// The bytes of stack that the server asks for, the most first. Formulas, terms and proofs may nest as deeply as a line of
+/// input is long, and the system gives memory only to the part of a stack that is used.
+const STACK_SIZES: [usize; 4] = [4 << 30, 1 << 30, 256 << 20, 64 << 20];
+
+/// What is known of the status that the server's thread ends with: nothing.
+#[derive(Drop)]
+struct AnyStatus;
+
+impl Promise<u8> for AnyStatus {
+    ghost kept_by = { λ _ _. Unit {0} };
+}
 
 /// The words after the program's name.
 fn words(rt: &HostRuntime) -> io::Result<Vec<String>> {
@@ -24,6 +37,7 @@ fn no_word(rt: &HostRuntime) -> Result<Vec<String>, AllocError> {
     Ok(words)
 }
 
+/// Runs the server in a thread with a stack as large as the system gives, or here where it gives no such thread.
 fn main(rt: HostRuntime) -> ExitCode {
     let words = match words(&rt) {
         Ok(words) => words,
@@ -33,15 +47,27 @@ fn main(rt: HostRuntime) -> ExitCode {
         },
         Err(_) => return ExitCode::from(5),
     };
+    let alloc = rt.alloc();
     let mut source = StdSource::new(rt.stdin());
     let mut sink = StdSink::new(rt.stdout());
     let mut notes = StdSink::new(rt.stderr());
-    ExitCode::from(top(
-        rt.alloc(),
+    let mut serve = move || top(
+        &rt,
+        alloc,
         &words,
         &mut source,
         &mut sink,
         &mut notes,
         &NoGate,
-    ))
+    );
+    for size in STACK_SIZES {
+        match Builder::new()
+            .stack_size(size)
+            .spawn_with(&rt, AnyStatus, serve)
+        {
+            Ok(thread) => return ExitCode::from(thread.join(&rt)),
+            Err(error) => serve = error.value,
+        }
+    }
+    ExitCode::from(serve())
 }

@@ -1,19 +1,27 @@
--- The fields of a JSON object, and what reading one gives.
-use Rattle.std.specs.Prelude.{◌≡◌, ℕ, List, [], ◌∷◌, Option, Some, None, option_and_then, option_map, Result, Ok, Err}
+-- The fields of a JSON object: reading one gives a value or a fault. Faults are met in the order of reading, and the first is named.
+use Rattle.std.specs.Prelude.{◌≡◌, ℕ, suc, List, [], ◌∷◌, Option, Some, None, option_and_then, option_map, Result, Ok, Err}
 use Rattle.serde_json.specs.Data.{Data, Items, no_items, item}
 use Rattle.serde_json.specs.Find.{get, as_str, as_array, as_number, as_u64}
+use Rattle.job_lang.specs.declared.places.Place.{Place}
+use Rattle.job_lang.specs.declared.reading.JobCause.{JobCause}
+use Rattle.job_lang.specs.declared.reading.JobCause.TheVariants.{Field}
 use Rattle.job_lang.specs.declared.reading.ReadError.{ReadError}
-use Rattle.job_lang.specs.declared.reading.ReadError.TheVariants.{NotOfForm, Memory}
+use Rattle.job_lang.specs.declared.reading.ReadError.TheVariants.{Fault, Memory}
+use Rattle.job_lang.specs.Places.{path}
 
--- reading fails: the value isn't of the form, or memory ran out
-abbrev pub Fails : {B : Type 0} → ReadError → Option B → Type 0
-Fails NotOfForm read = read ≡ None
-Fails Memory read = Unit {0}
+-- what reading gives: a value, or the first fault
+abbrev pub Reading : Type 0 → Type 0
+Reading A = Result A JobCause
 
--- the code answers what reading gives, seen by `view`, or that it isn't of the form, unless memory ran out
-abbrev pub Gives : {A B : Type 0} → (A → B) → Result A ReadError → Option B → Type 0
-Gives view (Ok a) read = read ≡ Some (view a)
-Gives view (Err error) read = Fails error read
+infixl 10 ◌>>=◌
+abbrev pub ◌>>=◌ : {A B : Type 0} → Reading A → (A → Reading B) → Reading B
+(Ok a) >>= f = f a
+(Err c) >>= f = Err c
+
+-- a value, or this fault where there is none
+abbrev pub or_fault : {A : Type 0} → JobCause → Option A → Reading A
+or_fault c (Some a) = Ok a
+or_fault c None = Err c
 
 -- the items of an array
 abbrev pub elements : Items → List Data
@@ -21,18 +29,33 @@ elements no_items = []
 elements (item d ds) = d ∷ elements ds
 
 -- a member that is a text
-abbrev pub text_at : List ℕ → Data → Option (List ℕ)
-text_at key d = option_and_then as_str (get key d)
+abbrev pub text_at : Place → List ℕ → Data → Reading (List ℕ)
+text_at place key d = or_fault (Field (path place key None)) (option_and_then as_str (get key d))
 
 -- a member that is a list
-abbrev pub list_at : List ℕ → Data → Option (List Data)
-list_at key d = option_map elements (option_and_then as_array (get key d))
+abbrev pub list_at : Place → List ℕ → Data → Reading (List Data)
+list_at place key d = or_fault (Field (path place key None)) (option_map elements (option_and_then as_array (get key d)))
 
--- a whole number from 0 to 2^64 - 1
-abbrev pub number_of : Data → Option ℕ
-number_of d = option_and_then as_u64 (as_number d)
+-- an element that is a whole number from 0 to 2^64 - 1
+abbrev pub number_of : Place → List ℕ → ℕ → Data → Reading ℕ
+number_of place key i d = or_fault (Field (path place key (Some i))) (option_and_then as_u64 (as_number d))
 
--- what each element gives, where each gives something
-abbrev pub each : {A : Type 0} → (Data → Option A) → List Data → Option (List A)
-each read [] = Some []
-each read (d ∷ ds) = option_and_then (λ a. option_map (λ rest. a ∷ rest) (each read ds)) (read d)
+-- what each element gives; the first of them has the number i
+abbrev pub each : {A : Type 0} → (ℕ → Data → Reading A) → ℕ → List Data → Reading (List A)
+each read i [] = Ok []
+each read i (d ∷ ds) = read i d >>= λ a. each read (suc i) ds >>= λ rest. Ok (a ∷ rest)
+
+-- the code's error is this fault, unless memory ran out
+abbrev pub IsCause : ReadError → JobCause → Type 0
+IsCause Memory c = Unit {0}
+IsCause (Fault d) c = d ≡ c
+
+-- the code fails as reading does, unless memory ran out
+abbrev pub Fails : {A : Type 0} → ReadError → Reading A → Type 0
+Fails Memory read = Unit {0}
+Fails (Fault c) read = read ≡ Err c
+
+-- the code answers what reading gives, seen by `view`, unless memory ran out
+abbrev pub Gives : {A B : Type 0} → (A → B) → Result A ReadError → Reading B → Type 0
+Gives view (Ok a) read = read ≡ Ok (view a)
+Gives view (Err error) read = Fails error read

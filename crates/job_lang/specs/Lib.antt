@@ -1,4 +1,10 @@
 pub mod Names
+pub mod Places
 pub mod Fields
+pub mod Formulas
+pub mod Problems
+pub mod Rules
+pub mod Steps
 pub mod Jobs
 pub mod Replies
+pub mod Shown

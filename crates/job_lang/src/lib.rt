@@ -1,14 +1,26 @@
 //! The language of jobs and replies: a job is a line of JSON, and so is the reply to it.
 #![tactic(auto)]
 
+mod formulas;
 mod jobs;
 mod names;
+mod places;
 mod printing;
+mod problems;
 mod reading;
 mod replies;
+mod rules;
+mod step_values;
+mod steps;
+mod texts;
+mod values;
 
-pub use jobs::{Job, read_job};
+pub use jobs::{Job, JobError, Op, read_job};
 pub use names::{Name, is_name};
+pub use places::Place;
 pub use printing::reply_line;
-pub use reading::ReadError;
+pub use reading::{JobCause, ReadError};
 pub use replies::{Outcome, Reply, StepShown, Summary};
+pub use rules::RuleKind;
+pub use steps::Steps;
+pub use texts::Utf8Text;

@@ -1,40 +1,38 @@
 //! Names of jobs.
-ghost use Rattle.std.specs.Prelude.{◌≡◌, true, IsTrue, IfOk, IfErr};
+ghost use Rattle.std.specs.Prelude.{◌≡◌, true, string_bytes};
 ghost use Rattle.std.specs.List.{list_all};
 ghost use Rattle.job_lang.specs.Names.{is_job_name, is_name_byte as is_in_name};
 
-use fol::Text;
-use std::alloc::{AllocError, Global};
 use std::marker::Model;
 
 /// The name of a job: 1 to 64 bytes, each an ASCII letter, a digit, `_` or `-`.
 #[derive(Debug, Drop)]
 pub struct Name {
-    text: Text,
+    text: String,
 }
 
 impl Model for Name {
-    ghost use Rattle.std.specs.Prelude.{◌≡◌, ℕ, true, List};
+    ghost use Rattle.std.specs.Prelude.{◌≡◌, ℕ, true, List, string_bytes};
     ghost use Rattle.job_lang.specs.Names.{is_job_name};
 
     ghost Value = { List ℕ };
 
-    ghost view = { λ n. n.text };
+    ghost view = { λ n. string_bytes n.text };
 
-    ghost invariant = { λ n. is_job_name n.text ≡ true };
+    ghost invariant = { λ n. is_job_name (string_bytes n.text) ≡ true };
 }
 
 impl Name {
     /// The name with this text, which has to be one.
-    pub fn from_text(text: Text) -> Name
-        requires { is_job_name text ≡ true }
-        ensures { result ≡ text }
+    pub fn from_string(text: String) -> Name
+        requires { is_job_name (string_bytes text) ≡ true }
+        ensures { result ≡ string_bytes text }
     {
         Name { text }
     }
 
     /// The name's text.
-    pub fn text(&self) -> &Text
+    pub fn as_str(&self) -> &str
         ensures text { result.now ≡ self.now }
         ensures is_name { is_job_name self.now ≡ true }
     {

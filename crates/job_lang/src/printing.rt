@@ -1,57 +1,20 @@
 //! Reply lines.
 ghost use Rattle.std.specs.Prelude.{◌≡◌, ◌++◌, [], ◌∷◌, true, false, codes, IfOk, option_copied};
-ghost use Rattle.std.specs.List.{list_all, All};
-ghost use Rattle.finite.specs.Finite as set;
-ghost use Rattle.fol.specs.Formed.{IsFormed, is_printable};
 ghost use Rattle.serde_json.specs.View.{view};
 ghost use Rattle.serde_json.specs.Written.{has_float, compact_text};
-ghost use Rattle.serde_json.specs.Data.{string, null};
-ghost use Rattle.job_lang.specs.Replies.{formula_text as text_of, formulas_data, summary_data, named_fault as named_fault_data, premise_fault as premise_fault_data, step_data, unsupported_data, name_data, ok_data, error_data, outcome_data, reply_data, line_of as line_of_reply};
+ghost use Rattle.job_lang.specs.Replies.{summary_data, entries_data, proves_data, measure_data, named as named_data, plain as plain_data, field_data, text_kind as kind_text, problem_kind as problem_kind_text, formula_data, tptp_data, reading_data, named_fault as named_fault_data, premise_fault as premise_fault_data, step_data, name_data, ok_data, error_data, answer_data, reply_by, reply_data, line_of as line_of_reply};
+ghost use Rattle.job_lang.specs.Shown.{viewed};
 
 use crate::names::Name;
+use crate::reading::JobCause;
 use crate::replies::{Outcome, Reply, StepShown, Summary};
-use fol::{Formula, FormulaNode};
-use lk_rules::RuleFault;
+use crate::step_values::steps_value;
+use crate::values::formulas_value;
+use lk_rules::{RuleFault, Sequent};
 use serde_json::{Value, json};
 use std::alloc::{AllocError, Global};
-
-/// A printable ASCII text as a JSON text.
-fn text_value(alloc: Global, text: &[u8]) -> Result<Value, AllocError>
-    requires { list_all is_printable text.now ≡ true }
-    ensures { IfOk result (λ v. view v ≡ string text.now) }
-{
-    match str::from_utf8(text) {
-        Ok(text) => {
-            let text = String::from_str(alloc, text)?;
-            Ok(Value::String(text))
-        }
-        Err(_) => unreachable!(),
-    }
-}
-
-/// How a propositional constant is printed.
-fn formula_text(formula: &Formula) -> &[u8]
-    requires { IsFormed formula.now }
-    ensures text { result.now ≡ text_of formula.now }
-    ensures printable { list_all is_printable result.now ≡ true }
-{
-    match formula.node() {
-        FormulaNode::Atom(symbol, _) => symbol.name.as_bytes(),
-        _ => b"",
-    }
-}
-
-fn formulas_value(alloc: Global, formulas: &[Formula]) -> Result<Value, AllocError>
-    requires { All IsFormed formulas.now }
-    ensures { IfOk result (λ v. view v ≡ formulas_data formulas.now) }
-{
-    let mut texts = Vec::new(alloc);
-    for formula in formulas {
-        let text = text_value(alloc, formula_text(formula))?;
-        texts.push(text)?;
-    }
-    Ok(Value::Array(texts))
-}
+use tptp_problem::ProblemKind;
+use tptp_tokens::TextKind;
 
 fn summary_value(alloc: Global, summary: &Summary) -> Result<Value, AllocError>
     ensures { IfOk result (λ v. view v ≡ summary_data summary.now) }
@@ -61,6 +24,104 @@ fn summary_value(alloc: Global, summary: &Summary) -> Result<Value, AllocError>
     let cuts = summary.cuts;
     let quants = summary.quants;
     json!(in alloc; {"cuts": cuts, "left": left, "quants": quants, "right": right})
+}
+
+fn entries_value(alloc: Global, entries: u64, sequent: &Sequent) -> Result<Value, AllocError>
+    ensures { IfOk result (λ v. view v ≡ entries_data entries sequent.now) }
+{
+    let left = formulas_value(alloc, sequent.left())?;
+    let right = formulas_value(alloc, sequent.right())?;
+    json!(in alloc; {"entries": entries, "left": left, "right": right})
+}
+
+fn proves_value(alloc: Global, proves: bool) -> Result<Value, AllocError>
+    ensures { IfOk result (λ v. view v ≡ proves_data proves) }
+{
+    json!(in alloc; {"proves": proves})
+}
+
+fn measure_value(
+    alloc: Global,
+    cuts: u64,
+    nodes: u64,
+    quants: u64,
+    size: u64,
+) -> Result<Value, AllocError>
+    ensures { IfOk result (λ v. view v ≡ measure_data cuts nodes quants size) }
+{
+    json!(in alloc; {"cuts": cuts, "nodes": nodes, "quants": quants, "size": size})
+}
+
+fn named(alloc: Global, kind: &str, name: &str) -> Result<Value, AllocError>
+    ensures { IfOk result (λ v. view v ≡ named_data kind.now name.now) }
+{
+    json!(in alloc; {"kind": kind, "name": name})
+}
+
+fn plain(alloc: Global, kind: &str) -> Result<Value, AllocError>
+    ensures { IfOk result (λ v. view v ≡ plain_data kind.now) }
+{
+    json!(in alloc; {"kind": kind})
+}
+
+fn field_value(alloc: Global, field: &str) -> Result<Value, AllocError>
+    ensures { IfOk result (λ v. view v ≡ field_data field.now) }
+{
+    json!(in alloc; {"field": field, "kind": "field"})
+}
+
+fn text_kind(kind: TextKind) -> &'static str
+    ensures { result.now ≡ kind_text kind }
+{
+    match kind {
+        TextKind::Token => "token",
+        TextKind::Expected => "expected",
+        TextKind::Deep => "deep",
+        TextKind::DefinedWord => "defined_word",
+        TextKind::Number => "number",
+        TextKind::Distinct => "distinct",
+        TextKind::OpenQuote => "open_quote",
+        TextKind::OpenComment => "open_comment",
+    }
+}
+
+fn formula_fault(alloc: Global, field: &str, place: u64, what: &str) -> Result<Value, AllocError>
+    ensures { IfOk result (λ v. view v ≡ formula_data field.now place what.now) }
+{
+    json!(in alloc; {"at": place, "field": field, "kind": "formula", "what": what})
+}
+
+fn problem_kind(kind: ProblemKind) -> &'static str
+    ensures { result.now ≡ problem_kind_text kind }
+{
+    match kind {
+        ProblemKind::Text(kind) => text_kind(kind),
+        ProblemKind::Include => "include",
+        ProblemKind::Language => "language",
+        ProblemKind::NameTwice => "name_twice",
+        ProblemKind::Role => "role",
+        ProblemKind::Clause => "clause",
+    }
+}
+
+fn problem_fault(alloc: Global, place: u64, what: &str) -> Result<Value, AllocError>
+    ensures { IfOk result (λ v. view v ≡ tptp_data place what.now) }
+{
+    json!(in alloc; {"at": place, "kind": "tptp", "what": what})
+}
+
+fn reading_value(alloc: Global, cause: &JobCause) -> Result<Value, AllocError>
+    ensures { IfOk result (λ v. view v ≡ reading_data cause.now) }
+{
+    match cause {
+        JobCause::Json => plain(alloc, "json"),
+        JobCause::Field(field) => field_value(alloc, field.as_str()),
+        JobCause::Op => plain(alloc, "op"),
+        JobCause::Formula { field, fault } => {
+            formula_fault(alloc, field.as_str(), fault.at, text_kind(fault.kind))
+        }
+        JobCause::Tptp { at, kind } => problem_fault(alloc, *at, problem_kind(*kind)),
+    }
 }
 
 fn named_fault(alloc: Global, cause: &str, step: u64) -> Result<Value, AllocError>
@@ -88,12 +149,6 @@ fn step_value(alloc: Global, step: u64, cause: StepShown) -> Result<Value, Alloc
     }
 }
 
-fn unsupported_value(alloc: Global) -> Result<Value, AllocError>
-    ensures { IfOk result (λ v. view v ≡ unsupported_data) }
-{
-    json!(in alloc; {"kind": "unsupported"})
-}
-
 fn ok_value(alloc: Global, answer: Value, name: Value, n: u64) -> Result<Value, AllocError>
     ensures { IfOk result (λ v. view v ≡ ok_data (view answer) (view name) n) }
 {
@@ -111,26 +166,47 @@ fn name_value(alloc: Global, name: Option<&Name>) -> Result<Value, AllocError>
 {
     match name {
         None => Ok(Value::Null),
-        Some(name) => text_value(alloc, name.text().as_bytes()),
+        Some(name) => Ok(Value::String(String::from_str(alloc, name.as_str())?)),
     }
 }
 
-fn outcome_value(alloc: Global, outcome: &Outcome, name: Value, n: u64) -> Result<Value, AllocError>
-    ensures { IfOk result (λ v. view v ≡ outcome_data outcome.now (view name) n) }
+/// What the reply says: the Ok object, or the error object.
+fn answer_value(alloc: Global, outcome: &Outcome) -> Result<Result<Value, Value>, AllocError>
+    ensures { IfOk result (λ answer. viewed answer ≡ answer_data outcome.now) }
 {
     match outcome {
-        Outcome::Proof(summary) => {
-            let answer = summary_value(alloc, summary)?;
-            ok_value(alloc, answer, name, n)
-        }
-        Outcome::Step { step, cause } => {
-            let error = step_value(alloc, *step, *cause)?;
-            error_value(alloc, error, name, n)
-        }
-        Outcome::Unsupported => {
-            let error = unsupported_value(alloc)?;
-            error_value(alloc, error, name, n)
-        }
+        Outcome::Proof(summary) => Ok(Ok(summary_value(alloc, summary)?)),
+        Outcome::Entries { entries, sequent } => Ok(Ok(entries_value(alloc, *entries, sequent)?)),
+        Outcome::Proves(proves) => Ok(Ok(proves_value(alloc, *proves)?)),
+        Outcome::Steps(steps) => Ok(Ok(steps_value(alloc, steps.as_slice())?)),
+        Outcome::Measure {
+            cuts,
+            nodes,
+            quants,
+            size,
+        } => Ok(Ok(measure_value(alloc, *cuts, *nodes, *quants, *size)?)),
+        Outcome::LineTooLong => Ok(Err(plain(alloc, "line_too_long")?)),
+        Outcome::Reading(cause) => Ok(Err(reading_value(alloc, cause)?)),
+        Outcome::NameTaken => Ok(Err(plain(alloc, "name_taken")?)),
+        Outcome::UnknownName(name) => Ok(Err(named(alloc, "unknown_name", name.as_str())?)),
+        Outcome::Kind(name) => Ok(Err(named(alloc, "kind", name.as_str())?)),
+        Outcome::Empty => Ok(Err(plain(alloc, "empty")?)),
+        Outcome::Step { step, cause } => Ok(Err(step_value(alloc, *step, *cause)?)),
+        Outcome::Memory => Ok(Err(plain(alloc, "memory")?)),
+    }
+}
+
+fn reply_value(
+    alloc: Global,
+    answer: Result<Value, Value>,
+    name: Value,
+    n: u64,
+) -> Result<Value, AllocError>
+    ensures { IfOk result (λ v. view v ≡ reply_by (viewed answer) (view name) n) }
+{
+    match answer {
+        Ok(answer) => ok_value(alloc, answer, name, n),
+        Err(error) => error_value(alloc, error, name, n),
     }
 }
 
@@ -145,10 +221,12 @@ fn line_of(alloc: Global, value: &Value) -> Result<Vec<u8>, AllocError>
 }
 
 /// The line of a reply: compact JSON with its keys in the order of their bytes, and a newline.
+#[tactic(auto, unfolding(crate::specs::Replies::line_of))]
 pub fn reply_line(alloc: Global, reply: &Reply) -> Result<Vec<u8>, AllocError>
     ensures { IfOk result (λ v. v.items ≡ line_of_reply reply.now) }
 {
     let name = name_value(alloc, reply.name.as_ref())?;
-    let value = outcome_value(alloc, &reply.outcome, name, reply.n)?;
+    let answer = answer_value(alloc, &reply.outcome)?;
+    let value = reply_value(alloc, answer, name, reply.n)?;
     line_of(alloc, &value)
 }

@@ -1,19 +1,38 @@
 //! Reading the fields of a job's JSON value.
-ghost use Rattle.std.specs.Prelude.{◌≡◌, map, Some, IfErr, IfOk};
-ghost use Rattle.serde_json.specs.Data.{Data};
+ghost use Rattle.std.specs.Prelude.{◌≡◌, map, Some, None};
 ghost use Rattle.serde_json.specs.View.{view};
-ghost use Rattle.job_lang.specs.Fields.{Gives, text_at as text_member, list_at as list_member, number_of as number_data, each};
+ghost use Rattle.tptp_tokens.specs.declared.tokens.TextFault.{TextFault as Fault};
+ghost use Rattle.job_lang.specs.declared.reading.JobCause.TheVariants.{Field as FieldCause, Formula as FormulaCause};
+ghost use Rattle.job_lang.specs.Places.{path};
+ghost use Rattle.job_lang.specs.Fields.{IsCause, Gives, text_at as text_member, list_at as list_member, number_of as number_data, each};
 
+use crate::places::{Place, field_path};
+use crate::texts::Utf8Text;
 use serde_json::Value;
 use std::alloc::{AllocError, AllocFailed, Global};
+use tptp_problem::ProblemKind;
+use tptp_tokens::TextFault;
 
-/// Why a line wasn't read.
-#[derive(Clone, Copy, Debug, PartialEq, Eq)]
+/// Why a line isn't read as a job: its first fault in the order of reading.
+#[derive(Debug, Drop)]
+pub enum JobCause {
+    /// The line has no JSON value.
+    Json,
+    /// A field is missing or of the wrong form.
+    Field(Utf8Text),
+    /// The operation is unknown.
+    Op,
+    /// The text of a formula or a term has a fault.
+    Formula { field: Utf8Text, fault: TextFault },
+    /// The text of a problem has a fault, at this byte of it.
+    Tptp { at: u64, kind: ProblemKind },
+}
+
+/// Why a field isn't read.
+#[derive(Debug, Drop)]
 pub enum ReadError {
-    /// The line isn't of the form of a job.
-    NotOfForm,
-    /// Memory ran out.
     Memory,
+    Fault(JobCause),
 }
 
 impl From<AllocError> for ReadError {
@@ -40,46 +59,109 @@ impl<T: Drop> From<AllocFailed<T>> for ReadError {
     }
 }
 
-/// The member that is a text.
-pub fn text_at<'v>(value: &'v Value, key: &str) -> Result<&'v str, ReadError>
-    ensures { Gives (λ s. s.now) result (text_member key.now (view value.now)) }
+/// A field that is missing or of the wrong form.
+pub fn field_fault(alloc: Global, place: Place, key: &str, index: Option<usize>) -> ReadError
+    ensures { IsCause result (FieldCause (path place key.now index)) }
 {
-    match value.get(key).and_then(Value::as_str) {
-        Some(text) => Ok(text),
-        None => Err(ReadError::NotOfForm),
+    match field_path(alloc, place, key, index) {
+        Ok(path) => ReadError::Fault(JobCause::Field(path)),
+        Err(_) => ReadError::Memory,
     }
 }
 
+/// A fault of the text of a formula or a term in a field.
+pub fn text_fault(
+    alloc: Global,
+    place: Place,
+    key: &str,
+    index: Option<usize>,
+    fault: TextFault,
+) -> ReadError
+    ensures { IsCause result (FormulaCause (path place key.now index) fault) }
+{
+    match field_path(alloc, place, key, index) {
+        Ok(field) => ReadError::Fault(JobCause::Formula { field, fault }),
+        Err(_) => ReadError::Memory,
+    }
+}
+
+/// The member that is a text.
+#[tactic(auto, using(crate::proofs::Given::cause_given))]
+pub fn text_at<'v>(
+    alloc: Global,
+    value: &'v Value,
+    place: Place,
+    key: &str,
+) -> Result<&'v str, ReadError>
+    ensures { Gives (λ s. s.now) result (text_member place key.now (view value.now)) }
+{
+    match value.get(key).and_then(Value::as_str) {
+        Some(text) => Ok(text),
+        None => Err(field_fault(alloc, place, key, None)),
+    }
+}
+
+/// The member that is a text, as a text of its own.
+pub fn written_at(
+    alloc: Global,
+    value: &Value,
+    place: Place,
+    key: &str,
+) -> Result<Utf8Text, ReadError>
+    ensures { Gives (λ t. t) result (text_member place key.now (view value.now)) }
+{
+    let text = text_at(alloc, value, place, key)?;
+    Ok(Utf8Text::from_string(String::from_str(alloc, text)?))
+}
+
 /// The items of the member that is a list.
-pub fn list_at<'v>(value: &'v Value, key: &str) -> Result<&'v [Value], ReadError>
-    ensures { Gives (λ s. map view s.now) result (list_member key.now (view value.now)) }
+#[tactic(auto, using(crate::proofs::Given::cause_given))]
+pub fn list_at<'v>(
+    alloc: Global,
+    value: &'v Value,
+    place: Place,
+    key: &str,
+) -> Result<&'v [Value], ReadError>
+    ensures { Gives (λ s. map view s.now) result (list_member place key.now (view value.now)) }
 {
     match value.get(key) {
         Some(member) => match member.as_array() {
             Some(items) => Ok(items.as_slice()),
-            None => Err(ReadError::NotOfForm),
+            None => Err(field_fault(alloc, place, key, None)),
         },
-        None => Err(ReadError::NotOfForm),
+        None => Err(field_fault(alloc, place, key, None)),
     }
 }
 
-/// The whole number that a value is.
-pub fn number_of(value: &Value) -> Result<u64, ReadError>
-    ensures { Gives (λ n. n) result (number_data (view value.now)) }
+/// The whole number that an element of a list is.
+#[tactic(auto, using(crate::proofs::Given::cause_given))]
+pub fn number_of(
+    alloc: Global,
+    value: &Value,
+    place: Place,
+    key: &str,
+    index: usize,
+) -> Result<u64, ReadError>
+    ensures { Gives (λ n. n) result (number_data place key.now index (view value.now)) }
 {
     match value.as_u64() {
         Some(number) => Ok(number),
-        None => Err(ReadError::NotOfForm),
+        None => Err(field_fault(alloc, place, key, Some(index))),
     }
 }
 
-/// The whole numbers that the values are.
-pub fn numbers_of(alloc: Global, values: &[Value]) -> Result<Vec<u64>, ReadError>
-    ensures { Gives (λ v. v.items) result (each number_data (map view values.now)) }
+/// The whole numbers that the elements of a list are.
+pub fn numbers_of(
+    alloc: Global,
+    values: &[Value],
+    place: Place,
+    key: &str,
+) -> Result<Vec<u64>, ReadError>
+    ensures { Gives (λ v. v.items) result (each (number_data place key.now) 0 (map view values.now)) }
 {
     let mut numbers = Vec::new(alloc);
-    for value in values {
-        let number = number_of(value)?;
+    for (index, value) in values.iter().enumerate() {
+        let number = number_of(alloc, value, place, key, index)?;
         numbers.push(number)?;
     }
     Ok(numbers)

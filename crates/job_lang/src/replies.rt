@@ -1,5 +1,8 @@
 //! What is replied to a job.
 use crate::names::Name;
+use crate::reading::JobCause;
+use crate::steps::Steps;
+use crate::texts::Utf8Text;
 use lk_rules::{RuleFault, Sequent};
 
 /// A proof in short: how many cuts and quantifier rules it has, and its end sequent.
@@ -24,10 +27,41 @@ pub enum StepShown {
 pub enum Outcome {
     /// The job is a proof.
     Proof(Summary),
+    /// The job is a problem: how many entries it has, and its sequent.
+    Entries {
+        entries: u64,
+        sequent: Sequent,
+    },
+    /// Whether the proof proves the problem.
+    Proves(bool),
+    /// The steps of a proof.
+    Steps(Steps),
+    /// How many cuts, nodes that differ, quantifier rules and nodes in all the tree of a proof has.
+    Measure {
+        cuts: u64,
+        nodes: u64,
+        quants: u64,
+        size: u64,
+    },
+    /// The line has more bytes than a job may have.
+    LineTooLong,
+    /// The line isn't a job.
+    Reading(JobCause),
+    /// An earlier line has the job's name.
+    NameTaken,
+    /// No earlier job has the name that is written in a field.
+    UnknownName(Utf8Text),
+    /// The job named in a field holds another kind of value.
+    Kind(Utf8Text),
+    /// The proof has no step.
+    Empty,
     /// The first faulty step of the job, counted from 0, and its first fault.
-    Step { step: u64, cause: StepShown },
-    /// The line isn't of a form that is answered.
-    Unsupported,
+    Step {
+        step: u64,
+        cause: StepShown,
+    },
+    /// Memory ran out while the job was run.
+    Memory,
 }
 
 /// The reply to the job with the number `n`, counted from 1. The name stands where the line has one.

@@ -11,7 +11,7 @@ use Rattle.edge_io.specs.Lines.{is_newline, AreLines, parts_of, whole_lines, lin
 use Rattle.edge_io.specs.Reader.{Reader}
 use Rattle.edge_io.specs.Reading.{HandsOn, CutsOff, Overflows, IsDone as IsAtLast}
 use Rattle.edge_io.proofs.LinesLemmas.{lines_of_at, whole_lines_at}
-use Rattle.proof_server.specs.Jobs.{Past, IsLawful, in_order, jobs}
+use Rattle.proof_server.specs.Jobs.{Past, in_order, jobs}
 use Rattle.proof_server.specs.Replying.{reply_line}
 use Rattle.proof_server.proofs.ReplyLines.{length-reply_line}
 use Rattle.proof_server.specs.Session.{out, Replies, RepliesInPart, IsPartOfNext}
@@ -22,20 +22,23 @@ use Rattle.proof_server.specs.declared.ending.Ended.TheVariants as ended
 use Rattle.proof_server.specs.declared.session.Session.{Session}
 use Rattle.proof_server.specs.declared.session.Stop.{Stop}
 use Rattle.proof_server.specs.declared.session.Stop.TheVariants as stop
-use Rattle.proof_server.proofs.Turns.{new_job}
+use Rattle.proof_server.specs.Answers.{IsLawful, run_line, held_of}
+use Rattle.proof_server.specs.Shown.{job_of}
+use Rattle.proof_server.proofs.Turns.{some_end}
 use Rattle.proof_server.proofs.Midway.{ReadSoFar, Midway, whole_so_far, hand, jobs-append, Rose-since}
 
 -- nothing of the next reply is a part of it
 pub part_none : (earlier : List Past) (waiting : List (List ℕ)) → IsLawful earlier → IsPartOfNext earlier waiting []
 part_none earlier [] lawful = refl
-part_none earlier (line ∷ waiting) lawful = record {
-  job = new_job line;
-  line_is = refl;
-  lawful = (refl, lawful);
-  more = reply_line earlier (new_job line);
-  goes_on = length-reply_line earlier (new_job line);
-  bytes = refl;
-}
+part_none earlier (line ∷ waiting) lawful =
+    let end = some_end (run_line (held_of earlier) line) in record {
+      job = job_of line end.0;
+      line_is = refl;
+      lawful = (end.1, lawful);
+      more = reply_line earlier (job_of line end.0);
+      goes_on = length-reply_line earlier (job_of line end.0);
+      bytes = refl;
+    }
 
 -- a part of the first reply that waits is one however many more wait
 pub part_of_more : (earlier : List Past) (waiting more : List (List ℕ)) (part : List ℕ) → IsLawful earlier

@@ -1,6 +1,9 @@
-pub mod Turns
-pub mod ReplyLines
-pub mod Checks
-pub mod RightSteps
+pub mod Found
+pub mod Learned
+pub mod Taken
+pub mod Concluding
+pub mod LongLines
 pub mod Midway
+pub mod ReplyLines
+pub mod Turns
 pub mod Endings

@@ -3,15 +3,21 @@ use Rattle.std.proofs.Common.{◌≡◌, ℕ, ◌+◌, ◌<◌, ◌≤◌, ◌&&
 use Rattle.std.specs.Prelude.{Option, Some}
 use Rattle.std.specs.Io.KnownBytes.{Appends}
 use Rattle.std.proofs.lemmas.Bool.Decides.{nat_tests}
-use Rattle.proof_server.specs.Jobs.{Past, IsLawful, IsKept, max_line, in_order, is_job, jobs}
+use Rattle.proof_server.specs.Jobs.{Past, IsKept, max_line, in_order, is_job, jobs}
 use Rattle.proof_server.specs.Replying.{reply_line, is_ok_reply}
 use Rattle.proof_server.specs.Session.{out, all_ok, IsPartOfReply, IsPartOfNext}
+use Rattle.proof_server.specs.Values.{Run, fault, short, done}
+use Rattle.proof_server.specs.Answers.{IsLawful, may_lack, run_line, held_of}
+use Rattle.proof_server.specs.Means.{IsStore}
+use Rattle.proof_server.specs.Shown.{job_of}
 use Rattle.proof_server.specs.Turn.{IsBehind, IsTaken, IsTakenInPart}
 use Rattle.proof_server.specs.declared.session.Session.{Session}
 
--- the line as a job that didn't lack memory
-abbrev pub new_job : List ℕ → Past
-new_job line = record { line = line; lacked = false }
+-- each run may end with memory or without it
+pub some_end : (r : Run) → (lacked : Bool) × may_lack lacked r
+some_end (fault outcome) = (false, refl)
+some_end short = (true, refl)
+some_end (done outcome value) = (false, tt)
 
 pub jobs_of_job : (line : List ℕ) → is_job line ≡ true → jobs (line ∷ []) ≡ line ∷ []
 jobs_of_job line job = ap (λ (b : Bool). cond b (line ∷ []) []) job
@@ -20,15 +26,16 @@ pub jobs_of_blank : (line : List ℕ) → is_job line ≡ false → jobs (line �
 jobs_of_blank line blank = ap (λ (b : Bool). cond b (line ∷ []) []) blank
 
 -- a job whose reply was written whole
-pub answered : (earlier : List Past) (line bytes : List ℕ) (before after : Session) (old new : Option (List ℕ)) (ok : Bool)
-    → IsBehind before earlier → is_job line ≡ true → bytes ≡ reply_line earlier (new_job line)
-    → ok ≡ is_ok_reply earlier (new_job line) → Appends old new bytes
-    → after.count ≡ before.count + 1 → after.good ≡ (before.good && ok) → IsTaken earlier line before after old new
-answered earlier line bytes before after old new ok behind job reply ok_is to counted good = record {
-  done = new_job line ∷ earlier;
+pub answered : (earlier : List Past) (line bytes : List ℕ) (before after : Session) (old new : Option (List ℕ)) (ok lacked : Bool)
+    → IsBehind before earlier → is_job line ≡ true → may_lack lacked (run_line (held_of earlier) line) → bytes ≡ reply_line earlier (job_of line lacked)
+    → ok ≡ is_ok_reply earlier (job_of line lacked) → Appends old new bytes
+    → after.count ≡ before.count + 1 → IsStore after.store (job_of line lacked ∷ earlier) → after.good ≡ (before.good && ok) → IsTaken earlier line before after old new
+answered earlier line bytes before after old new ok lacked behind job ends reply ok_is to counted store good = record {
+  done = job_of line lacked ∷ earlier;
   behind = record {
-    lawful = (refl, behind.lawful);
+    lawful = (ends, behind.lawful);
     counted = counted ∙ ap (λ n. n + 1) behind.counted ∙ omega arith;
+    store = store;
     good_is = good ∙ ap (λ (b : Bool). b && ok) behind.good_is ∙ ap (λ (b : Bool). all_ok earlier && b) ok_is;
   };
   asked = ap (λ (waiting : List (List ℕ)). in_order earlier ++ waiting) (sym (jobs_of_job line job));
@@ -39,14 +46,14 @@ answered earlier line bytes before after old new ok behind job reply ok_is to co
 }
 
 -- a job of whose reply only the first n bytes were written
-pub answered_in_part : (earlier : List Past) (line bytes : List ℕ) (n : ℕ) (old new : Option (List ℕ))
-    → IsLawful earlier → is_job line ≡ true → bytes ≡ reply_line earlier (new_job line) → n < length bytes
+pub answered_in_part : (earlier : List Past) (line bytes : List ℕ) (n : ℕ) (old new : Option (List ℕ)) (lacked : Bool)
+    → IsLawful earlier → is_job line ≡ true → may_lack lacked (run_line (held_of earlier) line) → bytes ≡ reply_line earlier (job_of line lacked) → n < length bytes
     → Appends old new (take n bytes) → IsTakenInPart earlier line old new
-answered_in_part earlier line bytes n old new lawful job reply within to =
+answered_in_part earlier line bytes n old new lacked lawful job ends reply within to =
     let next : IsPartOfReply earlier line (take n bytes) = record {
-      job = new_job line;
+      job = job_of line lacked;
       line_is = refl;
-      lawful = (refl, lawful);
+      lawful = (ends, lawful);
       more = drop n bytes;
       goes_on = omega (arith, length-drop n bytes);
       bytes = take-append-drop n bytes ∙ reply;

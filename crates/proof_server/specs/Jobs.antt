@@ -6,6 +6,10 @@ use Rattle.std.specs.List.{list_all}
 abbrev pub max_line : ℕ
 max_line = 16777216
 
+-- whether a line is too long to be read as a job
+abbrev pub is_too_long : List ℕ → Bool
+is_too_long line = nat_lt max_line (length line)
+
 -- a session reads no more bytes
 abbrev pub max_input : ℕ
 max_input = 2 ^ 32
@@ -16,7 +20,7 @@ is_blank b = b == 32 || b == 9 || b == 13
 
 -- every line but one of blanks is a job; a line that is too long is one whatever it holds
 abbrev pub is_job : List ℕ → Bool
-is_job line = nat_lt max_line (length line) || not (list_all is_blank line)
+is_job line = is_too_long line || not (list_all is_blank line)
 
 abbrev pub jobs : List (List ℕ) → List (List ℕ)
 jobs lines = filter is_job lines
@@ -31,12 +35,7 @@ abbrev pub in_order : List Past → List (List ℕ)
 in_order [] = []
 in_order (job ∷ earlier) = in_order earlier ++ job.line ∷ []
 
--- want of memory is the reply of no operation so far, so no job may have reported it
-abbrev pub IsLawful : List Past → Type 0
-IsLawful [] = Unit {0}
-IsLawful (job ∷ earlier) = (job.lacked ≡ false) × IsLawful earlier
-
 -- what a session keeps of a line that it read: its bytes, or of a too long one nothing
 abbrev pub IsKept : Option (List ℕ) → List ℕ → Type 0
-IsKept (Some bytes) line = (bytes ≡ line) × (nat_lt max_line (length line) ≡ false)
+IsKept (Some bytes) line = (bytes ≡ line) × (is_too_long line ≡ false)
 IsKept None line = max_line < length line

@@ -1,6 +1,10 @@
 pub mod Jobs
-pub mod Checking
+pub mod Values
+pub mod Naming
+pub mod Operations
+pub mod Answers
 pub mod Replying
+pub mod Means
 pub mod Shown
 pub mod Session
 pub mod Ending

@@ -1,6 +1,7 @@
 -- The replies of a session, as a function of its jobs: no reader, no window and no worker is in it.
 use Rattle.std.specs.Prelude.{◌≡◌, ℕ, ◌<◌, ◌&&◌, Bool, true, List, [], ◌∷◌, ◌++◌, length}
-use Rattle.proof_server.specs.Jobs.{Past, IsLawful, in_order, jobs}
+use Rattle.proof_server.specs.Jobs.{Past, in_order, jobs}
+use Rattle.proof_server.specs.Answers.{IsLawful}
 use Rattle.proof_server.specs.Replying.{reply_line, is_ok_reply}
 
 -- the reply lines of these jobs, in order

@@ -2,7 +2,9 @@
 use Rattle.std.specs.Prelude.{◌≡◌, ℕ, ◌+◌, ◌≤◌, ◌⊎◌, List, [], ◌∷◌, ◌++◌, length, Option, Result, Ok, Err}
 use Rattle.std.specs.Io.KnownBytes.{Appends}
 use Rattle.edge_io.specs.Causes.{Rose}
-use Rattle.proof_server.specs.Jobs.{Past, IsLawful, in_order, jobs}
+use Rattle.proof_server.specs.Jobs.{Past, in_order, jobs}
+use Rattle.proof_server.specs.Answers.{IsLawful}
+use Rattle.proof_server.specs.Means.{IsStore}
 use Rattle.proof_server.specs.Session.{out, all_ok, IsPartOfNext}
 use Rattle.proof_server.specs.declared.session.Session.{Session}
 use Rattle.proof_server.specs.declared.session.Stop.{Stop}
@@ -14,6 +16,7 @@ use Rattle.proof_server.specs.declared.ending.Ended.TheVariants as ended
 pub record IsBehind (session : Session) (done : List Past) : Type 0 where
   pub lawful : IsLawful done
   pub counted : session.count ≡ length done
+  pub store : IsStore session.store done
   pub good_is : session.good ≡ all_ok done
 
 -- the reply to the line, if it is a job, was written whole

@@ -1,13 +1,15 @@
 //! The server: it reads jobs, one a line, and writes a reply to each.
 #![tactic(auto)]
 
-mod checking;
 mod command;
 mod ending;
 mod gates;
+mod held;
+mod names;
 mod reply;
 mod serving;
 mod session;
+mod store;
 
 pub use command::top;
 pub use ending::Ended;

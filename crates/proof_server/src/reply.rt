@@ -1,115 +1,224 @@
 //! The reply to a job.
-ghost use Rattle.std.specs.Prelude.{◌≡◌, ◌+◌, ◌<◌, ◌^◌, ◌==◌, List, ℕ, IfOk, length, false, option_copied, option_map, Some};
-ghost use Rattle.std.specs.List.{All};
-ghost use Rattle.lk_rules.specs.Rules.{IsFormedRule};
-ghost use Rattle.job_lang.specs.Jobs.{job_data, reads_job};
-ghost use Rattle.proof_server.specs.Jobs.{Past, IsKept};
-ghost use Rattle.proof_server.specs.Checking.{last_end};
-ghost use Rattle.proof_server.specs.Replying.{answer as answer_of, answer_to, outcome_of as outcome_of_steps, is_ok as is_ok_outcome, reply_line as line_of_job, is_ok_reply};
-ghost use Rattle.proof_server.specs.Shown.{answer_shown};
+ghost use Rattle.std.specs.Prelude.{◌≡◌, ◌+◌, ◌<◌, ◌^◌, ◌∷◌, List, ℕ, IfOk, OnOk, length, false, option_copied, Some, Ok};
+ghost use Rattle.job_lang.specs.Replies.{is_ok_outcome};
+ghost use Rattle.proof_graph.specs.declared.graph.Graph.{Graph};
+ghost use Rattle.proof_server.specs.Values.{Run, concluded};
+ghost use Rattle.proof_server.specs.Jobs.{Past, IsKept, is_too_long};
+ghost use Rattle.proof_server.specs.Answers.{name_of, run_read, run_line, held_of};
+ghost use Rattle.proof_server.specs.Means.{Answers, Means, IsStore, IsSomeStore};
+ghost use Rattle.proof_server.specs.Shown.{IsConcluded, IsAnswered, IsReply};
 
-use crate::checking::first_fault;
-use job_lang::{Job, Name, Outcome, ReadError, Reply, Summary, read_job, reply_line};
-use lk_rules::Step;
+use crate::held::Held;
+use crate::store::{Ran, Store};
+use fol::Text;
+use job_lang::{Job, JobError, Name, Op, Outcome, Reply, read_job, reply_line};
 use std::alloc::{AllocError, Global};
+use std::sync::Wait;
 
-/// A reply line with its newline, and whether it is no error.
+/// A reply line with its newline, whether it is no error, and whether it reports want of memory.
 #[derive(Debug, Drop)]
 pub struct ReplyLine {
     pub bytes: Vec<u8>,
     pub is_ok: bool,
+    pub lacked: bool,
 }
 
-/// What a reply shows of a job: its name, and what came of it.
+/// What a reply shows of a job: its name, what came of it, and whether it reports want of memory.
 #[derive(Debug, Drop)]
 pub struct Shown {
     pub name: Option<Name>,
     pub outcome: Outcome,
+    pub lacked: bool,
+}
+
+/// What came of a job, what it holds, and whether it reports want of memory.
+#[derive(Drop)]
+pub struct Conclusion {
+    pub outcome: Outcome,
+    pub held: Held,
+    pub lacked: bool,
 }
 
 fn is_ok(outcome: &Outcome) -> bool
     ensures { result ≡ is_ok_outcome outcome.now }
 {
-    matches!(outcome, Outcome::Proof(_))
+    matches!(
+        outcome,
+        Outcome::Proof(_)
+            | Outcome::Entries { .. }
+            | Outcome::Proves(_)
+            | Outcome::Steps(_)
+            | Outcome::Measure { .. }
+    )
 }
 
-/// The proof in short that a list of steps without a fault is.
-fn proved(mut steps: Vec<Step>) -> Option<Summary>
-    ensures { (0 < length steps.items) → result ≡ Some (record { cuts = 0; end = last_end steps.items; quants = 0 }) }
+fn conclude(ran: Ran) -> Conclusion
+    ensures { (g : Graph) (r : Run) → Answers g ran r → IsConcluded g result r }
 {
-    let Step {
-        end,
-        rule,
-        premises,
-    } = steps.pop()?;
-    drop(rule);
-    drop(premises);
-    Some(Summary {
-        cuts: 0,
-        end,
-        quants: 0,
+    match ran {
+        Ran::Refused(outcome) => Conclusion {
+            outcome,
+            held: Held::Refused,
+            lacked: false,
+        },
+        Ran::Lacked => Conclusion {
+            outcome: Outcome::Memory,
+            held: Held::Unheld,
+            lacked: true,
+        },
+        Ran::Done(outcome, held) => Conclusion {
+            outcome,
+            held,
+            lacked: false,
+        },
+    }
+}
+
+fn name_text(alloc: Global, name: &Name) -> Result<Text, AllocError>
+    ensures { IfOk result (λ t. t ≡ name.now) }
+{
+    Text::from_vec(alloc, Vec::from_slice(alloc, name.as_str().as_bytes())?)
+}
+
+/// Runs a job that is read, if its name is its own.
+fn run_job<R: Wait>(
+    store: &mut Store,
+    rt: &R,
+    alloc: Global,
+    name: &Text,
+    op: Op,
+) -> Result<Ran, AllocError>
+    requires { IsSomeStore store.old }
+    ensures ran { (earlier : List Past) → IsStore store.old earlier
+        → IfOk result (λ ran. Answers store.new.graph ran (run_read (held_of earlier) (Some name.now) (Ok op))) }
+    ensures kept { (earlier : List Past) → IsStore store.old earlier → IsStore store.new earlier }
+{
+    if store.names.is_taken(name) {
+        return Ok(Ran::Refused(Outcome::NameTaken));
+    }
+    let ran = store.run(rt, alloc, op)?;
+    Ok(ran)
+}
+
+/// What came of a job whose line isn't too long: its name, where it has one, and its conclusion.
+fn conclude_line<R: Wait>(
+    store: &mut Store,
+    rt: &R,
+    alloc: Global,
+    line: &[u8],
+) -> Result<(Option<Name>, Conclusion), AllocError>
+    requires store { IsSomeStore store.old }
+    requires short { is_too_long line.now ≡ false }
+    ensures name { IfOk result (λ answer. answer.0 ≡ name_of line.now) }
+    ensures concluded { (earlier : List Past) → IsStore store.old earlier
+        → IfOk result (λ answer. IsConcluded store.new.graph answer.1 (run_line (held_of earlier) line.now)) }
+    ensures kept { (earlier : List Past) → IsStore store.old earlier → IsStore store.new earlier }
+{
+    match read_job(alloc, line) {
+        Ok(Job { name, op }) => {
+            let text = name_text(alloc, &name)?;
+            let ran = run_job(store, rt, alloc, &text, op)?;
+            Ok((Some(name), conclude(ran)))
+        }
+        Err(error) => match error {
+            JobError::Memory => Err(AllocError),
+            JobError::Fault { name, cause } => {
+                Ok((name, conclude(Ran::Refused(Outcome::Reading(cause)))))
+            }
+        },
+    }
+}
+
+/// Keeps what a job holds, if its line has a name.
+fn learn(
+    store: &mut Store,
+    alloc: Global,
+    name: Option<&Name>,
+    held: Held,
+) -> Result<(), AllocError>
+    ensures { (earlier : List Past) (job : Past) → IsStore store.old earlier → name_of job.line ≡ option_copied name.entry
+        → Means store.old.graph held (concluded job.lacked (run_line (held_of earlier) job.line)).value
+        → OnOk result (IsStore store.new (job ∷ earlier)) }
+{
+    match name {
+        Some(name) => {
+            let text = name_text(alloc, name)?;
+            store.names.learn(text, held)
+        }
+        None => Ok(()),
+    }
+}
+
+/// The answer to a job whose line isn't too long.
+fn answer_line<R: Wait>(
+    store: &mut Store,
+    rt: &R,
+    alloc: Global,
+    line: &[u8],
+) -> Result<Shown, AllocError>
+    requires store { IsSomeStore store.old }
+    requires short { is_too_long line.now ≡ false }
+    ensures { (earlier : List Past) → IsStore store.old earlier
+        → IfOk result (λ shown. IsAnswered shown store.new line.now earlier) }
+{
+    let (name, conclusion) = conclude_line(store, rt, alloc, line)?;
+    let Conclusion {
+        outcome,
+        held,
+        lacked,
+    } = conclusion;
+    learn(store, alloc, name.as_ref(), held)?;
+    Ok(Shown {
+        name,
+        outcome,
+        lacked,
     })
 }
 
-fn outcome_of(steps: Vec<Step>) -> Outcome
-    requires formed { All (λ s. IsFormedRule s.rule) steps.items }
-    requires some { 0 < length steps.items }
-    ensures { result ≡ outcome_of_steps steps.items }
-{
-    if let Some((step, cause)) = first_fault(&steps) {
-        return Outcome::Step { step, cause };
-    }
-    match proved(steps) {
-        Some(summary) => Outcome::Proof(summary),
-        None => Outcome::Unsupported,
-    }
-}
-
-/// The answer to the first job of a session.
-fn answer_first(alloc: Global, line: &[u8]) -> Result<Shown, AllocError>
-    ensures { IfOk result (λ shown. answer_shown shown ≡ answer_to (reads_job line.now)) }
-{
-    match read_job(alloc, line) {
-        Ok(job) => {
-            let Job { name, steps } = job;
-            Ok(Shown {
-                name: Some(name),
-                outcome: outcome_of(steps),
-            })
-        }
-        Err(ReadError::NotOfForm) => Ok(Shown {
-            name: None,
-            outcome: Outcome::Unsupported,
-        }),
-        Err(ReadError::Memory) => Err(AllocError),
-    }
-}
-
-/// The answer to a job that comes after `count` others. A line that is too long is `None`.
-fn answer(alloc: Global, count: u64, line: Option<&[u8]>) -> Result<Shown, AllocError>
-    ensures { (earlier : List Past) (text : List ℕ) → count ≡ length earlier
+/// The answer to a job. A line that is too long is `None`.
+fn answer<R: Wait>(
+    store: &mut Store,
+    rt: &R,
+    alloc: Global,
+    line: Option<&[u8]>,
+) -> Result<Shown, AllocError>
+    requires store { IsSomeStore store.old }
+    requires kept { (text : List ℕ) × IsKept (option_copied line) text }
+    ensures { (earlier : List Past) (text : List ℕ) → IsStore store.old earlier
         → IsKept (option_copied line.entry) text
-        → IfOk result (λ shown. answer_shown shown
-        ≡ answer_of earlier (record { line = text; lacked = false })) }
+        → IfOk result (λ shown. IsAnswered shown store.new text earlier) }
 {
     match line {
-        Some(line) if count == 0 => answer_first(alloc, line),
-        _ => Ok(Shown {
+        Some(line) => answer_line(store, rt, alloc, line),
+        None => Ok(Shown {
             name: None,
-            outcome: Outcome::Unsupported,
+            outcome: Outcome::LineTooLong,
+            lacked: false,
         }),
     }
 }
 
 /// The reply line of a job that comes after `count` others. A line that is too long is `None`.
-pub fn reply_to(alloc: Global, count: u64, line: Option<&[u8]>) -> Result<ReplyLine, AllocError>
-    requires { count + 1 < 2 ^ 64 }
+pub fn reply_to<R: Wait>(
+    store: &mut Store,
+    rt: &R,
+    alloc: Global,
+    count: u64,
+    line: Option<&[u8]>,
+) -> Result<ReplyLine, AllocError>
+    requires room { count + 1 < 2 ^ 64 }
+    requires store { IsSomeStore store.old }
+    requires kept { (text : List ℕ) × IsKept (option_copied line) text }
     ensures { (earlier : List Past) (text : List ℕ) → count ≡ length earlier
+        → IsStore store.old earlier
         → IsKept (option_copied line.entry) text
-        → IfOk result (λ r. (r.bytes.items ≡ line_of_job earlier (record { line = text; lacked = false }))
-        × (r.is_ok ≡ is_ok_reply earlier (record { line = text; lacked = false }))) }
+        → IfOk result (λ r. IsReply r store.new text earlier) }
 {
-    let Shown { name, outcome } = answer(alloc, count, line)?;
+    let Shown {
+        name,
+        outcome,
+        lacked,
+    } = answer(store, rt, alloc, line)?;
     let is_ok = is_ok(&outcome);
     let bytes = reply_line(
         alloc,
@@ -119,5 +228,9 @@ pub fn reply_to(alloc: Global, count: u64, line: Option<&[u8]>) -> Result<ReplyL
             outcome,
         },
     )?;
-    Ok(ReplyLine { bytes, is_ok })
+    Ok(ReplyLine {
+        bytes,
+        is_ok,
+        lacked,
+    })
 }

@@ -8,6 +8,7 @@ use crate::ending::Ended;
 use crate::session::{Session, Stop};
 use edge_io::{LineReader, Next, Sink, Source, next_line};
 use std::alloc::Global;
+use std::sync::Wait;
 
 const MAX_LINE: u64 = 16_777_216;
 
@@ -36,7 +37,12 @@ fn finish<K: Sink>(sink: &mut K, ended: Ended) -> Ended
 }
 
 /// A whole session: every job of the source gets its reply on the sink, in order.
-pub fn serve<S: Source, K: Sink>(alloc: Global, source: &mut S, sink: &mut K) -> Ended
+pub fn serve<R: Wait, S: Source, K: Sink>(
+    rt: &R,
+    alloc: Global,
+    source: &mut S,
+    sink: &mut K,
+) -> Ended
     ensures ends { Ends result max_input (S.faults source.old) (S.faults source.new) (K.faults sink.old) (K.faults sink.new)
         (S.left source.old) (S.left source.new) (K.written sink.old) (K.written sink.new) (K.flushed sink.new) }
 {
@@ -44,14 +50,17 @@ pub fn serve<S: Source, K: Sink>(alloc: Global, source: &mut S, sink: &mut K) ->
         Ok(reader) => reader,
         Err(_) => return Ended::Memory,
     };
-    let mut session = Session::new();
+    let mut session = match Session::new(alloc) {
+        Ok(session) => session,
+        Err(_) => return Ended::Memory,
+    };
     'lines: loop {
         match next_line(&mut reader, source, MAX_LINE) {
-            Next::Line(line) => match session.take(alloc, sink, Some(line.as_slice())) {
+            Next::Line(line) => match session.take(rt, alloc, sink, Some(line.as_slice())) {
                 Ok(()) => {}
                 Err(stop) => return ended_by(stop),
             },
-            Next::TooLong => match session.take(alloc, sink, None) {
+            Next::TooLong => match session.take(rt, alloc, sink, None) {
                 Ok(()) => {}
                 Err(stop) => return ended_by(stop),
             },

@@ -2,16 +2,20 @@ ghost use Rattle.std.specs.Prelude.{◌≡◌, ◌+◌, ◌<◌, ◌≤◌, ◌^
 ghost use Rattle.std.specs.List.{list_all};
 ghost use Rattle.std.specs.Option.{option_copied};
 ghost use Rattle.proof_server.specs.Jobs.{Past, IsKept, is_blank as is_blank_of, is_job};
+ghost use Rattle.proof_server.specs.Means.{IsSomeStore};
 ghost use Rattle.proof_server.specs.Turn.{IsBehind, Takes};
 
 use crate::reply::reply_to;
+use crate::store::Store;
 use edge_io::{Sink, write_whole};
-use std::alloc::Global;
+use std::alloc::{AllocError, Global};
+use std::sync::Wait;
 
-/// Where a session stands: how many jobs it has answered, and whether no reply was an error.
-#[derive(Debug, Drop)]
+/// Where a session stands: how many jobs it has answered, what they hold, and whether no reply was an error.
+#[derive(Drop)]
 pub struct Session {
     pub count: u64,
+    pub store: Store,
     pub good: bool,
 }
 
@@ -36,24 +40,30 @@ fn is_empty_line(line: &[u8]) -> bool
 }
 
 impl Session {
-    pub fn new() -> Session
-        ensures { IsBehind result [] }
+    /// No job has been answered.
+    pub fn new(alloc: Global) -> Result<Session, AllocError>
+        ensures { IfOk result (λ session. IsBehind session []) }
     {
-        Session {
+        let store = Store::new(alloc)?;
+        Ok(Session {
             count: 0,
+            store,
             good: true,
-        }
+        })
     }
 
     /// Answers a line, `None` for one that is too long: a job gets its reply, and an empty line has all replies
     /// so far flushed.
-    pub fn take<K: Sink>(
+    pub fn take<R: Wait, K: Sink>(
         &mut self,
+        rt: &R,
         alloc: Global,
         sink: &mut K,
         line: Option<&[u8]>,
     ) -> Result<(), Stop>
-        requires { self.old.count + 1 < 2 ^ 64 }
+        requires room { self.old.count + 1 < 2 ^ 64 }
+        requires store { IsSomeStore self.old.store }
+        requires kept { (text : List ℕ) × IsKept (option_copied line) text }
         ensures takes { (earlier : List Past) (text : List ℕ) → IsBehind self.old earlier
             → IsKept (option_copied line.entry) text
             → Takes result earlier text self.old self.new (K.faults sink.old) (K.faults sink.new)
@@ -70,16 +80,19 @@ impl Session {
                 };
             }
         }
-        self.answer(alloc, sink, line)
+        self.answer(rt, alloc, sink, line)
     }
 
-    fn answer<K: Sink>(
+    fn answer<R: Wait, K: Sink>(
         &mut self,
+        rt: &R,
         alloc: Global,
         sink: &mut K,
         line: Option<&[u8]>,
     ) -> Result<(), Stop>
-        requires { self.old.count + 1 < 2 ^ 64 }
+        requires room { self.old.count + 1 < 2 ^ 64 }
+        requires store { IsSomeStore self.old.store }
+        requires kept { (text : List ℕ) × IsKept (option_copied line) text }
         ensures takes { (earlier : List Past) (text : List ℕ) → IsBehind self.old earlier
             → IsKept (option_copied line.entry) text
             → IsTrue (is_job text)
@@ -87,7 +100,7 @@ impl Session {
             (K.written sink.old) (K.written sink.new) }
         ensures faults { K.faults sink.old ≤ K.faults sink.new }
     {
-        let reply = match reply_to(alloc, self.count, line) {
+        let reply = match reply_to(&mut self.store, rt, alloc, self.count, line) {
             Ok(reply) => reply,
             Err(_) => return Err(Stop::Memory),
         };

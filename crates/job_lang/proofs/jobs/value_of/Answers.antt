@@ -2,13 +2,15 @@ use Rattle.std.proofs.Common.{◌≡◌, Bool, true, false, cond, ap, ◌∙◌}
 use Rattle.std.specs.Prelude.{None}
 use Rattle.std.proofs.lemmas.Str.{is_utf8-from_IsUtf8}
 use Rattle.serde_json.specs.Read.{read}
+use Rattle.job_lang.specs.declared.reading.JobCause.TheVariants.{Json}
+use Rattle.job_lang.specs.Fields.{or_fault}
 use Rattle.job_lang.proofs.LineValues.{unread_value}
 use Rattle.job_lang.proofs.jobs.value_of.Goals as goal
 
 pub returns-in-Ok : goal.returns-in-Ok
 returns-in-Ok c =
     let line = c.args.line.now in
-    ap (λ (b : Bool). cond b (read line) None) (is_utf8-from_IsUtf8 line c.in-Ok.ensures.ok.0) ∙ c.in-Ok.ensures.ok.1
+    ap (or_fault Json) (ap (λ (b : Bool). cond b (read line) None) (is_utf8-from_IsUtf8 line c.in-Ok.ensures.ok.0) ∙ c.in-Ok.ensures.ok.1)
 
 pub returns-else-is_memory : goal.returns-else-is_memory
 returns-else-is_memory c =

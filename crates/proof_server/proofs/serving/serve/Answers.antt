@@ -7,8 +7,11 @@ use Rattle.proof_server.proofs.serving.serve.Goals as goal
 pub returns-in-Err : goal.returns-in-Err
 returns-in-Err g c = record { ends = nothing_done _ _ }
 
+pub returns-in-Err-new : goal.returns-in-Err-new
+returns-in-Err-new g c = record { ends = nothing_done _ _ }
+
 pub lines-init : goal.lines-init
-lines-init g c = start _ _ _ _ _ _ _ c.in-Ok.ensures c.new-session.ensures
+lines-init g c = start _ _ _ _ _ _ _ c.in-Ok.ensures c.in-Ok-new.ensures
 
 pub lines-preserved-in-Line : goal.lines-preserved-in-Line
 lines-preserved-in-Line g c =

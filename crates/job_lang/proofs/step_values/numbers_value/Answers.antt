@@ -1,0 +1,11 @@
+use Rattle.std.proofs.Common.{map, ap, ◌∙◌}
+use Rattle.std.proofs.lemmas.List.{take_all}
+use Rattle.serde_json.specs.Data.{array}
+use Rattle.serde_json.specs.View.{items_of}
+use Rattle.serde_json.proofs.Views.{view-Array}
+use Rattle.job_lang.specs.Replies.{count_data}
+use Rattle.job_lang.proofs.step_values.numbers_value.Goals as goal
+
+pub returns : goal.returns
+returns c =
+    view-Array c.loop-number.values ∙ ap (λ ds. array (items_of ds)) (c.loop-number.invariant ∙ ap (map count_data) (take_all c.loop-number.number-index c.args.numbers.now c.loop-number-test.false))

@@ -1,0 +1,120 @@
+//! Reading the steps of a proof.
+ghost use Rattle.std.specs.Prelude.{◌≡◌, map, IfOk};
+ghost use Rattle.std.specs.List.{All};
+ghost use Rattle.lk_rules.specs.Rules.{IsFormedRule};
+ghost use Rattle.serde_json.specs.View.{view};
+ghost use Rattle.job_lang.specs.Fields.{Gives};
+ghost use Rattle.job_lang.specs.Steps.{premises_of as premises_data, step_of as step_data, step_at as step_element, steps_of as steps_data, steps_at as steps_member};
+
+use crate::formulas::side_at;
+use crate::places::Place;
+use crate::reading::{ReadError, field_fault, list_at, numbers_of};
+use crate::rules::rule_of;
+use lk_rules::{Numbers, Sequent, Step};
+use serde_json::Value;
+use std::alloc::Global;
+use std::marker::Model;
+
+/// The steps of a proof, each of which names a rule with well-formed parts.
+#[derive(Debug, Drop)]
+pub struct Steps {
+    items: Vec<Step>,
+}
+
+impl Model for Steps {
+    ghost use Rattle.std.specs.Prelude.{List};
+    ghost use Rattle.std.specs.List.{All};
+    ghost use Rattle.lk_rules.specs.declared.rule.Step.{Step};
+    ghost use Rattle.lk_rules.specs.Rules.{IsFormedRule};
+
+    ghost Value = { List Step };
+
+    ghost use Rattle.std.specs.Coded.{codes};
+    ghost use Rattle.lk_rules.specs.contracts.rule.Step as step;
+
+    ghost coded = { Prim.hlevel (codes, step.the_row.coded) };
+
+    ghost view = { λ s. s.items.items };
+
+    ghost invariant = { λ s. All (λ step. IsFormedRule step.rule) s.items.items };
+}
+
+impl Steps {
+    /// The list of these steps, each of which names a rule with well-formed parts.
+    pub fn from_vec(items: Vec<Step>) -> Steps
+        requires { All (λ s. IsFormedRule s.rule) items.items }
+        ensures { result ≡ items.items }
+    {
+        Steps { items }
+    }
+
+    /// The steps, in order.
+    pub fn as_slice(&self) -> &[Step]
+        ensures steps { result.now ≡ self.now }
+        ensures formed { All (λ s. IsFormedRule s.rule) result.now }
+    {
+        self.items.as_slice()
+    }
+
+    /// The steps as a list of their own.
+    pub fn into_vec(self) -> Vec<Step>
+        ensures steps { result.items ≡ self }
+        ensures formed { All (λ s. IsFormedRule s.rule) result.items }
+    {
+        let Steps { items } = self;
+        items
+    }
+}
+
+fn premises_of(alloc: Global, value: &Value, place: Place) -> Result<Numbers, ReadError>
+    ensures { Gives (λ n. n) result (premises_data place (view value.now)) }
+{
+    let values = list_at(alloc, value, place, "premises")?;
+    let numbers = numbers_of(alloc, values, place, "premises")?;
+    Ok(Numbers::from_vec(numbers))
+}
+
+fn members_of_step(alloc: Global, value: &Value, place: Place) -> Result<Step, ReadError>
+    ensures value { Gives (λ s. s) result (step_data place (view value.now)) }
+    ensures formed { IfOk result (λ s. IsFormedRule s.rule) }
+{
+    let rule = rule_of(alloc, value, place)?;
+    let premises = premises_of(alloc, value, place)?;
+    let left = side_at(alloc, value, place, "left")?;
+    let right = side_at(alloc, value, place, "right")?;
+    Ok(Step {
+        rule,
+        premises,
+        end: Sequent { left, right },
+    })
+}
+
+#[tactic(auto, using(crate::proofs::Given::cause_given))]
+fn step_at(alloc: Global, value: &Value, index: usize) -> Result<Step, ReadError>
+    ensures value { Gives (λ s. s) result (step_element index (view value.now)) }
+    ensures formed { IfOk result (λ s. IsFormedRule s.rule) }
+{
+    match value.as_object() {
+        Some(_) => members_of_step(alloc, value, Place::Step(index)),
+        None => Err(field_fault(alloc, Place::Top, "steps", Some(index))),
+    }
+}
+
+fn steps_of(alloc: Global, values: &[Value]) -> Result<Steps, ReadError>
+    ensures { Gives (λ s. s) result (steps_data (map view values.now)) }
+{
+    let mut items = Vec::new(alloc);
+    for (index, value) in values.iter().enumerate() {
+        let step = step_at(alloc, value, index)?;
+        items.push(step)?;
+    }
+    Ok(Steps { items })
+}
+
+/// The steps of the job.
+pub fn steps_at(alloc: Global, value: &Value) -> Result<Steps, ReadError>
+    ensures { Gives (λ s. s) result (steps_member (view value.now)) }
+{
+    let values = list_at(alloc, value, Place::Top, "steps")?;
+    steps_of(alloc, values)
+}

@@ -1,0 +1,54 @@
+-- What running a line comes to, from what reading it gives.
+use Rattle.std.proofs.Common.{◌≡◌, ℕ, ◌<◌, Bool, true, false, cond, List, length, Ok, Err, sym, ap, ◌∙◌, refl, subst, arith}
+use Rattle.std.specs.Prelude.{Option, Some, None}
+use Rattle.std.proofs.lemmas.Bool.Decides.{nat_tests}
+use Rattle.proof_graph.specs.declared.graph.Graph.{Graph}
+use Rattle.job_lang.specs.declared.jobs.Job.{Job}
+use Rattle.job_lang.specs.declared.jobs.JobError.TheVariants.{Fault}
+use Rattle.job_lang.specs.declared.reading.JobCause.{JobCause}
+use Rattle.job_lang.specs.declared.replies.Outcome.TheVariants.{Reading, LineTooLong}
+use Rattle.job_lang.specs.Jobs.{reads_job, GivesJob}
+use Rattle.proof_server.specs.Jobs.{max_line, is_too_long}
+use Rattle.proof_server.specs.Values.{Lookup, Run, fault}
+use Rattle.proof_server.specs.Answers.{name_of, run_read, run_line}
+use Rattle.proof_server.specs.Means.{Answers}
+use Rattle.proof_server.specs.declared.store.Ran.TheVariants as ran
+
+module _ (line : List ℕ) where
+  run_short : (lookup : Lookup) → is_too_long line ≡ false → run_line lookup line ≡ run_read lookup (reads_job line).name (reads_job line).op
+  unfolding run_line
+  run_short lookup short = ap (λ (b : Bool). cond b (fault LineTooLong) (run_read lookup (reads_job line).name (reads_job line).op)) short
+
+  name_short : is_too_long line ≡ false → name_of line ≡ (reads_job line).name
+  unfolding name_of
+  name_short short = ap (λ (b : Bool). cond b None ((reads_job line).name)) short
+
+  pub job_named : (job : Job) → is_too_long line ≡ false → GivesJob (Ok job) (reads_job line) → Some job.name ≡ name_of line
+  job_named job short given = sym (name_short short ∙ given.0)
+
+  pub job_run : (lookup : Lookup) (job : Job) → is_too_long line ≡ false → GivesJob (Ok job) (reads_job line)
+      → run_line lookup line ≡ run_read lookup (Some job.name) (Ok job.op)
+  job_run lookup job short given = run_short lookup short ∙ (λ i. run_read lookup (given.0 i) (given.1 i))
+
+  pub fault_named : (name : Option (List ℕ)) (cause : JobCause) → is_too_long line ≡ false → GivesJob (Err (Fault name cause)) (reads_job line) → name ≡ name_of line
+  fault_named name cause short given = sym (name_short short ∙ given.0)
+
+  fault_run : (lookup : Lookup) (name : Option (List ℕ)) (cause : JobCause) → is_too_long line ≡ false → GivesJob (Err (Fault name cause)) (reads_job line)
+      → run_line lookup line ≡ fault (Reading cause)
+  fault_run lookup name cause short given = run_short lookup short ∙ (λ i. run_read lookup (given.0 i) (given.1 i))
+
+  pub fault_answers : (g : Graph) (lookup : Lookup) (name : Option (List ℕ)) (cause : JobCause) → is_too_long line ≡ false → GivesJob (Err (Fault name cause)) (reads_job line)
+      → Answers g (ran.Refused (Reading cause)) (run_line lookup line)
+  fault_answers g lookup name cause short given =
+      subst (λ (r : Run). Answers g (ran.Refused (Reading cause)) r) (sym (fault_run lookup name cause short given)) refl
+
+  pub long_is : max_line < length line → is_too_long line ≡ true
+  long_is long = grind (arith, nat_tests)
+
+  pub long_run : (lookup : Lookup) → is_too_long line ≡ true → run_line lookup line ≡ fault LineTooLong
+  unfolding run_line
+  long_run lookup long = ap (λ (b : Bool). cond b (fault LineTooLong) (run_read lookup (reads_job line).name (reads_job line).op)) long
+
+  pub long_name : is_too_long line ≡ true → name_of line ≡ None
+  unfolding name_of
+  long_name long = ap (λ (b : Bool). cond b None ((reads_job line).name)) long

@@ -1,6 +1,0 @@
-use Rattle.std.proofs.Common.{◌≡◌, drop}
-use Rattle.proof_server.specs.Checking.{fault_from}
-use Rattle.proof_server.proofs.checking.find_fault.Given as goal
-
-abbrev pub invariant-loop-place : goal.invariant-loop-place
-invariant-loop-place l = fault_from l.steps 0 l.steps ≡ fault_from l.steps l.place (drop l.place l.steps)

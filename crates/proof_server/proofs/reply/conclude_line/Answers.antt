@@ -1,0 +1,31 @@
+use Rattle.std.proofs.Common.{Err, Ok, sym, ◌∙◌, subst}
+use Rattle.std.specs.Prelude.{Some}
+use Rattle.job_lang.specs.declared.jobs.JobError.{JobError}
+use Rattle.job_lang.specs.Jobs.{reads_job, GivesJob}
+use Rattle.proof_server.specs.Values.{Run}
+use Rattle.proof_server.specs.Answers.{run_read, run_line, held_of}
+use Rattle.proof_server.specs.Means.{Answers}
+use Rattle.proof_server.proofs.Concluding.{job_named, job_run, fault_named, fault_answers}
+use Rattle.proof_server.proofs.reply.conclude_line.Goals as goal
+
+pub returns-in_ok-ran-in-Ok-clause-name : goal.returns-in_ok-ran-in-Ok-clause-name
+returns-in_ok-ran-in-Ok-clause-name g c = job_named c.args.line.now c.in-Ok.field-0 c.requires.short c.in-Ok.ensures
+
+pub returns-in_ok-ran-in-Ok-clause-concluded : goal.returns-in_ok-ran-in-Ok-clause-concluded
+returns-in_ok-ran-in-Ok-clause-concluded g c = λ earlier store.
+    let lookup = held_of earlier in
+    c.conclude.ensures _ (run_line lookup c.args.line.now)
+    (subst (λ (r : Run). Answers c.run_job.new.store.graph c.in_ok-ran-in-Ok.ran r)
+    ((λ i. run_read lookup (Some (c.in_ok-text-in-Ok.ensures i)) (Ok c.in-Ok.field-0.op)) ∙ sym (job_run c.args.line.now lookup c.in-Ok.field-0 c.requires.short c.in-Ok.ensures))
+    (c.in_ok-ran-in-Ok.ensures.ran earlier store))
+
+pub returns-in-Fault-clause-name : goal.returns-in-Fault-clause-name
+returns-in-Fault-clause-name g c =
+    fault_named c.args.line.now c.in-Fault.name c.in-Fault.cause c.requires.short
+    (subst (λ (error : JobError). GivesJob (Err error) (reads_job c.args.line.now)) c.in-Fault.is c.in-Err.ensures)
+
+pub returns-in-Fault-clause-concluded : goal.returns-in-Fault-clause-concluded
+returns-in-Fault-clause-concluded g c = λ earlier store.
+    c.conclude-in-Fault.ensures c.args.store.now.graph (run_line (held_of earlier) c.args.line.now)
+    (fault_answers c.args.line.now c.args.store.now.graph (held_of earlier) c.in-Fault.name c.in-Fault.cause c.requires.short
+    (subst (λ (error : JobError). GivesJob (Err error) (reads_job c.args.line.now)) c.in-Fault.is c.in-Err.ensures))

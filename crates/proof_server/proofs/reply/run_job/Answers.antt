@@ -1,0 +1,11 @@
+use Rattle.proof_server.specs.Answers.{held_of}
+use Rattle.proof_server.proofs.Taken.{taken, untaken}
+use Rattle.proof_server.proofs.reply.run_job.Goals as goal
+
+pub returns-then-is_taken-clause-ran : goal.returns-then-is_taken-clause-ran
+returns-then-is_taken-clause-ran g c = λ earlier store.
+    taken c.args.store.now.graph (held_of earlier) c.args.name.now c.args.op c.is_taken.result (c.is_taken.ensures c.args.store.now.graph earlier store.known) c.if-is_taken.true
+
+pub returns-clause-ran : goal.returns-clause-ran
+returns-clause-ran g c = λ earlier store.
+    untaken _ (held_of earlier) c.args.name.now c.args.op c.is_taken.result (c.is_taken.ensures _ earlier store.known) c.in_ok-ran.ran c.if-is_taken.false (c.in_ok-ran.ensures.ran earlier store)

@@ -1,0 +1,65 @@
+-- What the operations come to, by the trees of proofs.
+use Rattle.std.specs.Prelude.{ℕ, ◌-◌, ◌^◌, min, length, Result, Ok, Err}
+use Rattle.lk_rules.specs.Sequents.{is_subsequent}
+use Rattle.proof_trees.specs.Trees.{Tree, concl, size, cuts, quants}
+use Rattle.lk_check.specs.declared.checking.StepCause.{StepCause}
+use Rattle.lk_check.specs.declared.checking.StepCause.TheVariants as causes
+use Rattle.lk_check.specs.declared.admission.AdmitFault.{AdmitFault}
+use Rattle.lk_check.specs.declared.admission.AdmitFault.TheVariants as admission
+use Rattle.lk_check.specs.Admission.{admission as admission_of}
+use Rattle.proof_steps.specs.Places.{steps_of}
+use Rattle.job_lang.specs.declared.jobs.Op.{Op}
+use Rattle.job_lang.specs.declared.jobs.Op.TheVariants.{Lk, Problem, Proves, Show, Measure}
+use Rattle.job_lang.specs.declared.replies.Outcome.{Outcome}
+use Rattle.job_lang.specs.declared.replies.Outcome.TheVariants as outcomes
+use Rattle.job_lang.specs.declared.replies.StepShown.{StepShown}
+use Rattle.job_lang.specs.declared.replies.StepShown.TheVariants.{Reference, Rule}
+use Rattle.job_lang.specs.declared.replies.Summary.{Summary}
+use Rattle.proof_server.specs.Values.{Value, nothing, proof, problem, Lookup, Run, fault, short, done}
+use Rattle.proof_server.specs.Naming.{given, is_proof, is_problem}
+
+-- counts end at the largest number of 64 bits
+abbrev pub capped : ℕ → ℕ
+capped n = min n (2 ^ 64 - 1)
+
+-- a proof in short
+abbrev pub summary_of : Tree → Summary
+summary_of t = record { cuts = capped (cuts t); end = concl t; quants = capped (quants t) }
+
+abbrev pub shown : StepCause → StepShown
+shown causes.Reference = Reference
+shown (causes.Rule f) = Rule f
+
+-- a list of steps that is admitted is held as a proof
+abbrev pub admits : Result Tree AdmitFault → Run
+admits (Ok t) = done (outcomes.Proof (summary_of t)) (proof t)
+admits (Err admission.Empty) = fault outcomes.Empty
+admits (Err (admission.Step i cause)) = fault (outcomes.Step i (shown cause))
+admits (Err admission.Memory) = short
+
+-- what an operation on a proof does with what its field was given
+abbrev pub on_proof : (Tree → Run) → Result Value Outcome → Run
+on_proof k (Err outcome) = fault outcome
+on_proof k (Ok (proof t)) = k t
+on_proof k (Ok value) = short
+
+abbrev pub shows : Tree → Run
+shows t = done (outcomes.Steps (steps_of t)) nothing
+
+abbrev pub measures : Tree → Run
+measures t = done (outcomes.Measure (capped (cuts t)) (length (steps_of t)) (capped (quants t)) (capped (size t))) nothing
+
+-- Whether a proof proves a problem: the proof's end sequent is a subsequent of the problem's. The field of the proof is refused first.
+abbrev pub proves : Result Value Outcome → Result Value Outcome → Run
+proves (Err outcome) goal = fault outcome
+proves (Ok value) (Err outcome) = fault outcome
+proves (Ok (proof t)) (Ok (problem p)) = done (outcomes.Proves (is_subsequent (concl t) p.sequent)) nothing
+proves (Ok value) (Ok other) = short
+
+-- an operation after jobs that hold these values
+abbrev pub run : Lookup → Op → Run
+run lookup (Lk steps) = admits (admission_of steps)
+run lookup (Show of) = on_proof shows (given lookup is_proof of)
+run lookup (Measure of) = on_proof measures (given lookup is_proof of)
+run lookup (Problem p) = done (outcomes.Entries (length p.entries) p.sequent) (problem p)
+run lookup (Proves of goal) = proves (given lookup is_proof of) (given lookup is_problem goal)
