@@ -1,0 +1,15 @@
+pub mod Numbered
+pub mod Unrolled
+pub mod Places
+pub mod BigSteps
+pub mod LessBudget
+pub mod Reached
+pub mod Kept
+pub mod Falling
+pub mod Ends
+pub mod Introduced
+pub mod ValidCuts
+pub mod Reduced
+pub mod Passed
+pub mod Cases
+pub mod TreesEnd
