@@ -1,4 +1,5 @@
 pub mod Finite
 pub mod Rising
 pub mod Places
+pub mod Removed
 pub mod Inclusion

@@ -199,6 +199,9 @@ fn sets_of_variables(rt: HostRuntime) -> Result<(), Fail> {
     assert!(rt; !Vars::new(alloc).has(&x));
     assert!(rt; all.has(&x) && all.has(&Var::Num(1)) && !all.has(&Var::Num(0)));
     assert!(rt; all.copy(alloc)?.into_vec().as_slice() == all.as_slice());
+    vars.remove(&x);
+    vars.remove(&Var::Num(0));
+    assert!(rt; vars.as_slice().len() == 2 && !vars.has(&x) && vars.has(&Var::Num(3)));
     Ok(())
 }
 

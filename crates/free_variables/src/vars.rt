@@ -1,5 +1,8 @@
 //! Finite sets of variables.
-ghost use Rattle.std.specs.Prelude.{◌≡◌, ◌↔◌, IsTrue, IfOk, OnOk, OnErr};
+ghost use Rattle.std.specs.Prelude.{◌≡◌, ◌↔◌, not, ◌&&◌, IsTrue, IfOk, OnOk, OnErr};
+ghost use Rattle.std.specs.Ordering.{eq_by_cmp};
+ghost use Rattle.fol.specs.declared.symbols.Var.{Var as Variable};
+ghost use Rattle.fol.specs.Order.{var_cmp};
 ghost use Rattle.finite.specs.Finite as set;
 ghost use Rattle.finite.specs.Finite.{IsSubset};
 ghost use Rattle.free_variables.specs.Union.{union_of};
@@ -82,6 +85,13 @@ impl Vars {
         ensures err { OnErr result (self.new ≡ self.old) }
     {
         finite::add(&mut self.items, var)
+    }
+
+    /// Removes a variable, where the set has it.
+    pub fn remove(&mut self, var: &Var)
+        ensures { (v : Variable) → set.has self.new v ≡ (not (eq_by_cmp var_cmp v var.now) && set.has self.old v) }
+    {
+        finite::remove(&mut self.items, var)
     }
 
     /// Whether each variable of this set is in the other.

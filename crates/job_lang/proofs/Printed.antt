@@ -21,7 +21,7 @@ use Rattle.job_lang.specs.declared.reading.JobCause.{JobCause}
 use Rattle.job_lang.specs.declared.reading.JobCause.TheVariants as causes
 use Rattle.job_lang.specs.declared.replies.Reply.{Reply}
 use Rattle.job_lang.specs.declared.replies.Outcome.{Outcome}
-use Rattle.job_lang.specs.declared.replies.Outcome.TheVariants.{Proof, Entries, Proves, Steps, Measure, LineTooLong, Reading, NameTaken, UnknownName, Kind, Empty, Step as Faulty, Memory}
+use Rattle.job_lang.specs.declared.replies.Outcome.TheVariants.{Proof, Reduced, Entries, Proves, Steps, Measure, LineTooLong, Reading, NameTaken, UnknownName, Kind, Empty, Step as Faulty, Refutation, Budget, Memory}
 use Rattle.job_lang.specs.declared.replies.StepShown.{StepShown}
 use Rattle.job_lang.specs.declared.replies.StepShown.TheVariants.{Reference, Rule}
 
@@ -103,6 +103,7 @@ no_float_steps (step ∷ steps) =
 
 no_float_answer : (outcome : Outcome) → has_no_float (answer_data outcome)
 no_float_answer (Proof s) = no_float_sides s.end.left s.end.right
+no_float_answer (Reduced s reductions) = no_float_sides s.end.left s.end.right
 no_float_answer (Entries n s) = no_float_sides s.left s.right
 no_float_answer (Proves proves) = refl
 no_float_answer (Steps steps) = either (items_have_float (items_of (map proof_step steps))) false (no_float_steps steps) refl
@@ -114,6 +115,8 @@ no_float_answer (UnknownName name) = refl
 no_float_answer (Kind name) = refl
 no_float_answer Empty = refl
 no_float_answer (Faulty step cause) = no_float_step step cause
+no_float_answer (Refutation step cause) = refl
+no_float_answer Budget = refl
 no_float_answer Memory = refl
 
 no_float_by : (answer : Result Data Data) (name : Data) (n : ℕ) → has_no_float answer → has_float name ≡ false → has_float (reply_by answer name n) ≡ false

@@ -8,13 +8,14 @@ use Rattle.job_lang.specs.declared.reading.JobCause.TheVariants.{Json, Field, Op
 use Rattle.job_lang.specs.declared.reading.ReadError.{ReadError}
 use Rattle.job_lang.specs.declared.reading.ReadError.TheVariants.{Fault as ReadFault, Memory as ReadMemory}
 use Rattle.job_lang.specs.declared.jobs.Op.{Op}
-use Rattle.job_lang.specs.declared.jobs.Op.TheVariants.{Lk, Problem, Proves, Show, Measure}
+use Rattle.job_lang.specs.declared.jobs.Op.TheVariants.{Lk, Problem, Proves, Show, Measure, Subst}
 use Rattle.job_lang.specs.declared.jobs.Job.{Job}
 use Rattle.job_lang.specs.declared.jobs.JobError.{JobError}
 use Rattle.job_lang.specs.declared.jobs.JobError.TheVariants.{Memory, Fault}
 use Rattle.job_lang.specs.Names.{is_job_name}
 use Rattle.job_lang.specs.Places.{path}
 use Rattle.job_lang.specs.Fields.{Reading, ◌>>=◌, or_fault, text_at}
+use Rattle.job_lang.specs.Maps.{map_at}
 use Rattle.job_lang.specs.Problems.{problem_at}
 use Rattle.job_lang.specs.Rules.{is_text}
 use Rattle.job_lang.specs.Steps.{steps_at}
@@ -36,6 +37,13 @@ proves_of d = do
   problem ← text_at Top (codes "problem") d
   Ok (Proves proof problem)
 
+-- a proof, by the name of its job, and a map from variables to terms
+abbrev pub subst_of : Data → Reading Op
+subst_of d = do
+  proof ← text_at Top (codes "proof") d
+  map ← map_at Top d
+  Ok (Subst proof map)
+
 -- the operation of this name with its fields
 abbrev pub op_named : List ℕ → Data → Reading Op
 op_named name d =
@@ -44,7 +52,8 @@ op_named name d =
     else (if is_text name (codes "proves") then proves_of d
     else (if is_text name (codes "show") then text_at Top (codes "of") d >>= (λ of. Ok (Show of))
     else (if is_text name (codes "measure") then text_at Top (codes "proof") d >>= (λ proof. Ok (Measure proof))
-    else Err UnknownOp))))
+    else (if is_text name (codes "subst") then subst_of d
+    else Err UnknownOp)))))
 
 abbrev pub op_of : Data → Reading Op
 op_of d = text_at Top (codes "op") d >>= λ name. op_named name d

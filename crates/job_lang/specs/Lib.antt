@@ -2,9 +2,13 @@ pub mod Names
 pub mod Places
 pub mod Fields
 pub mod Formulas
+pub mod Maps
+pub mod Budgets
 pub mod Problems
 pub mod Rules
 pub mod Steps
+pub mod Resolutions
 pub mod Jobs
 pub mod Replies
 pub mod Shown
+pub mod FormedOps

@@ -21,8 +21,10 @@ use Rattle.job_lang.specs.declared.reading.JobCause.TheVariants as causes
 use Rattle.job_lang.specs.declared.replies.Summary.{Summary}
 use Rattle.job_lang.specs.declared.replies.StepShown.{StepShown}
 use Rattle.job_lang.specs.declared.replies.StepShown.TheVariants.{Reference, Rule}
+use Rattle.job_lang.specs.declared.replies.RefutationShown.{RefutationShown}
+use Rattle.job_lang.specs.declared.replies.RefutationShown.TheVariants as refutations
 use Rattle.job_lang.specs.declared.replies.Outcome.{Outcome}
-use Rattle.job_lang.specs.declared.replies.Outcome.TheVariants.{Proof, Entries, Proves, Steps, Measure, LineTooLong, Reading, NameTaken, UnknownName, Kind, Empty, Step as Faulty, Memory}
+use Rattle.job_lang.specs.declared.replies.Outcome.TheVariants.{Proof, Reduced, Entries, Proves, Steps, Measure, LineTooLong, Reading, NameTaken, UnknownName, Kind, Empty, Step as Faulty, Refutation, Budget, Memory}
 use Rattle.job_lang.specs.declared.replies.Reply.{Reply}
 use Rattle.job_lang.specs.Rules.{kind_of, kind_name}
 
@@ -40,6 +42,12 @@ side_data side = formulas_data (set.listing side)
 abbrev pub summary_data : Summary → Data
 summary_data s = object (member (codes "cuts") (count_data s.cuts) (member (codes "left") (side_data s.end.left)
     (member (codes "quants") (count_data s.quants) (member (codes "right") (side_data s.end.right) no_members))))
+
+-- a proof in short, and after how many reductions it was met
+abbrev pub reduced_data : Summary → ℕ → Data
+reduced_data s reductions = object (member (codes "cuts") (count_data s.cuts) (member (codes "left") (side_data s.end.left)
+    (member (codes "quants") (count_data s.quants) (member (codes "reductions") (count_data reductions)
+    (member (codes "right") (side_data s.end.right) no_members)))))
 
 -- a problem in short: how many entries it has, and its sequent
 abbrev pub entries_data : ℕ → Sequent → Data
@@ -158,6 +166,16 @@ step_data step (Rule MainMissing) = named_fault (codes "main_missing") step
 step_data step (Rule EigenFree) = named_fault (codes "eigen_free") step
 step_data step (Rule (Premise premise)) = premise_fault premise step
 
+abbrev pub refutation_cause : RefutationShown → List ℕ
+refutation_cause refutations.Reference = codes "reference"
+refutation_cause refutations.AtomMissing = codes "atom_missing"
+refutation_cause refutations.NotEmpty = codes "not_empty"
+
+-- the fault of a step of a refutation
+abbrev pub refutation_data : ℕ → RefutationShown → Data
+refutation_data step cause = object (member (codes "cause") (string (refutation_cause cause)) (member (codes "kind") (string (codes "refutation"))
+    (member (codes "step") (count_data step) no_members)))
+
 -- the job's name, where the reply has one
 abbrev pub name_data : Option (List ℕ) → Data
 name_data None = null
@@ -172,6 +190,7 @@ error_data error name n = object (member (codes "error") error (member (codes "j
 -- what came of a job: the object of an Ok reply, or that of an error
 abbrev pub answer_data : Outcome → Result Data Data
 answer_data (Proof summary) = Ok (summary_data summary)
+answer_data (Reduced summary reductions) = Ok (reduced_data summary reductions)
 answer_data (Entries entries sequent) = Ok (entries_data entries sequent)
 answer_data (Proves proves) = Ok (proves_data proves)
 answer_data (Steps steps) = Ok (steps_data steps)
@@ -183,6 +202,8 @@ answer_data (UnknownName name) = Err (named (codes "unknown_name") name)
 answer_data (Kind name) = Err (named (codes "kind") name)
 answer_data Empty = Err (plain (codes "empty"))
 answer_data (Faulty step cause) = Err (step_data step cause)
+answer_data (Refutation step cause) = Err (refutation_data step cause)
+answer_data Budget = Err (plain (codes "budget"))
 answer_data Memory = Err (plain (codes "memory"))
 
 -- whether the reply is no error

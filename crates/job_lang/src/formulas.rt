@@ -1,9 +1,9 @@
 //! Reading formulas, and lists of them as sides of a sequent.
 ghost use Rattle.std.specs.Prelude.{◌≡◌, map, IfOk, Some, None};
-ghost use Rattle.finite.specs.Finite as set;
+ghost use Rattle.std.specs.List.{All};
 ghost use Rattle.fol.specs.Formed.{IsFormed, IsFormedTerm, IsFormedVar};
 ghost use Rattle.serde_json.specs.View.{view};
-ghost use Rattle.job_lang.specs.Fields.{Gives};
+ghost use Rattle.job_lang.specs.Fields.{Gives, each};
 ghost use Rattle.job_lang.specs.Formulas.{formula_text, formula_at as formula_member, formula_of as formula_element, side_of, side_at as side_member, term_at as term_member, variable_at as variable_member};
 
 use crate::places::Place;
@@ -99,6 +99,24 @@ fn formula_of(
     }
 }
 
+/// The formulas that the elements of a list are.
+fn each_formula(
+    alloc: Global,
+    values: &[Value],
+    place: Place,
+    key: &str,
+) -> Result<Vec<Formula>, ReadError>
+    ensures value { Gives (λ v. v.items) result (each (formula_element place key.now) 0 (map view values.now)) }
+    ensures formed { IfOk result (λ v. All IsFormed v.items) }
+{
+    let mut formulas = Vec::new(alloc);
+    for (index, value) in values.iter().enumerate() {
+        let formula = formula_of(alloc, value, place, key, index)?;
+        formulas.push(formula)?;
+    }
+    Ok(formulas)
+}
+
 fn formulas_of(
     alloc: Global,
     values: &[Value],
@@ -107,12 +125,8 @@ fn formulas_of(
 ) -> Result<Formulas, ReadError>
     ensures { Gives (λ s. s) result (side_of place key.now (map view values.now)) }
 {
-    let mut formulas = Formulas::new(alloc);
-    for (index, value) in values.iter().enumerate() {
-        let formula = formula_of(alloc, value, place, key, index)?;
-        formulas.add(formula)?;
-    }
-    Ok(formulas)
+    let formulas = each_formula(alloc, values, place, key)?;
+    Ok(Formulas::from_vec(formulas))
 }
 
 /// The member that is a side of a sequent: a list of formulas. One that is written twice is in it once.

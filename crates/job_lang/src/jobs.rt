@@ -2,8 +2,9 @@
 ghost use Rattle.std.specs.Prelude.{◌≡◌, IfOk};
 ghost use Rattle.serde_json.specs.View.{view};
 ghost use Rattle.job_lang.specs.Fields.{Gives};
-ghost use Rattle.job_lang.specs.Jobs.{error_with, value_of as line_value, name_of as name_data, op_named as named_op, op_of as op_data, reads_job, GivesJob};
+ghost use Rattle.job_lang.specs.Jobs.{error_with, value_of as line_value, name_of as name_data, subst_of as subst_data, op_named as named_op, op_of as op_data, reads_job, GivesJob};
 
+use crate::maps::{FormedMap, map_at};
 use crate::names::{Name, is_name};
 use crate::places::Place;
 use crate::problems::problem_at;
@@ -27,6 +28,8 @@ pub enum Op {
     Show { of: Utf8Text },
     /// The sizes of a proof.
     Measure { proof: Utf8Text },
+    /// A proof with its free variables replaced by terms.
+    Subst { proof: Utf8Text, map: FormedMap },
 }
 
 /// A job: what it asks for, under a name.
@@ -55,6 +58,14 @@ fn name_of(alloc: Global, value: &Value) -> Result<Name, ReadError>
     Ok(Name::from_string(String::from_str(alloc, text)?))
 }
 
+fn subst_of(alloc: Global, value: &Value) -> Result<Op, ReadError>
+    ensures { Gives (λ op. op) result (subst_data (view value.now)) }
+{
+    let proof = written_at(alloc, value, Place::Top, "proof")?;
+    let map = map_at(alloc, value, Place::Top)?;
+    Ok(Op::Subst { proof, map })
+}
+
 fn op_named(alloc: Global, name: &str, value: &Value) -> Result<Op, ReadError>
     ensures { Gives (λ op. op) result (named_op name.now (view value.now)) }
 {
@@ -78,6 +89,9 @@ fn op_named(alloc: Global, name: &str, value: &Value) -> Result<Op, ReadError>
     if name == "measure" {
         let proof = written_at(alloc, value, Place::Top, "proof")?;
         return Ok(Op::Measure { proof });
+    }
+    if name == "subst" {
+        return subst_of(alloc, value);
     }
     Err(ReadError::Fault(JobCause::Op))
 }

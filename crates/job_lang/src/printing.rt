@@ -2,12 +2,12 @@
 ghost use Rattle.std.specs.Prelude.{◌≡◌, ◌++◌, [], ◌∷◌, true, false, codes, IfOk, option_copied};
 ghost use Rattle.serde_json.specs.View.{view};
 ghost use Rattle.serde_json.specs.Written.{has_float, compact_text};
-ghost use Rattle.job_lang.specs.Replies.{summary_data, entries_data, proves_data, measure_data, named as named_data, plain as plain_data, field_data, text_kind as kind_text, problem_kind as problem_kind_text, formula_data, tptp_data, reading_data, named_fault as named_fault_data, premise_fault as premise_fault_data, step_data, name_data, ok_data, error_data, answer_data, reply_by, reply_data, line_of as line_of_reply};
+ghost use Rattle.job_lang.specs.Replies.{summary_data, reduced_data, entries_data, proves_data, measure_data, named as named_data, plain as plain_data, field_data, text_kind as kind_text, problem_kind as problem_kind_text, formula_data, tptp_data, reading_data, named_fault as named_fault_data, premise_fault as premise_fault_data, step_data, refutation_cause as refutation_cause_text, refutation_data, name_data, ok_data, error_data, answer_data, reply_by, reply_data, line_of as line_of_reply};
 ghost use Rattle.job_lang.specs.Shown.{viewed};
 
 use crate::names::Name;
 use crate::reading::JobCause;
-use crate::replies::{Outcome, Reply, StepShown, Summary};
+use crate::replies::{Outcome, RefutationShown, Reply, StepShown, Summary};
 use crate::step_values::steps_value;
 use crate::values::formulas_value;
 use lk_rules::{RuleFault, Sequent};
@@ -24,6 +24,16 @@ fn summary_value(alloc: Global, summary: &Summary) -> Result<Value, AllocError>
     let cuts = summary.cuts;
     let quants = summary.quants;
     json!(in alloc; {"cuts": cuts, "left": left, "quants": quants, "right": right})
+}
+
+fn reduced_value(alloc: Global, summary: &Summary, reductions: u64) -> Result<Value, AllocError>
+    ensures { IfOk result (λ v. view v ≡ reduced_data summary.now reductions) }
+{
+    let left = formulas_value(alloc, summary.end.left())?;
+    let right = formulas_value(alloc, summary.end.right())?;
+    let cuts = summary.cuts;
+    let quants = summary.quants;
+    json!(in alloc; {"cuts": cuts, "left": left, "quants": quants, "reductions": reductions, "right": right})
 }
 
 fn entries_value(alloc: Global, entries: u64, sequent: &Sequent) -> Result<Value, AllocError>
@@ -149,6 +159,23 @@ fn step_value(alloc: Global, step: u64, cause: StepShown) -> Result<Value, Alloc
     }
 }
 
+fn refutation_cause(cause: RefutationShown) -> &'static str
+    ensures { result.now ≡ refutation_cause_text cause }
+{
+    match cause {
+        RefutationShown::Reference => "reference",
+        RefutationShown::AtomMissing => "atom_missing",
+        RefutationShown::NotEmpty => "not_empty",
+    }
+}
+
+fn refutation_value(alloc: Global, step: u64, cause: RefutationShown) -> Result<Value, AllocError>
+    ensures { IfOk result (λ v. view v ≡ refutation_data step cause) }
+{
+    let cause = refutation_cause(cause);
+    json!(in alloc; {"cause": cause, "kind": "refutation", "step": step})
+}
+
 fn ok_value(alloc: Global, answer: Value, name: Value, n: u64) -> Result<Value, AllocError>
     ensures { IfOk result (λ v. view v ≡ ok_data (view answer) (view name) n) }
 {
@@ -176,6 +203,9 @@ fn answer_value(alloc: Global, outcome: &Outcome) -> Result<Result<Value, Value>
 {
     match outcome {
         Outcome::Proof(summary) => Ok(Ok(summary_value(alloc, summary)?)),
+        Outcome::Reduced(summary, reductions) => {
+            Ok(Ok(reduced_value(alloc, summary, *reductions)?))
+        }
         Outcome::Entries { entries, sequent } => Ok(Ok(entries_value(alloc, *entries, sequent)?)),
         Outcome::Proves(proves) => Ok(Ok(proves_value(alloc, *proves)?)),
         Outcome::Steps(steps) => Ok(Ok(steps_value(alloc, steps.as_slice())?)),
@@ -192,6 +222,8 @@ fn answer_value(alloc: Global, outcome: &Outcome) -> Result<Result<Value, Value>
         Outcome::Kind(name) => Ok(Err(named(alloc, "kind", name.as_str())?)),
         Outcome::Empty => Ok(Err(plain(alloc, "empty")?)),
         Outcome::Step { step, cause } => Ok(Err(step_value(alloc, *step, *cause)?)),
+        Outcome::Refutation { step, cause } => Ok(Err(refutation_value(alloc, *step, *cause)?)),
+        Outcome::Budget => Ok(Err(plain(alloc, "budget")?)),
         Outcome::Memory => Ok(Err(plain(alloc, "memory")?)),
     }
 }

@@ -22,11 +22,24 @@ pub enum StepShown {
     Rule(RuleFault),
 }
 
+/// What is wrong with a step of a refutation.
+#[derive(Clone, Copy, Debug, PartialEq, Eq)]
+pub enum RefutationShown {
+    /// It names no clause, or no earlier step.
+    Reference,
+    /// The atom isn't among the positive literals of the one clause, or not among the negative ones of the other.
+    AtomMissing,
+    /// It is the last step, and its clause isn't empty; or there is no step.
+    NotEmpty,
+}
+
 /// What came of a job.
 #[derive(Debug, Drop)]
 pub enum Outcome {
     /// The job is a proof.
     Proof(Summary),
+    /// The job is a proof, after this many reductions.
+    Reduced(Summary, u64),
     /// The job is a problem: how many entries it has, and its sequent.
     Entries {
         entries: u64,
@@ -60,6 +73,13 @@ pub enum Outcome {
         step: u64,
         cause: StepShown,
     },
+    /// The first faulty step of the refutation, counted from 0, and its fault.
+    Refutation {
+        step: u64,
+        cause: RefutationShown,
+    },
+    /// After as many reductions as the budget allows a cut is left.
+    Budget,
     /// Memory ran out while the job was run.
     Memory,
 }

@@ -25,6 +25,7 @@ use Rattle.proof_server.specs.declared.session.Stop.TheVariants as stop
 use Rattle.proof_server.specs.Answers.{IsLawful, run_line, held_of}
 use Rattle.proof_server.specs.Shown.{job_of}
 use Rattle.proof_server.proofs.Turns.{some_end}
+use Rattle.proof_server.proofs.AskedProofs.{all_asked}
 use Rattle.proof_server.proofs.Midway.{ReadSoFar, Midway, whole_so_far, hand, jobs-append, Rose-since}
 
 -- nothing of the next reply is a part of it
@@ -63,6 +64,7 @@ abbrev all_answered : (done : List Past) (lines asked : List (List ℕ)) → IsL
 all_answered done lines asked lawful each same = record {
   done = done;
   lawful = lawful;
+  proofs = all_asked done;
   each = each ∙ ap jobs (sym same);
   bytes = refl;
 }
@@ -75,6 +77,7 @@ others_wait done lines more asked lawful each same = record {
   waiting = jobs more;
   part = [];
   lawful = lawful;
+  proofs = all_asked done;
   each = ap (λ (x : List (List ℕ)). x ++ jobs more) each ∙ sym (jobs-append lines more) ∙ ap jobs (sym same);
   bytes = sym (append-nil (out done));
   next = part_none done (jobs more) lawful;
@@ -89,6 +92,7 @@ part_and_others done lines line more asked part lawful each same next = record {
   waiting = jobs (line ∷ []) ++ jobs more;
   part = part;
   lawful = lawful;
+  proofs = all_asked done;
   each = ap (λ (x : List (List ℕ)). x ++ (jobs (line ∷ []) ++ jobs more)) each
       ∙ sym (append_assoc (jobs lines) (jobs (line ∷ [])) (jobs more))
       ∙ ap (λ (x : List (List ℕ)). x ++ jobs more) (sym (jobs-append lines (line ∷ [])))
@@ -255,7 +259,7 @@ nothing_done before old = record {
   taken = [];
   written = [];
   moved = record { from = Consumes-nil before; to = Appends-nil old };
-  replies = inl (record { done = []; waiting = []; part = []; lawful = tt; each = refl; bytes = refl; next = refl });
+  replies = inl (record { done = []; waiting = []; part = []; lawful = tt; proofs = tt; each = refl; bytes = refl; next = refl });
 }
 
 -- the session stopped at a line

@@ -1,38 +1,43 @@
--- What a field is given decides what an operation on it comes to.
-use Rattle.std.proofs.Common.{◌≡◌, ℕ, List, Result, Ok, Err, refl, sym, subst}
+-- What a field is given decides what an operation comes to.
+use Rattle.std.proofs.Common.{◌≡◌, ℕ, List, Result, Ok, Err, IfOk, refl, sym, subst}
 use Rattle.proof_graph.specs.References.{Reference}
 use Rattle.proof_graph.specs.declared.graph.Graph.{Graph}
+use Rattle.proof_graph.specs.Graphs.{IsOf}
+use Rattle.proof_trees.specs.Trees.{Tree}
 use Rattle.job_lang.specs.declared.replies.Outcome.{Outcome}
-use Rattle.job_lang.specs.declared.replies.Outcome.TheVariants.{UnknownName, Kind}
-use Rattle.proof_server.specs.Values.{Value, lacking}
+use Rattle.proof_server.specs.Values.{Value, Run}
 use Rattle.proof_server.specs.Operations.{on_proof}
-use Rattle.proof_server.specs.Means.{Answers, GivesProof, IsGivenOf, Finds}
+use Rattle.proof_server.specs.Means.{Answers, Gives, IsProofGiven, found_of, Refuses, Finds}
 use Rattle.proof_server.specs.declared.held.Given.{Given}
 use Rattle.proof_server.specs.declared.held.Given.TheVariants as given
+use Rattle.proof_server.specs.declared.store.Ran.{Ran}
 use Rattle.proof_server.specs.declared.store.Ran.TheVariants as ran
 
-module _ (g : Graph) (wanted : Result Value Outcome) where
-  pub found_proof : (text : List ℕ) (answer : Given) (r : Reference) → answer ≡ given.Proof r → GivesProof g text answer wanted → Finds g (Ok r) wanted
-  found_proof text answer r is gives = subst (λ (a : Given). GivesProof g text a wanted) is gives
+-- what is found is what the field is given
+finds_by : {T : Type 0} (is : T → Result Value Outcome → Type 0) (text : List ℕ) (answer : Given T) (wanted : Result Value Outcome)
+    → Gives is text answer wanted → Finds is (found_of text answer) wanted
+finds_by is text (given.Value x) wanted gives = gives
+finds_by is text given.Lacking wanted gives = gives
+finds_by is text given.Unknown wanted gives = gives
+finds_by is text given.Kind wanted gives = gives
 
-  pub found_lacking : (text : List ℕ) (answer : Given) → answer ≡ given.Lacking → GivesProof g text answer wanted → Finds g (Err ran.Lacked) wanted
-  found_lacking text answer is gives k =
-      let lacks : wanted ≡ Ok lacking = subst (λ (a : Given). GivesProof g text a wanted) is gives in
-      subst (λ (w : Result Value Outcome). Answers g ran.Lacked (on_proof k w)) (sym lacks) tt
+pub finds : {T : Type 0} (is : T → Result Value Outcome → Type 0) (text of : List ℕ) (answer : Given T) (found : Result T Ran) (wanted : List ℕ → Result Value Outcome)
+    → text ≡ of → found ≡ found_of of answer → Gives is text answer (wanted text) → Finds is found (wanted of)
+finds is text of answer found wanted same made gives =
+    subst (λ (r : Result _ Ran). Finds is r (wanted of)) (sym made)
+    (finds_by is of answer (wanted of) (subst (λ (t : List ℕ). Gives is t answer (wanted t)) same gives))
 
-  pub found_unknown : (text : List ℕ) (answer : Given) → answer ≡ given.Unknown → GivesProof g text answer wanted → Finds g (Err (ran.Refused (UnknownName text))) wanted
-  found_unknown text answer is gives k =
-      let unknown : wanted ≡ Err (UnknownName text) = subst (λ (a : Given). GivesProof g text a wanted) is gives in
-      subst (λ (w : Result Value Outcome). Answers g (ran.Refused (UnknownName text)) (on_proof k w)) (sym unknown) refl
+-- a reference that is found is one of the graph
+pub found_of_graph : (g : Graph) (found : Result Reference Ran) (wanted : Result Value Outcome) → Finds (IsProofGiven g) found wanted → IfOk found (IsOf g)
+found_of_graph g (Ok r) wanted is = is.0
+found_of_graph g (Err ran) wanted is = tt
 
-  pub found_kind : (text : List ℕ) (answer : Given) → answer ≡ given.Kind → GivesProof g text answer wanted → Finds g (Err (ran.Refused (Kind text))) wanted
-  found_kind text answer is gives k =
-      let kind : wanted ≡ Err (Kind text) = subst (λ (a : Given). GivesProof g text a wanted) is gives in
-      subst (λ (w : Result Value Outcome). Answers g (ran.Refused (Kind text)) (on_proof k w)) (sym kind) refl
+-- an operation on a proof that is found, and on one that isn't
+pub with_proof : (g : Graph) (k : Tree → Run) (r : Reference) (answer : Ran) (wanted : Result Value Outcome) → IsProofGiven g r wanted → Answers g answer (k r.tree)
+    → Answers g answer (on_proof k wanted)
+with_proof g k r answer wanted is answers = subst (λ (w : Result Value Outcome). Answers g answer (on_proof k w)) (sym is.1) answers
 
--- a reference that a field is given is one of the graph
-pub given_of_graph : (g : Graph) (text : List ℕ) (answer : Given) (wanted : Result Value Outcome) → GivesProof g text answer wanted → IsGivenOf g answer
-given_of_graph g text (given.Proof r) wanted gives = gives.0
-given_of_graph g text given.Lacking wanted gives = tt
-given_of_graph g text given.Unknown wanted gives = tt
-given_of_graph g text given.Kind wanted gives = tt
+pub without_proof : (g : Graph) (k : Tree → Run) (r : Ran) (wanted : Result Value Outcome) → Refuses r wanted → Answers g r (on_proof k wanted)
+without_proof g k ran.Lacked wanted is = subst (λ (w : Result Value Outcome). Answers g ran.Lacked (on_proof k w)) (sym is) tt
+without_proof g k (ran.Refused outcome) wanted is = subst (λ (w : Result Value Outcome). Answers g (ran.Refused outcome) (on_proof k w)) (sym is) refl
+without_proof g k (ran.Done outcome h) wanted is = absurd is

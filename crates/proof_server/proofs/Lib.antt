@@ -6,4 +6,5 @@ pub mod LongLines
 pub mod Midway
 pub mod ReplyLines
 pub mod Turns
+pub mod AskedProofs
 pub mod Endings

@@ -6,7 +6,7 @@ use Rattle.proof_server.specs.Jobs.{Past, max_line}
 use Rattle.proof_server.specs.Values.{Value, Run, concluded}
 use Rattle.proof_server.specs.Naming.{or_else}
 use Rattle.proof_server.specs.Answers.{name_of, named_value, run_line, held_of, may_lack}
-use Rattle.proof_server.specs.Means.{Matches, IsStore}
+use Rattle.proof_server.specs.Means.{Matches, graph_in, IsStore}
 use Rattle.proof_server.specs.Shown.{job_of, IsAnswered}
 use Rattle.std.specs.BTreeMap.{get}
 use Rattle.fol.specs.Order.{text_cmp}
@@ -25,8 +25,8 @@ nameless store earlier line behind none = record {
   pass = behind.pass;
   known = λ q.
       let value = (concluded false (run_line (held_of earlier) line)).value in
-      subst (λ (o : Option Value). Matches store.graph (get text_cmp store.names.held q) (or_else (held_of earlier q) o))
-      (sym (ap (λ name. named_value q name value) none)) (no_more store.graph (get text_cmp store.names.held q) (held_of earlier q) (behind.known q));
+      subst (λ (o : Option Value). Matches (graph_in store) (get text_cmp store.names.held q) (or_else (held_of earlier q) o))
+      (sym (ap (λ name. named_value q name value) none)) (no_more (graph_in store) (get text_cmp store.names.held q) (held_of earlier q) (behind.known q));
 }
 
 pub long_answered : (line : List ℕ) (earlier : List Past) (store : Store) → IsStore store earlier → max_line < length line

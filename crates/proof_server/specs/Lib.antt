@@ -3,6 +3,7 @@ pub mod Values
 pub mod Naming
 pub mod Operations
 pub mod Answers
+pub mod Asked
 pub mod Replying
 pub mod Means
 pub mod Shown

@@ -3,21 +3,21 @@ use Rattle.std.specs.Prelude.{◌≡◌, ℕ, List, Option, Some, None, Result, 
 use Rattle.std.specs.BTreeMap.{get}
 use Rattle.fol.specs.Order.{text_cmp}
 use Rattle.proof_graph.specs.declared.graph.Graph.{Graph}
-use Rattle.proof_graph.specs.Graphs.{IsOf, IsPassOf}
+use Rattle.proof_graph.specs.Graphs.{IsOf}
+use Rattle.proof_subst.specs.Benches.{graph_of, IsBenchPassOf}
+use Rattle.tptp_problem.specs.declared.problems.Problem.{Problem}
 use Rattle.job_lang.specs.declared.replies.Outcome.{Outcome}
 use Rattle.job_lang.specs.declared.replies.Outcome.TheVariants.{UnknownName, Kind}
 use Rattle.proof_server.specs.Jobs.{Past}
 use Rattle.proof_server.specs.Values.{Value, nothing, refused, lacking, proof, problem, Run, fault, short, done}
 use Rattle.proof_trees.specs.Trees.{Tree}
 use Rattle.proof_graph.specs.References.{Reference}
-use Rattle.proof_server.specs.Operations.{measures, on_proof}
+use Rattle.proof_server.specs.Operations.{measures}
 use Rattle.proof_server.specs.Answers.{held_of}
 use Rattle.proof_server.specs.declared.held.Held.{Held}
 use Rattle.proof_server.specs.declared.held.Held.TheVariants as held
 use Rattle.proof_server.specs.declared.held.Given.{Given}
 use Rattle.proof_server.specs.declared.held.Given.TheVariants as given
-use Rattle.proof_server.specs.declared.held.GivenProblem.{GivenProblem}
-use Rattle.proof_server.specs.declared.held.GivenProblem.TheVariants as goals
 use Rattle.proof_server.specs.declared.names.Names.{Names}
 use Rattle.proof_server.specs.declared.store.Ran.{Ran}
 use Rattle.proof_server.specs.declared.store.Ran.TheVariants as ran
@@ -42,28 +42,54 @@ Matches g h v = ⊥
 abbrev pub Knows : Graph → Names → List Past → Type 0
 Knows g names earlier = (q : List ℕ) → Matches g (get text_cmp names.held q) (held_of earlier q)
 
+-- the graph that the proofs of a store share
+abbrev pub graph_in : Store → Graph
+graph_in store = graph_of store.bench
+
 -- the store stands behind these jobs
 pub record IsStore (store : Store) (earlier : List Past) : Type 0 where
-  pub pass : IsPassOf store.graph store.pass
-  pub known : Knows store.graph store.names earlier
+  pub pass : IsBenchPassOf store.bench store.pass
+  pub known : Knows (graph_in store) store.names earlier
 
 -- it stands behind some jobs
 abbrev pub IsSomeStore : Store → Type 0
 IsSomeStore store = (earlier : List Past) × IsStore store earlier
 
--- what a field with this text is given
-abbrev pub GivesProof : Graph → List ℕ → Given → Result Value Outcome → Type 0
-GivesProof g text (given.Proof r) wanted = IsOf g r × (wanted ≡ Ok (proof r.tree))
-GivesProof g text given.Lacking wanted = wanted ≡ Ok lacking
-GivesProof g text given.Unknown wanted = wanted ≡ Err (UnknownName text)
-GivesProof g text given.Kind wanted = wanted ≡ Err (Kind text)
+-- what a field with this text is given; `is` says what a value that it takes stands for
+abbrev pub Gives : {T : Type 0} → (T → Result Value Outcome → Type 0) → List ℕ → Given T → Result Value Outcome → Type 0
+Gives is text (given.Value x) wanted = is x wanted
+Gives is text given.Lacking wanted = wanted ≡ Ok lacking
+Gives is text given.Unknown wanted = wanted ≡ Err (UnknownName text)
+Gives is text given.Kind wanted = wanted ≡ Err (Kind text)
 
--- the same of a field that takes a problem
-abbrev pub GivesProblem : List ℕ → GivenProblem → Result Value Outcome → Type 0
-GivesProblem text (goals.Problem p) wanted = wanted ≡ Ok (problem p)
-GivesProblem text goals.Lacking wanted = wanted ≡ Ok lacking
-GivesProblem text goals.Unknown wanted = wanted ≡ Err (UnknownName text)
-GivesProblem text goals.Kind wanted = wanted ≡ Err (Kind text)
+-- a reference of the graph stands for its tree, and a problem for itself
+abbrev pub IsProofGiven : Graph → Reference → Result Value Outcome → Type 0
+IsProofGiven g r wanted = IsOf g r × (wanted ≡ Ok (proof r.tree))
+
+abbrev pub IsProblemGiven : Problem → Result Value Outcome → Type 0
+IsProblemGiven p wanted = wanted ≡ Ok (problem p)
+
+-- What a field is given where its name stands for this; `takes` says which values the field takes.
+abbrev pub given_taken : {T : Type 0} → Option T → Given T
+given_taken (Some x) = given.Value x
+given_taken None = given.Kind
+
+abbrev pub given_held : {T : Type 0} → (Held → Option T) → Option Held → Given T
+given_held takes None = given.Unknown
+given_held takes (Some held.Unheld) = given.Lacking
+given_held takes (Some h) = given_taken (takes h)
+
+-- the values that a field for a proof takes, that a field for a problem takes, and that any field takes of a pair
+abbrev pub taken_proof : Held → Option Reference
+taken_proof (held.Proof r) = Some r
+taken_proof h = None
+
+abbrev pub taken_problem : Held → Option Problem
+taken_problem (held.Problem p) = Some p
+taken_problem h = None
+
+abbrev pub taken_none : {T : Type 0} → Held → Option T
+taken_none h = None
 
 -- what running an operation came to; only one that isn't refused may lack memory
 abbrev pub Answers : Graph → Ran → Run → Type 0
@@ -73,54 +99,24 @@ Answers g ran.Lacked (done wanted value) = Unit {0}
 Answers g (ran.Done outcome h) (done wanted value) = (outcome ≡ wanted) × Means g h value
 Answers g r wanted = ⊥
 
--- what a field is given that takes a proof, where its name stands for this
-abbrev pub IsGiven : Given → Option Held → Type 0
-IsGiven given.Unknown None = Unit {0}
-IsGiven (given.Proof r) (Some (held.Proof q)) = r ≡ q
-IsGiven given.Lacking (Some held.Unheld) = Unit {0}
-IsGiven given.Kind (Some held.Nothing) = Unit {0}
-IsGiven given.Kind (Some held.Refused) = Unit {0}
-IsGiven given.Kind (Some (held.Problem p)) = Unit {0}
-IsGiven g h = ⊥
-
-abbrev pub IsGivenOfPair : Given → Option Held → Type 0
-IsGivenOfPair given.Unknown None = Unit {0}
-IsGivenOfPair given.Lacking (Some held.Unheld) = Unit {0}
-IsGivenOfPair given.Kind (Some held.Nothing) = Unit {0}
-IsGivenOfPair given.Kind (Some held.Refused) = Unit {0}
-IsGivenOfPair given.Kind (Some (held.Proof r)) = Unit {0}
-IsGivenOfPair given.Kind (Some (held.Problem p)) = Unit {0}
-IsGivenOfPair g h = ⊥
-
--- the same of a field that takes a problem
-abbrev pub IsGoal : GivenProblem → Option Held → Type 0
-IsGoal goals.Unknown None = Unit {0}
-IsGoal (goals.Problem p) (Some (held.Problem q)) = p ≡ q
-IsGoal goals.Lacking (Some held.Unheld) = Unit {0}
-IsGoal goals.Kind (Some held.Nothing) = Unit {0}
-IsGoal goals.Kind (Some held.Refused) = Unit {0}
-IsGoal goals.Kind (Some (held.Proof r)) = Unit {0}
-IsGoal g h = ⊥
-
-abbrev pub IsGoalOfPair : GivenProblem → Option Held → Type 0
-IsGoalOfPair goals.Unknown None = Unit {0}
-IsGoalOfPair goals.Lacking (Some held.Unheld) = Unit {0}
-IsGoalOfPair goals.Kind (Some held.Nothing) = Unit {0}
-IsGoalOfPair goals.Kind (Some held.Refused) = Unit {0}
-IsGoalOfPair goals.Kind (Some (held.Proof r)) = Unit {0}
-IsGoalOfPair goals.Kind (Some (held.Problem p)) = Unit {0}
-IsGoalOfPair g h = ⊥
-
--- the reference that a field was given is one of the graph
-abbrev pub IsGivenOf : Graph → Given → Type 0
-IsGivenOf g (given.Proof r) = IsOf g r
-IsGivenOf g h = Unit {0}
-
 -- the outcome gives the sizes of the tree
 abbrev pub IsMeasure : Outcome → Tree → Type 0
 IsMeasure outcome t = measures t ≡ done outcome nothing
 
--- a proof is found, or what any operation on it comes to without it
-abbrev pub Finds : Graph → Result Reference Ran → Result Value Outcome → Type 0
-Finds g (Ok r) wanted = IsOf g r × (wanted ≡ Ok (proof r.tree))
-Finds g (Err ran) wanted = (k : Tree → Run) → Answers g ran (on_proof k wanted)
+-- what a field with this text is given, or what an operation comes to without it
+abbrev pub found_of : {T : Type 0} → List ℕ → Given T → Result T Ran
+found_of text (given.Value x) = Ok x
+found_of text given.Lacking = Err ran.Lacked
+found_of text given.Unknown = Err (ran.Refused (UnknownName text))
+found_of text given.Kind = Err (ran.Refused (Kind text))
+
+-- what an operation comes to without a value that it needs
+abbrev pub Refuses : Ran → Result Value Outcome → Type 0
+Refuses ran.Lacked wanted = wanted ≡ Ok lacking
+Refuses (ran.Refused outcome) wanted = wanted ≡ Err outcome
+Refuses (ran.Done outcome h) wanted = ⊥
+
+-- a value is found, or what the operation comes to without it
+abbrev pub Finds : {T : Type 0} → (T → Result Value Outcome → Type 0) → Result T Ran → Result Value Outcome → Type 0
+Finds is (Ok x) wanted = is x wanted
+Finds is (Err ran) wanted = Refuses ran wanted

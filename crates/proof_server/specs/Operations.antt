@@ -1,7 +1,9 @@
 -- What the operations come to, by the trees of proofs.
 use Rattle.std.specs.Prelude.{ℕ, ◌-◌, ◌^◌, min, length, Result, Ok, Err}
+use Rattle.substitution.specs.Maps.{Map}
 use Rattle.lk_rules.specs.Sequents.{is_subsequent}
 use Rattle.proof_trees.specs.Trees.{Tree, concl, size, cuts, quants}
+use Rattle.proof_trees.specs.Substitution.{sub}
 use Rattle.lk_check.specs.declared.checking.StepCause.{StepCause}
 use Rattle.lk_check.specs.declared.checking.StepCause.TheVariants as causes
 use Rattle.lk_check.specs.declared.admission.AdmitFault.{AdmitFault}
@@ -9,7 +11,7 @@ use Rattle.lk_check.specs.declared.admission.AdmitFault.TheVariants as admission
 use Rattle.lk_check.specs.Admission.{admission as admission_of}
 use Rattle.proof_steps.specs.Places.{steps_of}
 use Rattle.job_lang.specs.declared.jobs.Op.{Op}
-use Rattle.job_lang.specs.declared.jobs.Op.TheVariants.{Lk, Problem, Proves, Show, Measure}
+use Rattle.job_lang.specs.declared.jobs.Op.TheVariants.{Lk, Problem, Proves, Show, Measure, Subst}
 use Rattle.job_lang.specs.declared.replies.Outcome.{Outcome}
 use Rattle.job_lang.specs.declared.replies.Outcome.TheVariants as outcomes
 use Rattle.job_lang.specs.declared.replies.StepShown.{StepShown}
@@ -49,6 +51,10 @@ shows t = done (outcomes.Steps (steps_of t)) nothing
 abbrev pub measures : Tree → Run
 measures t = done (outcomes.Measure (capped (cuts t)) (length (steps_of t)) (capped (quants t)) (capped (size t))) nothing
 
+-- a proof under a map from variables to terms is held as a proof
+abbrev pub substitutes : Map → Tree → Run
+substitutes m t = done (outcomes.Proof (summary_of (sub t m))) (proof (sub t m))
+
 -- Whether a proof proves a problem: the proof's end sequent is a subsequent of the problem's. The field of the proof is refused first.
 abbrev pub proves : Result Value Outcome → Result Value Outcome → Run
 proves (Err outcome) goal = fault outcome
@@ -61,5 +67,6 @@ abbrev pub run : Lookup → Op → Run
 run lookup (Lk steps) = admits (admission_of steps)
 run lookup (Show of) = on_proof shows (given lookup is_proof of)
 run lookup (Measure of) = on_proof measures (given lookup is_proof of)
+run lookup (Subst of m) = on_proof (substitutes m) (given lookup is_proof of)
 run lookup (Problem p) = done (outcomes.Entries (length p.entries) p.sequent) (problem p)
 run lookup (Proves of goal) = proves (given lookup is_proof of) (given lookup is_problem goal)

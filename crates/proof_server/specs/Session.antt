@@ -2,6 +2,7 @@
 use Rattle.std.specs.Prelude.{◌≡◌, ℕ, ◌<◌, ◌&&◌, Bool, true, List, [], ◌∷◌, ◌++◌, length}
 use Rattle.proof_server.specs.Jobs.{Past, in_order, jobs}
 use Rattle.proof_server.specs.Answers.{IsLawful}
+use Rattle.proof_server.specs.Asked.{AreProofs}
 use Rattle.proof_server.specs.Replying.{reply_line, is_ok_reply}
 
 -- the reply lines of these jobs, in order
@@ -14,10 +15,11 @@ abbrev pub all_ok : List Past → Bool
 all_ok [] = true
 all_ok (job ∷ earlier) = all_ok earlier && is_ok_reply earlier job
 
--- the bytes are the replies to all jobs of these lines, in order, and nothing else
+-- the bytes are the replies to all jobs of these lines, in order, and nothing else; each proof answered is a valid one of the sequent asked
 pub record Replies (lines : List (List ℕ)) (written : List ℕ) : Type 0 where
   pub done : List Past
   pub lawful : IsLawful done
+  pub proofs : AreProofs done
   pub each : in_order done ≡ jobs lines
   pub bytes : written ≡ out done
 
@@ -35,12 +37,14 @@ abbrev pub IsPartOfNext : List Past → List (List ℕ) → List ℕ → Type 0
 IsPartOfNext earlier [] part = part ≡ []
 IsPartOfNext earlier (line ∷ lines) part = IsPartOfReply earlier line part
 
--- the bytes are the replies to the first jobs of these lines, in order, and then perhaps a part of the next one's
+-- the bytes are the replies to the first jobs of these lines, in order, and then perhaps a part of the next one's; each proof answered is
+-- a valid one of the sequent asked
 pub record RepliesInPart (lines : List (List ℕ)) (written : List ℕ) : Type 0 where
   pub done : List Past
   pub waiting : List (List ℕ)
   pub part : List ℕ
   pub lawful : IsLawful done
+  pub proofs : AreProofs done
   pub each : in_order done ++ waiting ≡ jobs lines
   pub bytes : written ≡ out done ++ part
   pub next : IsPartOfNext done waiting part

@@ -15,22 +15,10 @@ pub enum Held {
     Problem(Problem),
 }
 
-/// What a field is given that takes a proof.
+/// What a field is given that takes values of a kind.
 #[derive(Drop)]
-pub enum Given {
-    Proof(ProofRef),
-    /// The job that is named reported want of memory.
-    Lacking,
-    /// No earlier job has the name.
-    Unknown,
-    /// The job that is named holds another kind of value.
-    Kind,
-}
-
-/// What a field is given that takes a problem.
-#[derive(Drop)]
-pub enum GivenProblem {
-    Problem(Problem),
+pub enum Given<T> {
+    Value(T),
     /// The job that is named reported want of memory.
     Lacking,
     /// No earlier job has the name.

@@ -5,6 +5,7 @@ mod command;
 mod ending;
 mod gates;
 mod held;
+pub mod laws;
 mod names;
 mod reply;
 mod serving;

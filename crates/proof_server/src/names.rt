@@ -7,12 +7,14 @@ ghost use Rattle.proof_server.specs.Jobs.{Past};
 ghost use Rattle.proof_server.specs.Values.{Value, concluded};
 ghost use Rattle.proof_server.specs.Naming.{pair_name as pair_of, given, is_proof, is_problem};
 ghost use Rattle.proof_server.specs.Answers.{name_of, run_line, held_of, is_taken as is_taken_by};
-ghost use Rattle.proof_server.specs.Means.{Means, Knows, GivesProof, GivesProblem, IsGiven, IsGivenOfPair, IsGoal, IsGoalOfPair};
+ghost use Rattle.proof_server.specs.Means.{Means, Knows, Gives, IsProofGiven, IsProblemGiven, given_held, taken_proof, taken_problem, taken_none};
 
-use crate::held::{Given, GivenProblem, Held};
+use crate::held::{Given, Held};
 use fol::Text;
+use proof_graph::ProofRef;
 use std::alloc::{AllocError, Global};
 use std::collections::BTreeMap;
+use tptp_problem::Problem;
 
 /// The names of the jobs of a session so far, each with what the first job with it holds.
 #[derive(Drop)]
@@ -31,48 +33,37 @@ fn pair_name(text: &[u8]) -> Option<&[u8]>
 }
 
 // What a field is given that takes a proof, where the name stands for this.
-fn given_of(held: Option<&Held>) -> Result<Given, AllocError>
-    ensures { IfOk result (λ g. IsGiven g (option_copied held.entry)) }
+fn given_of(held: Option<&Held>) -> Result<Given<ProofRef>, AllocError>
+    ensures { IfOk result (λ g. g ≡ given_held taken_proof (option_copied held.entry)) }
 {
     match held {
         None => Ok(Given::Unknown),
-        Some(Held::Proof(proof)) => Ok(Given::Proof(proof.keep()?)),
+        Some(Held::Proof(proof)) => Ok(Given::Value(proof.keep()?)),
         Some(Held::Unheld) => Ok(Given::Lacking),
         Some(Held::Nothing | Held::Refused | Held::Problem(_)) => Ok(Given::Kind),
     }
 }
 
-// The same where the name stands for a proof of a pair.
-fn given_of_pair(held: Option<&Held>) -> Given
-    ensures { IsGivenOfPair result (option_copied held.entry) }
+// What a field is given that takes a problem, where the name stands for this.
+fn goal_of(alloc: Global, held: Option<&Held>) -> Result<Given<Problem>, AllocError>
+    ensures { IfOk result (λ g. g ≡ given_held taken_problem (option_copied held.entry)) }
+{
+    match held {
+        None => Ok(Given::Unknown),
+        Some(Held::Problem(problem)) => Ok(Given::Value(problem.copy(alloc)?)),
+        Some(Held::Unheld) => Ok(Given::Lacking),
+        Some(Held::Nothing | Held::Refused | Held::Proof(_)) => Ok(Given::Kind),
+    }
+}
+
+// What any field is given whose name is that of a proof of a pair, where the pair's name stands for this.
+fn given_of_pair<T>(held: Option<&Held>) -> Given<T>
+    ensures { result ≡ given_held taken_none (option_copied held.entry) }
 {
     match held {
         None => Given::Unknown,
         Some(Held::Unheld) => Given::Lacking,
         Some(_) => Given::Kind,
-    }
-}
-
-// What a field is given that takes a problem, where the name stands for this.
-fn goal_of(alloc: Global, held: Option<&Held>) -> Result<GivenProblem, AllocError>
-    ensures { IfOk result (λ g. IsGoal g (option_copied held.entry)) }
-{
-    match held {
-        None => Ok(GivenProblem::Unknown),
-        Some(Held::Problem(problem)) => Ok(GivenProblem::Problem(problem.copy(alloc)?)),
-        Some(Held::Unheld) => Ok(GivenProblem::Lacking),
-        Some(Held::Nothing | Held::Refused | Held::Proof(_)) => Ok(GivenProblem::Kind),
-    }
-}
-
-// The same where the name stands for a proof of a pair.
-fn goal_of_pair(held: Option<&Held>) -> GivenProblem
-    ensures { IsGoalOfPair result (option_copied held.entry) }
-{
-    match held {
-        None => GivenProblem::Unknown,
-        Some(Held::Unheld) => GivenProblem::Lacking,
-        Some(_) => GivenProblem::Kind,
     }
 }
 
@@ -107,8 +98,8 @@ impl Names {
     }
 
     /// What a field with this text is given that takes a proof.
-    pub fn given_proof(&self, alloc: Global, text: &[u8]) -> Result<Given, AllocError>
-        ensures { (g : Graph) (earlier : List Past) → Knows g self.now earlier → IfOk result (λ answer. GivesProof g text.now answer (given (held_of earlier) is_proof text.now)) }
+    pub fn given_proof(&self, alloc: Global, text: &[u8]) -> Result<Given<ProofRef>, AllocError>
+        ensures { (g : Graph) (earlier : List Past) → Knows g self.now earlier → IfOk result (λ answer. Gives (IsProofGiven g) text.now answer (given (held_of earlier) is_proof text.now)) }
     {
         match pair_name(text) {
             Some(pair) => {
@@ -123,13 +114,13 @@ impl Names {
     }
 
     /// What a field with this text is given that takes a problem.
-    pub fn given_problem(&self, alloc: Global, text: &[u8]) -> Result<GivenProblem, AllocError>
-        ensures { (g : Graph) (earlier : List Past) → Knows g self.now earlier → IfOk result (λ answer. GivesProblem text.now answer (given (held_of earlier) is_problem text.now)) }
+    pub fn given_problem(&self, alloc: Global, text: &[u8]) -> Result<Given<Problem>, AllocError>
+        ensures { (g : Graph) (earlier : List Past) → Knows g self.now earlier → IfOk result (λ answer. Gives IsProblemGiven text.now answer (given (held_of earlier) is_problem text.now)) }
     {
         match pair_name(text) {
             Some(pair) => {
                 let name = text_of(alloc, pair)?;
-                Ok(goal_of_pair(self.find(&name)))
+                Ok(given_of_pair(self.find(&name)))
             }
             None => {
                 let name = text_of(alloc, text)?;

@@ -5,7 +5,7 @@ ghost use Rattle.proof_graph.specs.declared.graph.Graph.{Graph};
 ghost use Rattle.proof_server.specs.Values.{Run, concluded};
 ghost use Rattle.proof_server.specs.Jobs.{Past, IsKept, is_too_long};
 ghost use Rattle.proof_server.specs.Answers.{name_of, run_read, run_line, held_of};
-ghost use Rattle.proof_server.specs.Means.{Answers, Means, IsStore, IsSomeStore};
+ghost use Rattle.proof_server.specs.Means.{Answers, Means, graph_in, IsStore, IsSomeStore};
 ghost use Rattle.proof_server.specs.Shown.{IsConcluded, IsAnswered, IsReply};
 
 use crate::held::Held;
@@ -45,6 +45,7 @@ fn is_ok(outcome: &Outcome) -> bool
     matches!(
         outcome,
         Outcome::Proof(_)
+            | Outcome::Reduced(_, _)
             | Outcome::Entries { .. }
             | Outcome::Proves(_)
             | Outcome::Steps(_)
@@ -90,7 +91,7 @@ fn run_job<R: Wait>(
 ) -> Result<Ran, AllocError>
     requires { IsSomeStore store.old }
     ensures ran { (earlier : List Past) → IsStore store.old earlier
-        → IfOk result (λ ran. Answers store.new.graph ran (run_read (held_of earlier) (Some name.now) (Ok op))) }
+        → IfOk result (λ ran. Answers (graph_in store.new) ran (run_read (held_of earlier) (Some name.now) (Ok op))) }
     ensures kept { (earlier : List Past) → IsStore store.old earlier → IsStore store.new earlier }
 {
     if store.names.is_taken(name) {
@@ -111,7 +112,7 @@ fn conclude_line<R: Wait>(
     requires short { is_too_long line.now ≡ false }
     ensures name { IfOk result (λ answer. answer.0 ≡ name_of line.now) }
     ensures concluded { (earlier : List Past) → IsStore store.old earlier
-        → IfOk result (λ answer. IsConcluded store.new.graph answer.1 (run_line (held_of earlier) line.now)) }
+        → IfOk result (λ answer. IsConcluded (graph_in store.new) answer.1 (run_line (held_of earlier) line.now)) }
     ensures kept { (earlier : List Past) → IsStore store.old earlier → IsStore store.new earlier }
 {
     match read_job(alloc, line) {
@@ -137,7 +138,7 @@ fn learn(
     held: Held,
 ) -> Result<(), AllocError>
     ensures { (earlier : List Past) (job : Past) → IsStore store.old earlier → name_of job.line ≡ option_copied name.entry
-        → Means store.old.graph held (concluded job.lacked (run_line (held_of earlier) job.line)).value
+        → Means (graph_in store.old) held (concluded job.lacked (run_line (held_of earlier) job.line)).value
         → OnOk result (IsStore store.new (job ∷ earlier)) }
 {
     match name {

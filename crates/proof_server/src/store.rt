@@ -1,28 +1,33 @@
 //! Running operations over the proofs of a session.
 ghost use Rattle.std.specs.Prelude.{◌≡◌, [], ℕ, List, IfOk};
+ghost use Rattle.std.specs.FinMap as fin;
 ghost use Rattle.std.specs.List.{All};
+ghost use Rattle.substitution.specs.Image.{IsFormedMap};
 ghost use Rattle.lk_rules.specs.Rules.{IsFormedRule};
 ghost use Rattle.lk_check.specs.Admission.{admission};
-ghost use Rattle.proof_graph.specs.Graphs.{IsOf, IsPassOf};
+ghost use Rattle.proof_graph.specs.Graphs.{IsOf};
+ghost use Rattle.proof_subst.specs.Benches.{graph_of, IsBenchPassOf};
 ghost use Rattle.proof_server.specs.Jobs.{Past};
-ghost use Rattle.proof_server.specs.Values.{Value, proof as proof_value, problem as problem_value, lacking, done};
-ghost use Rattle.proof_server.specs.Operations.{summary_of, shown as shown_of, admits, shows, measures, proves as proves_of, on_proof, run as run_of};
-ghost use Rattle.std.specs.Prelude.{Result, Ok, length};
+ghost use Rattle.proof_server.specs.Values.{Value, proof as proof_value, problem as problem_value, done};
+ghost use Rattle.proof_server.specs.Operations.{summary_of, shown as shown_of, admits, shows, measures, substitutes, proves as proves_of, on_proof, run as run_of};
+ghost use Rattle.std.specs.Prelude.{Result, length};
 ghost use Rattle.job_lang.specs.declared.replies.Outcome.{Outcome as OutcomeValue};
-ghost use Rattle.job_lang.specs.declared.replies.Outcome.TheVariants.{Entries};
+ghost use Rattle.job_lang.specs.declared.replies.Outcome.TheVariants.{Entries, Proof as ProofOutcome};
 ghost use Rattle.proof_server.specs.Naming.{given, is_proof, is_problem};
 ghost use Rattle.proof_server.specs.Answers.{held_of};
-ghost use Rattle.proof_server.specs.Means.{Answers, GivesProof, GivesProblem, IsGivenOf, IsStore, IsSomeStore, IsMeasure, Finds};
+ghost use Rattle.proof_server.specs.Means.{Answers, found_of, IsProofGiven, IsProblemGiven, graph_in, IsStore, IsSomeStore, IsMeasure, Finds};
 
-use crate::held::{Given, GivenProblem, Held};
+use crate::held::{Given, Held};
 use crate::names::Names;
 use job_lang::{Op, Outcome, StepShown, Steps, Summary, Utf8Text};
 use lk_check::{AdmitFault, StepCause, admit};
 use lk_rules::Step;
-use proof_graph::{Graph, GraphPass, ProofRef};
+use proof_graph::{Graph, ProofRef};
 use proof_steps::{cuts, nodes, quants, size, steps};
+use proof_subst::{Bench, BenchPass, substitute};
 use std::alloc::{AllocError, Global};
 use std::sync::Wait;
+use substitution::Subst;
 use tptp_problem::Problem;
 
 /// What running an operation came to.
@@ -36,11 +41,11 @@ pub enum Ran {
     Done(Outcome, Held),
 }
 
-/// The proofs of a session: the graph that they share, and the names of jobs with what these hold.
+/// The proofs of a session: the bench with the graph that they share, and the names of jobs with what these hold.
 #[derive(Drop)]
 pub struct Store {
-    pub graph: Graph,
-    pub pass: GraphPass,
+    pub bench: Bench,
+    pub pass: BenchPass,
     pub names: Names,
 }
 
@@ -64,30 +69,61 @@ fn shown(cause: StepCause) -> StepShown
     }
 }
 
+// A proof, which the job holds.
+fn hold_proof(graph: &Graph, alloc: Global, proof: ProofRef) -> Ran
+    requires { IsOf graph.now proof }
+    ensures { Answers graph.now result (done (ProofOutcome (summary_of proof.tree)) (proof_value proof.tree)) }
+{
+    match summary(graph, alloc, &proof) {
+        Ok(summary) => Ran::Done(Outcome::Proof(summary), Held::Proof(proof)),
+        Err(_) => Ran::Lacked,
+    }
+}
+
 // A list of steps as a proof.
 fn admit_steps<R: Wait>(
-    graph: &Graph,
+    bench: &Bench,
     rt: &R,
     alloc: Global,
-    pass: &mut GraphPass,
+    pass: &mut BenchPass,
     list: &[Step],
 ) -> Ran
-    requires pass { IsPassOf graph.now pass.old }
+    requires pass { IsBenchPassOf bench.now pass.old }
     requires formed { All (λ s. IsFormedRule s.rule) list.now }
-    ensures ran { Answers graph.now result (admits (admission list.now)) }
-    ensures pass { IsPassOf graph.now pass.new }
+    ensures ran { Answers (graph_of bench.now) result (admits (admission list.now)) }
+    ensures pass { IsBenchPassOf bench.now pass.new }
 {
-    match admit(graph, rt, alloc, pass, list) {
-        Ok(proof) => match summary(graph, alloc, &proof) {
-            Ok(summary) => Ran::Done(Outcome::Proof(summary), Held::Proof(proof)),
-            Err(_) => Ran::Lacked,
-        },
+    let graph = bench.graph();
+    let graph_pass = Bench::graph_pass(pass);
+    match admit(graph, rt, alloc, graph_pass, list) {
+        Ok(proof) => hold_proof(graph, alloc, proof),
         Err(AdmitFault::Empty) => Ran::Refused(Outcome::Empty),
         Err(AdmitFault::Step { step, cause }) => Ran::Refused(Outcome::Step {
             step,
             cause: shown(cause),
         }),
         Err(AdmitFault::Memory) => Ran::Lacked,
+    }
+}
+
+// A proof under a map.
+fn substitute_in<R: Wait>(
+    bench: &Bench,
+    rt: &R,
+    alloc: Global,
+    pass: &mut BenchPass,
+    proof: &ProofRef,
+    map: &Subst,
+) -> Ran
+    requires pass { IsBenchPassOf bench.now pass.old }
+    requires of { IsOf (graph_of bench.now) proof.now }
+    requires map { IsFormedMap (fin.get map.now) }
+    ensures ran { Answers (graph_of bench.now) result (substitutes map.now proof.now.tree) }
+    ensures pass { IsBenchPassOf bench.now pass.new }
+{
+    match substitute(rt, alloc, bench, pass, proof, map) {
+        Ok(image) => hold_proof(bench.graph(), alloc, image),
+        Err(_) => Ran::Lacked,
     }
 }
 
@@ -105,43 +141,30 @@ fn hold(alloc: Global, problem: Problem) -> Ran
     }
 }
 
-// Whether this proof proves the problem that a field was given.
-fn proves_goal(graph: &Graph, proof: &ProofRef, goal: GivenProblem, text: Utf8Text) -> Ran
-    requires { IsOf graph.now proof.now }
-    ensures { (wanted : Result Value OutcomeValue) → GivesProblem text goal wanted → Answers graph.now result (proves_of (Ok (proof_value proof.now.tree)) wanted) }
+// What a field with this text is given, or what an operation comes to without it.
+fn found<T>(given: Given<T>, text: Utf8Text) -> Result<T, Ran>
+    ensures { result ≡ found_of text given }
 {
-    match goal {
-        GivenProblem::Problem(problem) => Ran::Done(
-            Outcome::Proves(graph.get(proof).end.subset(&problem.sequent)),
+    match given {
+        Given::Value(value) => Ok(value),
+        Given::Lacking => Err(Ran::Lacked),
+        Given::Unknown => Err(Ran::Refused(Outcome::UnknownName(text))),
+        Given::Kind => Err(Ran::Refused(Outcome::Kind(text))),
+    }
+}
+
+// Whether a proof proves a problem, by what was found. The field of the proof is refused first.
+fn proves(graph: &Graph, proof: Result<ProofRef, Ran>, goal: Result<Problem, Ran>) -> Ran
+    requires { IfOk proof (IsOf graph.now) }
+    ensures { (first wanted : Result Value OutcomeValue) → Finds (IsProofGiven graph.now) proof first → Finds IsProblemGiven goal wanted → Answers graph.now result (proves_of first wanted) }
+{
+    match (proof, goal) {
+        (Err(Ran::Refused(outcome)), _) | (_, Err(Ran::Refused(outcome))) => Ran::Refused(outcome),
+        (Ok(proof), Ok(problem)) => Ran::Done(
+            Outcome::Proves(graph.get(&proof).end.subset(&problem.sequent)),
             Held::Nothing,
         ),
-        GivenProblem::Lacking => Ran::Lacked,
-        GivenProblem::Unknown => Ran::Refused(Outcome::UnknownName(text)),
-        GivenProblem::Kind => Ran::Refused(Outcome::Kind(text)),
-    }
-}
-
-// The same where the job that the proof's field names reported want of memory.
-fn lacks_proof(goal: GivenProblem, text: Utf8Text) -> Ran
-    ensures { (g : Graph) (wanted : Result Value OutcomeValue) → GivesProblem text goal wanted → Answers g result (proves_of (Ok lacking) wanted) }
-{
-    match goal {
-        GivenProblem::Problem(_) | GivenProblem::Lacking => Ran::Lacked,
-        GivenProblem::Unknown => Ran::Refused(Outcome::UnknownName(text)),
-        GivenProblem::Kind => Ran::Refused(Outcome::Kind(text)),
-    }
-}
-
-// Whether a proof proves a problem, by what the fields were given.
-fn proves(graph: &Graph, proof: Given, of: Utf8Text, goal: GivenProblem, text: Utf8Text) -> Ran
-    requires { IsGivenOf graph.now proof }
-    ensures { (first wanted : Result Value OutcomeValue) → GivesProof graph.now of proof first → GivesProblem text goal wanted → Answers graph.now result (proves_of first wanted) }
-{
-    match proof {
-        Given::Proof(proof) => proves_goal(graph, &proof, goal, text),
-        Given::Lacking => lacks_proof(goal, text),
-        Given::Unknown => Ran::Refused(Outcome::UnknownName(of)),
-        Given::Kind => Ran::Refused(Outcome::Kind(of)),
+        _ => Ran::Lacked,
     }
 }
 
@@ -188,49 +211,84 @@ impl Store {
     pub fn new(alloc: Global) -> Result<Store, AllocError>
         ensures { IfOk result (λ store. IsStore store []) }
     {
-        let (graph, pass) = Graph::new(alloc)?;
+        let (bench, pass) = Bench::new(alloc)?;
         Ok(Store {
-            graph,
+            bench,
             pass,
             names: Names::new(alloc),
         })
     }
 
+    // The graph that the proofs share.
+    fn graph(&self) -> &Graph
+        ensures { result.now ≡ graph_in self.now }
+    {
+        self.bench.graph()
+    }
+
     // The proof that is named, or what the operation comes to without it.
     fn named_proof(&self, alloc: Global, of: Utf8Text) -> Result<Result<ProofRef, Ran>, AllocError>
         requires { IsSomeStore self.now }
-        ensures of { IfOk result (λ found. IfOk found (IsOf self.now.graph)) }
+        ensures of { IfOk result (λ found. IfOk found (IsOf (graph_in self.now))) }
         ensures found { (earlier : List Past) → IsStore self.now earlier
-            → IfOk result (λ found. Finds self.now.graph found (given (held_of earlier) is_proof of)) }
+            → IfOk result (λ found. Finds (IsProofGiven (graph_in self.now)) found (given (held_of earlier) is_proof of)) }
     {
-        match self.names.given_proof(alloc, of.as_str().as_bytes())? {
-            Given::Proof(proof) => Ok(Ok(proof)),
-            Given::Lacking => Ok(Err(Ran::Lacked)),
-            Given::Unknown => Ok(Err(Ran::Refused(Outcome::UnknownName(of)))),
-            Given::Kind => Ok(Err(Ran::Refused(Outcome::Kind(of)))),
-        }
+        let given = self.names.given_proof(alloc, of.as_str().as_bytes())?;
+        Ok(found(given, of))
+    }
+
+    // The problem that is named, or what the operation comes to without it.
+    fn named_problem(&self, alloc: Global, of: Utf8Text) -> Result<Result<Problem, Ran>, AllocError>
+        requires { IsSomeStore self.now }
+        ensures { (earlier : List Past) → IsStore self.now earlier
+            → IfOk result (λ found. Finds IsProblemGiven found (given (held_of earlier) is_problem of)) }
+    {
+        let given = self.names.given_problem(alloc, of.as_str().as_bytes())?;
+        Ok(found(given, of))
     }
 
     // The canonical steps of the proof that is named.
+    #[tactic(auto, using(crate::proofs::Found::with_proof, crate::proofs::Found::without_proof))]
     fn show_named(&self, alloc: Global, of: Utf8Text) -> Result<Ran, AllocError>
         requires { IsSomeStore self.now }
         ensures { (earlier : List Past) → IsStore self.now earlier
-            → IfOk result (λ ran. Answers self.now.graph ran (on_proof shows (given (held_of earlier) is_proof of))) }
+            → IfOk result (λ ran. Answers (graph_in self.now) ran (on_proof shows (given (held_of earlier) is_proof of))) }
     {
         match self.named_proof(alloc, of)? {
-            Ok(proof) => Ok(show(&self.graph, alloc, &proof)),
+            Ok(proof) => Ok(show(self.graph(), alloc, &proof)),
             Err(ran) => Ok(ran),
         }
     }
 
     // The sizes of the proof that is named.
+    #[tactic(auto, using(crate::proofs::Found::with_proof, crate::proofs::Found::without_proof))]
     fn measure_named(&self, alloc: Global, of: Utf8Text) -> Result<Ran, AllocError>
         requires { IsSomeStore self.now }
         ensures { (earlier : List Past) → IsStore self.now earlier
-            → IfOk result (λ ran. Answers self.now.graph ran (on_proof measures (given (held_of earlier) is_proof of))) }
+            → IfOk result (λ ran. Answers (graph_in self.now) ran (on_proof measures (given (held_of earlier) is_proof of))) }
     {
         match self.named_proof(alloc, of)? {
-            Ok(proof) => Ok(measure(&self.graph, alloc, &proof)),
+            Ok(proof) => Ok(measure(self.graph(), alloc, &proof)),
+            Err(ran) => Ok(ran),
+        }
+    }
+
+    // The proof that is named, under a map.
+    fn substitute_named<R: Wait>(
+        &mut self,
+        rt: &R,
+        alloc: Global,
+        of: Utf8Text,
+        map: &Subst,
+    ) -> Result<Ran, AllocError>
+        requires store { IsSomeStore self.old }
+        requires map { IsFormedMap (fin.get map.now) }
+        ensures ran { (earlier : List Past) → IsStore self.old earlier
+            → IfOk result (λ ran. Answers (graph_in self.new) ran (on_proof (substitutes map.now) (given (held_of earlier) is_proof of))) }
+        ensures kept { (earlier : List Past) → IsStore self.old earlier → IsStore self.new earlier }
+    {
+        match self.named_proof(alloc, of)? {
+            Ok(proof) => Ok(substitute_in(&self.bench, rt, alloc, &mut self.pass, &proof, map)),
             Err(ran) => Ok(ran),
         }
     }
@@ -244,13 +302,11 @@ impl Store {
     ) -> Result<Ran, AllocError>
         requires { IsSomeStore self.now }
         ensures { (earlier : List Past) → IsStore self.now earlier
-            → IfOk result (λ ran. Answers self.now.graph ran (proves_of (given (held_of earlier) is_proof proof) (given (held_of earlier) is_problem problem))) }
+            → IfOk result (λ ran. Answers (graph_in self.now) ran (proves_of (given (held_of earlier) is_proof proof) (given (held_of earlier) is_problem problem))) }
     {
-        let first = self.names.given_proof(alloc, proof.as_str().as_bytes())?;
-        let goal = self
-            .names
-            .given_problem(alloc, problem.as_str().as_bytes())?;
-        Ok(proves(&self.graph, first, proof, goal, problem))
+        let proof = self.named_proof(alloc, proof)?;
+        let problem = self.named_problem(alloc, problem)?;
+        Ok(proves(self.graph(), proof, problem))
     }
 
     /// Runs an operation. Want of memory is answered for a name that can't be looked up; where memory runs out later, the operation
@@ -258,12 +314,12 @@ impl Store {
     pub fn run<R: Wait>(&mut self, rt: &R, alloc: Global, op: Op) -> Result<Ran, AllocError>
         requires { IsSomeStore self.old }
         ensures ran { (earlier : List Past) → IsStore self.old earlier
-            → IfOk result (λ ran. Answers self.new.graph ran (run_of (held_of earlier) op)) }
+            → IfOk result (λ ran. Answers (graph_in self.new) ran (run_of (held_of earlier) op)) }
         ensures kept { (earlier : List Past) → IsStore self.old earlier → IsStore self.new earlier }
     {
         match op {
             Op::Lk { steps } => Ok(admit_steps(
-                &self.graph,
+                &self.bench,
                 rt,
                 alloc,
                 &mut self.pass,
@@ -271,6 +327,7 @@ impl Store {
             )),
             Op::Show { of } => self.show_named(alloc, of),
             Op::Measure { proof } => self.measure_named(alloc, proof),
+            Op::Subst { proof, map } => self.substitute_named(rt, alloc, proof, map.as_subst()),
             Op::Proves { proof, problem } => self.prove_named(alloc, proof, problem),
             Op::Problem { problem } => Ok(hold(alloc, problem)),
         }

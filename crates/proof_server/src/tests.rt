@@ -10,6 +10,7 @@ use std::test::Fail;
 mod ends;
 mod lines;
 mod problems;
+mod substitutions;
 
 /// The axiom of p as a step.
 const STEP: &str = r#"{"rule":"ax","main":"p","premises":[],"left":["p"],"right":["p"]}"#;

@@ -6,3 +6,5 @@ pub mod RuleImages
 pub mod RowImages
 pub mod Substituted
 pub mod Verdicts
+pub mod Agreeing
+pub mod Shapes

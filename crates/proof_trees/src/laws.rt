@@ -6,7 +6,8 @@ ghost use Rattle.fol.specs.declared.symbols.Sym.{Sym as Symbol};
 ghost use Rattle.fol.specs.declared.symbols.Var.{Var as Variable};
 ghost use Rattle.finite.specs.Finite as set;
 ghost use Rattle.substitution.specs.Closed.{IsClosedMap};
-ghost use Rattle.substitution.specs.Image.{image, IsFormedMap};
+ghost use Rattle.fol.specs.Syntax.{free};
+ghost use Rattle.substitution.specs.Image.{image, image_term, IsFormedMap};
 ghost use Rattle.substitution.specs.Maps.{Map};
 ghost use Rattle.lk_rules.specs.declared.sequent.Side.{Side as Place};
 ghost use Rattle.lk_rules.specs.declared.rule.Rule.{Rule as Inference};
@@ -14,6 +15,8 @@ ghost use Rattle.lk_rules.specs.declared.sequent.Sequent.{Sequent as Conclusion}
 ghost use Rattle.lk_rules.specs.Sequents.{side_of, is_free_in_sequent, image_sequent, IsSubsequent};
 ghost use Rattle.lk_rules.specs.Rules.{IsFormedRule, needs, has_shape, main, aux, eigen_free, verdict_of, Row};
 ghost use Rattle.proof_trees.specs.Trees.{Tree as Proof, concl, IsValid, is_cut, cut_free as is_cut_free, size as size_of, cuts as cuts_of, quants as quants_of, ArePremises, IsSmaller};
+ghost use Rattle.proof_trees.specs.Shapes.{height, is_alike};
+ghost use Rattle.proof_trees.specs.FreeVariables.{is_free_in_tree};
 ghost use Rattle.proof_trees.specs.Substitution.{image_rule, premise_map, sub};
 ghost use Rattle.proof_trees.specs.Occurrence.{is_chosen, is_free_in_rule, is_pred_in_rule, is_pred_in_sequent};
 
@@ -59,7 +62,7 @@ pub fn image_of_inference()
 {}
 
 /// A tree under a map of well-formed terms is valid, its conclusion is the image of the conclusion, and it has as many nodes, cuts and
-/// quantifier rules.
+/// quantifier rules. It has the same height, and at each place a rule of the same kind.
 pub fn substitution_in_trees()
     ensures valid { (t : Proof) (m : Map) → IsFormedMap (fin.get m) → IsValid t → IsValid (sub t m) }
     ensures end { (t : Proof) (m : Map) → concl (sub t m) ≡ image_sequent (fin.get m) (concl t) }
@@ -67,4 +70,17 @@ pub fn substitution_in_trees()
     ensures cuts { (t : Proof) (m : Map) → cuts_of (sub t m) ≡ cuts_of t }
     ensures quants { (t : Proof) (m : Map) → quants_of (sub t m) ≡ quants_of t }
     ensures cut_free { (t : Proof) (m : Map) → is_cut_free (sub t m) ≡ is_cut_free t }
+    ensures height { (t : Proof) (m : Map) → height (sub t m) ≡ height t }
+    ensures alike { (t : Proof) (m : Map) → is_alike t (sub t m) ≡ true }
+{}
+
+/// Maps that agree on the free variables of a tree make one tree of it.
+pub fn agreeing_maps_in_trees()
+    ensures { (t : Proof) (m n : Map) → ((v : Variable) → is_free_in_tree v t ≡ true → image_term (fin.get m) (free v) ≡ image_term (fin.get n) (free v)) → sub t m ≡ sub t n }
+{}
+
+/// A map that sends each free variable of a valid tree to itself leaves the tree as it is: so it is with the empty map.
+pub fn needless_map_in_trees()
+    ensures unchanged { (t : Proof) (m : Map) → IsValid t → ((v : Variable) → is_free_in_tree v t ≡ true → image_term (fin.get m) (free v) ≡ free v) → sub t m ≡ t }
+    ensures empty { (t : Proof) → IsValid t → sub t fin.empty ≡ t }
 {}

@@ -5,6 +5,7 @@ pub mod InstanceFormed
 pub mod ImageFormed
 pub mod Places
 pub mod MapLaws
+pub mod Restricting
 pub mod ClosedLaws
 pub mod ImageLaws
 pub mod BindLaws

@@ -4,3 +4,4 @@ pub mod Image
 pub mod Sharing
 pub mod Maps
 pub mod Closing
+pub mod Restriction

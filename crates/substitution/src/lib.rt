@@ -8,6 +8,7 @@ mod images;
 mod instances;
 pub mod laws;
 mod maps;
+mod restriction;
 mod sharing;
 
 pub use binding::bind;

@@ -83,6 +83,13 @@ impl Subst {
         self.items.as_slice()
     }
 
+    /// Whether there is no binding.
+    pub fn is_empty(&self) -> bool
+        ensures { IsTrue result ↔ (self.now ≡ fin.empty) }
+    {
+        self.items.is_empty()
+    }
+
     /// The variables that have a term.
     #[tactic(auto, using(crate::proofs::MapLaws::domain_members))]
     pub fn vars(&self, alloc: Global) -> Result<Vars, AllocError>

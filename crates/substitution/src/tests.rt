@@ -4,6 +4,7 @@
 //! a function, `P` and `R` predicates of one and of two arguments, `T` truth, `~`, `&`, `|` and `>` connectives, `A` and `E` quantifiers.
 use crate::{Subst, apply, apply_term, bind, close_all, close_ex, instance, is_instance};
 use fol::{Formula, FormulaNode, Sym, Term, Terms, Text, Var, well_formed, well_formed_term};
+use free_variables::Vars;
 use std::alloc::{AllocError, Global};
 use std::test::Fail;
 
@@ -289,5 +290,20 @@ fn maps(rt: HostRuntime) -> Result<(), Fail> {
     assert_eq!(rt; map.as_slice().len(), 3);
     let vars = map.vars(alloc)?;
     assert!(rt; vars.has(&x) && vars.has(&Var::Num(1)) && !vars.has(&Var::Num(0)));
+    Ok(())
+}
+
+// The bindings of the variables in a set, but for one of a variable to itself.
+#[test]
+fn restricted_maps(rt: HostRuntime) -> Result<(), Fail> {
+    let alloc = rt.alloc();
+    let mut map = crossing(alloc)?;
+    map.set(Var::Num(1), Term::free(alloc, Var::Num(1))?)?;
+    let list = vec![in alloc; word(alloc, b'X')?, word(alloc, b'Z')?, Var::Num(1)]?;
+    let needed = map.restrict(alloc, &Vars::from_vec(list))?;
+    assert_eq!(rt; needed.as_slice().len(), 1);
+    assert!(rt; needed.get(&word(alloc, b'X')?).is_some());
+    let none = needed.restrict(alloc, &Vars::new(alloc))?;
+    assert!(rt; !needed.is_empty() && none.is_empty());
     Ok(())
 }

@@ -1,6 +1,5 @@
 pub mod Sizes
 pub mod Passing
-pub mod FirstOccurrences
 pub mod BodyReading
 pub mod AnnotationReading
 pub mod EntryReading
@@ -13,6 +12,8 @@ pub mod WordLaws
 pub mod NameLaws
 pub mod ClauseFronts
 pub mod BodyGrammar
+pub mod ReadEntries
+pub mod ReadClauses
 pub mod BodyFaults
 pub mod BodyBlames
 pub mod BodyComplete

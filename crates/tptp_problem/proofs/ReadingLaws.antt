@@ -11,6 +11,8 @@ use Rattle.tptp_problem.specs.Readers.{passed}
 use Rattle.tptp_problem.specs.EntryReader.{entry_behind, HasEntries, no_entry, one_more, AreEntries, FailsAt, ProblemRead}
 use Rattle.tptp_problem.specs.Problems.{IsProblemText, IsProblemFault, GivesProblem, IfFault}
 use Rattle.tptp_problem.specs.Reading.{entries_from, problem_from, problem_reading}
+use Rattle.tptp_problem.specs.ProblemClauses.{IsReadProblem}
+use Rattle.tptp_problem.proofs.ReadEntries.{has_read}
 use Rattle.tptp_problem.proofs.FrontLaws.{nothing_left}
 use Rattle.tptp_problem.proofs.NameLaws.{no_number, some_number}
 use Rattle.tptp_problem.proofs.Bounds.{entry_shorter}
@@ -68,6 +70,12 @@ fault_of_reading text at k is =
 
 pub reading_of_fault : (text : List ℕ) (at : ℕ) (k : ProblemKind) → IsProblemFault text at k → problem_reading text ≡ Err (at, k)
 reading_of_fault text at k is = answer_is (problem_reading text) (Err (at, k)) (problem_first text (answered (problem_reading text)) (reading_read text) at k is)
+
+-- the entries of a problem that the reading gives
+pub problem_read : (text : List ℕ) (p : Problem) → problem_reading text ≡ Ok p → IsReadProblem p
+problem_read text p is =
+    let entries : AreEntries text p.entries = (subst (λ (r : Result Problem (ℕ × ProblemKind)). ProblemRead text (answered r)) is (reading_read text)).0 in
+    record { entries = has_read text entries.rest p.entries entries.has }
 
 -- what a call answers is the reading
 pub problem_given : (text : List ℕ) (r : Result Problem ProblemError) → ProblemRead text r → GivesProblem r (problem_reading text)

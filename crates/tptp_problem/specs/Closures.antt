@@ -1,22 +1,15 @@
 -- The formula of an entry in its problem's sequent, and that sequent.
-use Rattle.std.specs.Prelude.{Bool, true, false, not, if◌then◌else◌, List, [], ◌∷◌, filter, Option, Some, None, option_to_list}
-use Rattle.std.specs.Ordering.{eq_by_cmp}
-use Rattle.fol.specs.declared.symbols.Var.{Var}
+use Rattle.std.specs.Prelude.{Bool, true, false, if◌then◌else◌, List, [], ◌∷◌, Option, Some, None, option_to_list}
 use Rattle.fol.specs.Syntax.{Formula, and, all}
-use Rattle.fol.specs.Order.{var_cmp}
 use Rattle.fol.specs.Formed.{IsFormed}
 use Rattle.finite.specs.Finite as set
 use Rattle.free_variables.specs.Occurrence.{var_list}
 use Rattle.substitution.specs.Closing.{closed_over}
 use Rattle.lk_rules.specs.declared.sequent.Sequent.{Sequent}
+use Rattle.refutations.specs.Clauses.{first_occurrences}
 use Rattle.tptp_problem.specs.declared.problems.Role.{Role}
 use Rattle.tptp_problem.specs.declared.problems.Role.TheVariants.{Conjecture}
 use Rattle.tptp_problem.specs.declared.problems.Entry.{Entry}
-
--- the members of a list without repeats, in the order in which each occurs first
-abbrev pub first_occurrences : List Var → List Var
-first_occurrences [] = []
-first_occurrences (v ∷ vs) = v ∷ filter (λ w. not (eq_by_cmp var_cmp v w)) (first_occurrences vs)
 
 -- the universal closure of a formula: the variable that occurs first is the outermost
 abbrev pub closure_of : Formula → Formula
@@ -60,7 +53,3 @@ AreFormedEntries (e ∷ es) = IsFormed e.formula × AreFormedEntries es
 abbrev pub joined_on : Option Formula → List Formula → Option Formula
 joined_on None fs = conjunction fs
 joined_on (Some f) fs = Some (conjoined f fs)
-
--- the first occurrences of what hasn't been seen
-abbrev pub unseen : (Var → Bool) → List Var → List Var
-unseen seen vs = filter (λ w. not (seen w)) (first_occurrences vs)

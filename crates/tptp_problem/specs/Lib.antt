@@ -6,6 +6,7 @@ pub mod BodyTexts
 pub mod AnnotationTexts
 pub mod EntryTexts
 pub mod Closures
+pub mod ProblemClauses
 pub mod Problems
 pub mod ClausePlaces
 pub mod Readers

@@ -3,6 +3,7 @@
 
 mod annotations;
 mod bodies;
+mod clause_list;
 mod clause_places;
 mod closures;
 mod entries;
@@ -15,6 +16,7 @@ mod roles;
 mod sequents;
 mod tokens;
 
+pub use clause_list::clauses;
 pub use errors::{ProblemError, ProblemKind};
 pub use problems::{Entries, Entry, Language, Problem, Role};
 pub use reader::read_problem;

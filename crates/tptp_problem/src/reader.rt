@@ -1,9 +1,11 @@
 //! Reading of whole problems.
 ghost use Rattle.std.specs.Prelude.{◌≡◌, ◌<◌, ◌^◌, ℕ, List, true, length, Ok, Err, IfOk, OnOk, if◌then◌else◌};
+ghost use Rattle.std.specs.List.{All};
 ghost use Rattle.std.specs.BTreeSet.{contains};
 ghost use Rattle.std.specs.Ordering.{eq_by_cmp};
 ghost use Rattle.fol.specs.Order.{text_cmp};
 ghost use Rattle.tptp_problem.specs.Closures.{AreFormedEntries};
+ghost use Rattle.tptp_problem.specs.ProblemClauses.{IsReadEntry, IsReadProblem};
 ghost use Rattle.tptp_problem.specs.Problems.{IsProblemText, IsProblemFault, GivesProblem, IfFault};
 ghost use Rattle.tptp_problem.specs.declared.errors.ProblemKind.{ProblemKind as Kind};
 ghost use Rattle.tptp_problem.specs.declared.problems.Problem.{Problem as ProblemMeaning};
@@ -39,6 +41,8 @@ pub fn read_problem(alloc: Global, text: &[u8]) -> Result<Problem, ProblemError>
     ensures reading { GivesProblem result (problem_reading text.now) }
     // The formula of each entry is well formed.
     ensures formed { IfOk result (λ p. AreFormedEntries p.entries) }
+    // The formula of each `cnf` entry is a disjunction of literals besides.
+    ensures read { IfOk result (λ p. IsReadProblem p) }
 {
     problem_of(alloc, text)
 }
@@ -47,6 +51,7 @@ pub fn read_problem(alloc: Global, text: &[u8]) -> Result<Problem, ProblemError>
 fn problem_of(alloc: Global, text: &[u8]) -> Result<Problem, ProblemError>
     ensures value { ProblemRead text.now result }
     ensures formed { IfOk result (λ p. AreFormedEntries p.entries) }
+    ensures read { IfOk result (λ p. All IsReadEntry p.entries) }
 {
     match formed_entries(alloc, text) {
         Ok(entries) => match sequent_of(alloc, &entries) {
@@ -84,6 +89,7 @@ fn note_entry(
 fn formed_entries(alloc: Global, text: &[u8]) -> Result<Vec<Entry>, ReadError>
     ensures value { EntriesRead (λ v. v.items) text.now result }
     ensures formed { IfOk result (λ v. AreFormedEntries v.items) }
+    ensures read { IfOk result (λ v. All IsReadEntry v.items) }
 {
     read_entries(alloc, text)
 }

@@ -1,5 +1,5 @@
 //! What no clause says: that problems and their faults are those of the documentation, at texts whose reading is worked by hand.
-use crate::{Entry, Language, Problem, ProblemError, ProblemKind, Role, read_problem};
+use crate::{Entry, Language, Problem, ProblemError, ProblemKind, Role, clauses, read_problem};
 use fol::{Formula, FormulaNode, Sym, Term, TermNode, Terms, TermsLink, Var};
 use std::alloc::{AllocError, Global};
 use std::process::Abort;
@@ -283,6 +283,50 @@ fn clauses_are_read(rt: HostRuntime) -> Result<(), Fail> {
     ];
     for (text, expected) in cases {
         check(&rt, rt.alloc(), text.as_bytes(), expected)?;
+    }
+    Ok(())
+}
+
+// The clauses of a problem, each with its variables before it.
+fn show_clauses(alloc: Global, problem: &Problem) -> Result<Vec<u8>, AllocError> {
+    let mut shown = Vec::new(alloc);
+    for clause in clauses(alloc, problem)? {
+        for var in clause.vars.as_slice() {
+            show_var(alloc, var, &mut shown)?;
+            put(&mut shown, b" ")?;
+        }
+        show(alloc, &clause.matrix, &mut shown)?;
+        put(&mut shown, b"; ")?;
+    }
+    Ok(shown)
+}
+
+// The clauses come in order, without the other entries, and the variables by their first occurrences.
+#[test]
+fn clauses_of_problems(rt: HostRuntime) -> Result<(), Fail> {
+    let alloc = rt.alloc();
+    let cases = [
+        ("fof(a,axiom,p).", ""),
+        (
+            "cnf(a,axiom,q(Y,X) | ~r(X,Z,Y)).",
+            "Y X Z (q(Y;X;) | -r(X;Z;Y;)); ",
+        ),
+        (
+            "cnf(a,axiom,p). fof(b,axiom,r(X)). cnf(c,plain,$false).",
+            "p; F; ",
+        ),
+    ];
+    for (text, expected) in cases {
+        match read_problem(alloc, text.as_bytes()) {
+            Ok(problem) => {
+                let shown = show_clauses(alloc, &problem)?;
+                assert!(rt;
+                    shown.as_slice() == expected.as_bytes(),
+                    "the clauses {expected}"
+                );
+            }
+            Err(_) => assert!(rt; false, "no problem"),
+        }
     }
     Ok(())
 }

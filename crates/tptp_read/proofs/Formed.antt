@@ -193,10 +193,10 @@ module _ (lim : Limits) where
         let one = unit_formed l' ts' (Chain c' ∷ us') g' u small p in
         members_formed c' l' (suc n') (chained_by c' f' g') h' us' vs' rest small (chained_sound c' (l' * lim.variables) f' g' s one.0) one.1.1
 
-text_formed : (bytes : List ℕ) (f : Formula) → IsFormulaText bytes f → IsFormed f
+pub text_formed : (bytes : List ℕ) (f : Formula) → IsFormulaText bytes f → IsFormed f
 text_formed bytes f text = (formula_formed LIMITS LIMITS.levels text.tokens [] f text.reads (omega arith) (tokens_formed bytes (ends text.length) text.tokens text.whole)).0.formed
 
-term_text_formed : (bytes : List ℕ) (t : Term) → IsTermText bytes t → IsFormedTerm t
+pub term_text_formed : (bytes : List ℕ) (t : Term) → IsTermText bytes t → IsFormedTerm t
 term_text_formed bytes t text = (term_formed LIMITS LIMITS.levels text.tokens [] t text.reads (tokens_formed bytes (ends text.length) text.tokens text.whole)).0
 
 -- the same of what a function answers

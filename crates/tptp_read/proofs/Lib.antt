@@ -9,3 +9,4 @@ pub mod Formed
 pub mod TextEnds
 pub mod Closing
 pub mod Readings
+pub mod FormedValues

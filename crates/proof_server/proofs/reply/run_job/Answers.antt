@@ -1,10 +1,11 @@
 use Rattle.proof_server.specs.Answers.{held_of}
+use Rattle.proof_server.specs.Means.{graph_in}
 use Rattle.proof_server.proofs.Taken.{taken, untaken}
 use Rattle.proof_server.proofs.reply.run_job.Goals as goal
 
 pub returns-then-is_taken-clause-ran : goal.returns-then-is_taken-clause-ran
 returns-then-is_taken-clause-ran g c = λ earlier store.
-    taken c.args.store.now.graph (held_of earlier) c.args.name.now c.args.op c.is_taken.result (c.is_taken.ensures c.args.store.now.graph earlier store.known) c.if-is_taken.true
+    taken (graph_in c.args.store.now) (held_of earlier) c.args.name.now c.args.op c.is_taken.result (c.is_taken.ensures (graph_in c.args.store.now) earlier store.known) c.if-is_taken.true
 
 pub returns-clause-ran : goal.returns-clause-ran
 returns-clause-ran g c = λ earlier store.

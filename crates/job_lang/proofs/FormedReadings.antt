@@ -1,0 +1,295 @@
+-- What the reading of a line gives is well formed.
+use Rattle.std.proofs.Common.{◌≡◌, ℕ, suc, Bool, true, false, ◌&&◌, if◌then◌else◌, List, [], ◌∷◌, length, codes, Option, Some, None, is_some, option_and_then, Result, Ok, Err, refl, ap, subst}
+use Rattle.std.specs.List.{All}
+use Rattle.std.proofs.lemmas.List.Elements.{All-nil, All-cons}
+use Rattle.fol.specs.declared.symbols.Var.{Var}
+use Rattle.fol.specs.Syntax.{Term, Formula}
+use Rattle.fol.specs.Formed.{is_formed, is_formed_term, is_formed_var, IsFormed, IsFormedTerm, IsFormedVar}
+use Rattle.lk_rules.specs.declared.rule.Rule.{Rule}
+use Rattle.lk_rules.specs.declared.rule.Rule.TheVariants as rules
+use Rattle.lk_rules.specs.declared.rule.Step.{Step}
+use Rattle.lk_rules.specs.Rules.{IsFormedRule}
+use Rattle.tptp_tokens.specs.declared.tokens.TextFault.{TextFault}
+use Rattle.tptp_tokens.specs.Lexer.{scanned, whole_variable}
+use Rattle.tptp_read.specs.Texts.{formula_reading, term_reading}
+use Rattle.tptp_read.proofs.FormedValues.{formula_value, term_value, variable_value}
+use Rattle.tptp_problem.specs.declared.errors.ProblemKind.{ProblemKind}
+use Rattle.tptp_problem.specs.declared.problems.Problem.{Problem as ProblemMeaning}
+use Rattle.tptp_problem.specs.ProblemClauses.{IsReadProblem}
+use Rattle.tptp_problem.specs.Reading.{problem_reading}
+use Rattle.tptp_problem.proofs.ReadingLaws.{problem_read}
+use Rattle.refutations.specs.declared.step.ResStep.{ResStep}
+use Rattle.refutations.specs.declared.step.ResStep.TheVariants as res
+use Rattle.refutations.specs.Refutations.{IsFormedStep, AreFormedSteps}
+use Rattle.substitution.specs.Image.{IsFormedMap}
+use Rattle.substitution.specs.Maps.{Map}
+use Rattle.substitution.proofs.ImageLaws.{formed_insert, formed_empty}
+use Rattle.std.specs.FinMap as fin
+use Rattle.serde_json.specs.Data.{Data, Members, no_members, member}
+use Rattle.serde_json.specs.Find.{get, as_str, as_object}
+use Rattle.job_lang.specs.declared.places.Place.{Place}
+use Rattle.job_lang.specs.declared.places.Place.TheVariants as places
+use Rattle.job_lang.specs.declared.reading.JobCause.{JobCause}
+use Rattle.job_lang.specs.declared.reading.JobCause.TheVariants.{Field, Op as UnknownOp}
+use Rattle.job_lang.specs.declared.rules.RuleKind.{RuleKind}
+use Rattle.job_lang.specs.declared.rules.RuleKind.TheVariants as kinds
+use Rattle.job_lang.specs.declared.jobs.Op.{Op}
+use Rattle.job_lang.specs.declared.jobs.Op.TheVariants.{Lk, Problem, Proves, Show, Measure, Subst}
+use Rattle.job_lang.specs.Places.{path}
+use Rattle.job_lang.specs.Fields.{Reading, ◌>>=◌, or_fault, text_at, list_at, each}
+use Rattle.job_lang.specs.Formulas.{in_field, formula_text, formula_at, term_at, variable_at, side_at}
+use Rattle.job_lang.specs.Problems.{problem_at}
+use Rattle.job_lang.specs.Rules.{is_text, kind_named, main_at, rule_of_kind, rule_of}
+use Rattle.job_lang.specs.Steps.{premises_of, step_of, step_at, steps_of, steps_at}
+use Rattle.job_lang.specs.FormedOps.{IsFormedOp}
+use Rattle.job_lang.specs.Maps.{member_path, binding_of, map_of, map_at}
+use Rattle.job_lang.specs.Resolutions.{number_at, pair_at, input_step, subst_step, resolve_step, wrong_step, res_step_at, res_steps_of, res_steps_at}
+use Rattle.job_lang.specs.Problems as problems
+use Rattle.job_lang.specs.Jobs.{value_of, name_of, proves_of, subst_of, op_named, op_of, reads_named, reads_value, reads_job}
+
+-- what a reading of two parts gives comes of both
+both_read : {A B : Type 0} (r : Reading A) (f : A → Reading B) (y : B) → (r >>= f) ≡ Ok y → (x : A) × ((r ≡ Ok x) × (f x ≡ Ok y))
+both_read (Ok x) f y is = (x, (refl, is))
+both_read (Err c) f y is = cc
+
+same_value : {A : Type 0} (x y : A) → ◌≡◌ {A = Reading A} (Ok x) (Ok y) → x ≡ y
+same_value x y is = cc
+
+there : {A : Type 0} (c : JobCause) (o : Option A) (x : A) → or_fault c o ≡ Ok x → o ≡ Some x
+there c (Some a) x is = ap Some (same_value a x is)
+there c None x is = cc
+
+in_text : {A : Type 0} (field : List ℕ) (r : Result A TextFault) (x : A) → in_field field r ≡ Ok x → r ≡ Ok x
+in_text field (Ok a) x is = ap Ok (same_value a x is)
+in_text field (Err e) x is = cc
+
+both_true : (a b : Bool) → a ≡ true → b ≡ true → (a && b) ≡ true
+both_true true b p q = q
+both_true false b p q = cc
+
+module _ (place : Place) (d : Data) where
+  formula_formed : (key : List ℕ) (f : Formula) → formula_at place key d ≡ Ok f → IsFormed f
+  formula_formed key f is =
+      let text = both_read (text_at place key d) (formula_text place key None) f is in
+      formula_value text.0 f (in_text (path place key None) (formula_reading text.0) f text.1.1)
+
+  term_formed : (key : List ℕ) (t : Term) → term_at place key d ≡ Ok t → IsFormedTerm t
+  term_formed key t is =
+      let text = both_read (text_at place key d) (λ x. in_field (path place key None) (term_reading x)) t is in
+      term_value text.0 t (in_text (path place key None) (term_reading text.0) t text.1.1)
+
+  variable_formed : (key : List ℕ) (v : Var) → variable_at place key d ≡ Ok v → IsFormedVar v
+  variable_formed key v is =
+      let text = both_read (text_at place key d) (λ x. or_fault (Field (path place key None)) (whole_variable (scanned x) (length x))) v is in
+      variable_value text.0 v (there (Field (path place key None)) (whole_variable (scanned text.0) (length text.0)) v text.1.1)
+
+  -- a rule that names its main formula alone, and one that names a term or a variable too
+  with_main : (f : Formula → Rule) (r : Rule) → ((a : Formula) → IsFormed a → IsFormedRule (f a)) → (main_at place d >>= λ a. Ok (f a)) ≡ Ok r → IsFormedRule r
+  with_main f r formed is =
+      let main = both_read (main_at place d) (λ a. Ok (f a)) r is in
+      subst IsFormedRule (same_value (f main.0) r main.1.1) (formed main.0 (formula_formed (codes "main") main.0 main.1.0))
+
+  with_term : (f : Formula → Term → Rule) (r : Rule) → ((a : Formula) (t : Term) → IsFormed a → IsFormedTerm t → IsFormedRule (f a t))
+      → (main_at place d >>= λ a. term_at place (codes "term") d >>= λ t. Ok (f a t)) ≡ Ok r → IsFormedRule r
+  with_term f r formed is =
+      let main = both_read (main_at place d) (λ a. term_at place (codes "term") d >>= λ t. Ok (f a t)) r is in
+      let term = both_read (term_at place (codes "term") d) (λ t. Ok (f main.0 t)) r main.1.1 in
+      subst IsFormedRule (same_value (f main.0 term.0) r term.1.1)
+      (formed main.0 term.0 (formula_formed (codes "main") main.0 main.1.0) (term_formed (codes "term") term.0 term.1.0))
+
+  with_variable : (f : Formula → Var → Rule) (r : Rule) → ((a : Formula) (y : Var) → IsFormed a → IsFormedVar y → IsFormedRule (f a y))
+      → (main_at place d >>= λ a. variable_at place (codes "var") d >>= λ y. Ok (f a y)) ≡ Ok r → IsFormedRule r
+  with_variable f r formed is =
+      let main = both_read (main_at place d) (λ a. variable_at place (codes "var") d >>= λ y. Ok (f a y)) r is in
+      let var = both_read (variable_at place (codes "var") d) (λ y. Ok (f main.0 y)) r main.1.1 in
+      subst IsFormedRule (same_value (f main.0 var.0) r var.1.1)
+      (formed main.0 var.0 (formula_formed (codes "main") main.0 main.1.0) (variable_formed (codes "var") var.0 var.1.0))
+
+  kind_formed : (k : RuleKind) (r : Rule) → rule_of_kind place k d ≡ Ok r → IsFormedRule r
+  kind_formed kinds.TopR r is = subst IsFormedRule (same_value rules.TopR r is) refl
+  kind_formed kinds.BotL r is = subst IsFormedRule (same_value rules.BotL r is) refl
+  kind_formed kinds.Weak r is = subst IsFormedRule (same_value rules.Weak r is) refl
+  kind_formed kinds.Ax r is = with_main (λ a. rules.Ax a) r (λ a p. p) is
+  kind_formed kinds.NegL r is = with_main (λ a. rules.NegL a) r (λ a p. p) is
+  kind_formed kinds.NegR r is = with_main (λ a. rules.NegR a) r (λ a p. p) is
+  kind_formed kinds.AndL r is = with_main (λ a. rules.AndL a) r (λ a p. p) is
+  kind_formed kinds.AndR r is = with_main (λ a. rules.AndR a) r (λ a p. p) is
+  kind_formed kinds.OrL r is = with_main (λ a. rules.OrL a) r (λ a p. p) is
+  kind_formed kinds.OrR r is = with_main (λ a. rules.OrR a) r (λ a p. p) is
+  kind_formed kinds.ImpL r is = with_main (λ a. rules.ImpL a) r (λ a p. p) is
+  kind_formed kinds.ImpR r is = with_main (λ a. rules.ImpR a) r (λ a p. p) is
+  kind_formed kinds.Cut r is = with_main (λ a. rules.Cut a) r (λ a p. p) is
+  kind_formed kinds.AllL r is = with_term (λ a t. rules.AllL a t) r (λ a t. both_true (is_formed a) (is_formed_term t)) is
+  kind_formed kinds.ExR r is = with_term (λ a t. rules.ExR a t) r (λ a t. both_true (is_formed a) (is_formed_term t)) is
+  kind_formed kinds.AllR r is = with_variable (λ a y. rules.AllR a y) r (λ a y. both_true (is_formed a) (is_formed_var y)) is
+  kind_formed kinds.ExL r is = with_variable (λ a y. rules.ExL a y) r (λ a y. both_true (is_formed a) (is_formed_var y)) is
+
+  rule_formed : (r : Rule) → rule_of place d ≡ Ok r → IsFormedRule r
+  rule_formed r is =
+      let name = both_read (text_at place (codes "rule") d) _ r is in
+      let kind = both_read (or_fault (Field (path place (codes "rule") None)) (kind_named name.0)) _ r name.1.1 in
+      kind_formed kind.0 r kind.1.1
+
+  members_formed : (s : Step) → step_of place d ≡ Ok s → IsFormedRule s.rule
+  members_formed s is =
+      let rule = both_read (rule_of place d) _ s is in
+      let premises = both_read (premises_of place d) _ s rule.1.1 in
+      let left = both_read (side_at place (codes "left") d) _ s premises.1.1 in
+      let right = both_read (side_at place (codes "right") d) _ s left.1.1 in
+      subst (λ (x : Step). IsFormedRule x.rule) (same_value _ s right.1.1) (rule_formed rule.0 rule.1.0)
+
+step_formed : (i : ℕ) (d : Data) (s : Step) → step_at i d ≡ Ok s → IsFormedRule s.rule
+step_formed i d s is =
+    let object = both_read (or_fault (Field (path places.Top (codes "steps") (Some i))) (as_object d)) _ s is in
+    members_formed (places.Step i) d s object.1.1
+
+-- what holds of each value that is read holds of all of a list
+each_formed : {A : Type 0} (P : A → Type 0) (read : ℕ → Data → Reading A) → ((i : ℕ) (d : Data) (x : A) → read i d ≡ Ok x → P x)
+    → (i : ℕ) (ds : List Data) (xs : List A) → each read i ds ≡ Ok xs → All P xs
+each_formed P read formed i [] xs is = subst (All P) (same_value [] xs is) (All-nil P)
+each_formed P read formed i (d ∷ ds) xs is =
+    let first = both_read (read i d) _ xs is in
+    let rest = both_read (each read (suc i) ds) _ xs first.1.1 in
+    subst (All P) (same_value (first.0 ∷ rest.0) xs rest.1.1)
+    (All-cons P first.0 rest.0 (formed i d first.0 first.1.0) (each_formed P read formed (suc i) ds rest.0 rest.1.0))
+
+-- the rules of these steps name what is well formed
+abbrev AreFormed : List Step → Type 0
+AreFormed steps = All (λ s. IsFormedRule s.rule) steps
+
+steps_formed : (d : Data) (steps : List Step) → steps_at d ≡ Ok steps → AreFormed steps
+steps_formed d steps is =
+    let list = both_read (list_at places.Top (codes "steps") d) steps_of steps is in
+    each_formed (λ (s : Step). IsFormedRule s.rule) step_at step_formed 0 list.0 steps list.1.1
+
+chosen : {A P : Type 0} (b : Bool) (x y z : A) → (x ≡ z → P) → (y ≡ z → P) → (if b then x else y) ≡ z → P
+chosen true x y z f g is = f is
+chosen false x y z f g is = g is
+
+-- maps
+
+binding_formed : (place : Place) (name : List ℕ) (d : Data) (b : Var × Term) → binding_of place name d ≡ Ok b → IsFormedTerm b.1
+binding_formed place name d b is =
+    let var = both_read (or_fault (Field (path place (codes "map") None)) (whole_variable (scanned name) (length name))) _ b is in
+    let text = both_read (or_fault (Field (member_path place (codes "map") name)) (as_str d)) _ b var.1.1 in
+    let term = both_read (in_field (member_path place (codes "map") name) (term_reading text.0)) _ b text.1.1 in
+    subst (λ (x : Var × Term). IsFormedTerm x.1) (same_value (var.0, term.0) b term.1.1)
+    (term_value text.0 term.0 (in_text (member_path place (codes "map") name) (term_reading text.0) term.0 term.1.0))
+
+members_are_formed : (place : Place) (ms : Members) (m n : Map) → map_of place ms m ≡ Ok n → IsFormedMap (fin.get m) → IsFormedMap (fin.get n)
+members_are_formed place no_members m n is h = subst (λ (x : Map). IsFormedMap (fin.get x)) (same_value m n is) h
+members_are_formed place (member name d ms) m n is h =
+    let binding = both_read (binding_of place name d) _ n is in
+    members_are_formed place ms (fin.insert m binding.0.0 binding.0.1) n binding.1.1
+    (formed_insert m binding.0.0 binding.0.1 h (binding_formed place name d binding.0 binding.1.0))
+
+map_formed : (place : Place) (d : Data) (m : Map) → map_at place d ≡ Ok m → IsFormedMap (fin.get m)
+map_formed place d m is =
+    let members = both_read (or_fault (Field (path place (codes "map") None)) (option_and_then as_object (get (codes "map") d))) _ m is in
+    members_are_formed place members.0 fin.empty m members.1.1 formed_empty
+
+-- refutations
+
+input_formed : (place : Place) (d : Data) (s : ResStep) → input_step place d ≡ Ok s → IsFormedStep s
+input_formed place d s is =
+    let number = both_read (number_at place (codes "input") d) _ s is in
+    subst IsFormedStep (same_value (res.Input number.0) s number.1.1) tt
+
+subst_formed : (place : Place) (d : Data) (s : ResStep) → subst_step place d ≡ Ok s → IsFormedStep s
+subst_formed place d s is =
+    let number = both_read (number_at place (codes "subst") d) _ s is in
+    let map = both_read (map_at place d) _ s number.1.1 in
+    subst IsFormedStep (same_value (res.Subst number.0 map.0) s map.1.1) (map_formed place d map.0 map.1.0)
+
+resolve_formed : (place : Place) (d : Data) (s : ResStep) → resolve_step place d ≡ Ok s → IsFormedStep s
+resolve_formed place d s is =
+    let premises = both_read (pair_at place (codes "resolve") d) _ s is in
+    let atom = both_read (formula_at place (codes "atom") d) _ s premises.1.1 in
+    subst IsFormedStep (same_value (res.Resolve premises.0.0 premises.0.1 atom.0) s atom.1.1) (formula_formed place d (codes "atom") atom.0 atom.1.0)
+
+no_step : (i : ℕ) (s : ResStep) → ◌≡◌ {A = Reading ResStep} (Err (wrong_step i)) (Ok s) → IsFormedStep s
+no_step i s is = cc
+
+res_step_formed : (i : ℕ) (d : Data) (s : ResStep) → res_step_at i d ≡ Ok s → IsFormedStep s
+res_step_formed i d s is =
+    let object = both_read (or_fault (wrong_step i) (as_object d)) _ s is in
+    chosen (is_some (get (codes "input") d)) _ _ (Ok s) (input_formed (places.Step i) d s)
+    (chosen (is_some (get (codes "subst") d)) _ _ (Ok s) (subst_formed (places.Step i) d s)
+    (chosen (is_some (get (codes "resolve") d)) _ _ (Ok s) (resolve_formed (places.Step i) d s) (no_step i s))) object.1.1
+
+res_steps_formed : (d : Data) (steps : List ResStep) → res_steps_at d ≡ Ok steps → AreFormedSteps steps
+res_steps_formed d steps is =
+    let list = both_read (list_at places.Top (codes "steps") d) res_steps_of steps is in
+    each_formed IsFormedStep res_step_at res_step_formed 0 list.0 steps list.1.1
+
+-- problems
+
+problem_value : (r : Result ProblemMeaning (ℕ × ProblemKind)) (p : ProblemMeaning) → problems.in_text r ≡ Ok p → r ≡ Ok p
+problem_value (Ok q) p is = ap Ok (same_value q p is)
+problem_value (Err e) p is = cc
+
+problem_formed : (d : Data) (p : ProblemMeaning) → problem_at d ≡ Ok p → IsReadProblem p
+problem_formed d p is =
+    let text = both_read (text_at places.Top (codes "text") d) (λ x. problems.in_text (problem_reading x)) p is in
+    problem_read text.0 p (problem_value (problem_reading text.0) p text.1.1)
+
+module _ (d : Data) (op : Op) where
+  in_lk : (steps_at d >>= λ read. Ok (Lk read)) ≡ Ok op → IsFormedOp op
+  in_lk is =
+      let read = both_read (steps_at d) (λ x. Ok (Lk x)) op is in
+      subst IsFormedOp (same_value (Lk read.0) op read.1.1) (steps_formed d read.0 read.1.0)
+
+  in_problem : (problem_at d >>= λ problem. Ok (Problem problem)) ≡ Ok op → IsFormedOp op
+  in_problem is =
+      let read = both_read (problem_at d) (λ x. Ok (Problem x)) op is in
+      subst IsFormedOp (same_value (Problem read.0) op read.1.1) (problem_formed d read.0 read.1.0)
+
+  in_proves : proves_of d ≡ Ok op → IsFormedOp op
+  in_proves is =
+      let proof = both_read (text_at places.Top (codes "proof") d) _ op is in
+      let problem = both_read (text_at places.Top (codes "problem") d) (λ x. Ok (Proves proof.0 x)) op proof.1.1 in
+      subst IsFormedOp (same_value (Proves proof.0 problem.0) op problem.1.1) tt
+
+  in_show : (text_at places.Top (codes "of") d >>= λ of. Ok (Show of)) ≡ Ok op → IsFormedOp op
+  in_show is =
+      let read = both_read (text_at places.Top (codes "of") d) (λ x. Ok (Show x)) op is in
+      subst IsFormedOp (same_value (Show read.0) op read.1.1) tt
+
+  in_measure : (text_at places.Top (codes "proof") d >>= λ proof. Ok (Measure proof)) ≡ Ok op → IsFormedOp op
+  in_measure is =
+      let read = both_read (text_at places.Top (codes "proof") d) (λ x. Ok (Measure x)) op is in
+      subst IsFormedOp (same_value (Measure read.0) op read.1.1) tt
+
+  in_subst : subst_of d ≡ Ok op → IsFormedOp op
+  in_subst is =
+      let proof = both_read (text_at places.Top (codes "proof") d) _ op is in
+      let map = both_read (map_at places.Top d) (λ x. Ok (Subst proof.0 x)) op proof.1.1 in
+      subst IsFormedOp (same_value (Subst proof.0 map.0) op map.1.1) (map_formed places.Top d map.0 map.1.0)
+
+  in_none : ◌≡◌ {A = Reading Op} (Err UnknownOp) (Ok op) → IsFormedOp op
+  in_none is = cc
+
+  named_formed : (name : List ℕ) → op_named name d ≡ Ok op → IsFormedOp op
+  named_formed name is =
+      chosen (is_text name (codes "lk")) _ _ (Ok op) in_lk
+      (chosen (is_text name (codes "problem")) _ _ (Ok op) in_problem
+      (chosen (is_text name (codes "proves")) _ _ (Ok op) in_proves
+      (chosen (is_text name (codes "show")) _ _ (Ok op) in_show
+      (chosen (is_text name (codes "measure")) _ _ (Ok op) in_measure
+      (chosen (is_text name (codes "subst")) _ _ (Ok op) in_subst in_none))))) is
+
+  op_formed : op_of d ≡ Ok op → IsFormedOp op
+  op_formed is =
+      let name = both_read (text_at places.Top (codes "op") d) (λ x. op_named x d) op is in named_formed name.0 name.1.1
+
+  behind_name : (name : Reading (List ℕ)) → (reads_named name d).op ≡ Ok op → IsFormedOp op
+  behind_name (Ok name) is = op_formed is
+  behind_name (Err c) is = cc
+
+in_value : (r : Reading Data) (op : Op) → (reads_value r).op ≡ Ok op → IsFormedOp op
+in_value (Ok d) op is = behind_name d op (name_of d) is
+in_value (Err c) op is = cc
+
+pub formed_op : (line : List ℕ) (op : Op) → (reads_job line).op ≡ Ok op → IsFormedOp op
+unfolding reads_job
+formed_op line op is = in_value (value_of line) op is

@@ -1,0 +1,64 @@
+//! Reading budgets.
+ghost use Rattle.std.specs.Prelude.{◌≡◌, true};
+ghost use Rattle.serde_json.specs.View.{view};
+ghost use Rattle.job_lang.specs.Fields.{Gives};
+ghost use Rattle.job_lang.specs.Budgets.{is_budget, usual_budget, budget_at as budget_member};
+
+use crate::places::Place;
+use crate::reading::{ReadError, field_fault};
+use serde_json::Value;
+use std::alloc::Global;
+use std::marker::Model;
+
+/// How many reductions an elimination of cuts may take: from 1 to 1,000,000,000.
+#[derive(Debug, Drop)]
+pub struct Budget {
+    reductions: u64,
+}
+
+impl Model for Budget {
+    ghost use Rattle.std.specs.Prelude.{◌≡◌, ℕ, true};
+    ghost use Rattle.job_lang.specs.Budgets.{is_budget};
+
+    ghost Value = { ℕ };
+
+    ghost view = { λ b. b.reductions };
+
+    ghost invariant = { λ b. is_budget b.reductions ≡ true };
+}
+
+impl Budget {
+    /// The budget of a job that names none: 100,000.
+    pub fn usual() -> Budget
+        ensures { result ≡ usual_budget }
+    {
+        Budget {
+            reductions: 100_000,
+        }
+    }
+
+    /// How many reductions it allows.
+    pub fn get(&self) -> u64
+        ensures value { result ≡ self.now }
+        ensures limits { is_budget self.now ≡ true }
+    {
+        self.reductions
+    }
+}
+
+/// The member `budget`, a whole number from 1 to 1,000,000,000; 100,000 where the job has none.
+#[tactic(auto, using(crate::proofs::Given::cause_given))]
+pub fn budget_at(alloc: Global, value: &Value) -> Result<Budget, ReadError>
+    ensures { Gives (λ b. b) result (budget_member (view value.now)) }
+{
+    let number = match value.get("budget") {
+        Some(member) => member.as_u64(),
+        None => return Ok(Budget::usual()),
+    };
+    match number {
+        Some(reductions) if reductions >= 1 && reductions <= 1_000_000_000 => {
+            Ok(Budget { reductions })
+        }
+        _ => Err(field_fault(alloc, Place::Top, "budget", None)),
+    }
+}

@@ -1,0 +1,183 @@
+//! Reading the steps of a refutation.
+ghost use Rattle.std.specs.Prelude.{◌≡◌, map, IfOk, is_some};
+ghost use Rattle.serde_json.specs.Find.{get};
+ghost use Rattle.serde_json.specs.View.{view};
+ghost use Rattle.refutations.specs.Refutations.{IsFormedStep, AreFormedSteps};
+ghost use Rattle.job_lang.specs.Fields.{Gives};
+ghost use Rattle.job_lang.specs.Resolutions.{number_at as number_member, pair_of as pair_data, pair_at as pair_member, input_step as input_data, subst_step as subst_data, resolve_step as resolve_data, res_step_of as step_data, res_step_at as step_element, res_steps_of as steps_data, res_steps_at as steps_member};
+
+use crate::formulas::formula_at;
+use crate::maps::map_at;
+use crate::places::Place;
+use crate::reading::{ReadError, field_fault, list_at, number_of};
+use refutations::ResStep;
+use serde_json::Value;
+use std::alloc::Global;
+use std::marker::Model;
+
+/// The steps of a refutation, each of which names a map or an atom that is well formed, where it names one.
+#[derive(Debug, Drop)]
+pub struct ResSteps {
+    items: Vec<ResStep>,
+}
+
+impl Model for ResSteps {
+    ghost use Rattle.std.specs.Prelude.{List};
+    ghost use Rattle.refutations.specs.declared.step.ResStep.{ResStep};
+    ghost use Rattle.refutations.specs.Refutations.{AreFormedSteps};
+
+    ghost Value = { List ResStep };
+
+    ghost use Rattle.std.specs.Coded.{codes};
+    ghost use Rattle.refutations.specs.contracts.step.ResStep as step;
+
+    ghost coded = { Prim.hlevel (codes, step.the_row.coded) };
+
+    ghost view = { λ s. s.items.items };
+
+    ghost invariant = { λ s. AreFormedSteps s.items.items };
+}
+
+impl ResSteps {
+    /// The list of these steps, each of which names a well-formed map or atom, where it names one.
+    pub fn from_vec(items: Vec<ResStep>) -> ResSteps
+        requires { AreFormedSteps items.items }
+        ensures { result ≡ items.items }
+    {
+        ResSteps { items }
+    }
+
+    /// The steps, in order.
+    pub fn as_slice(&self) -> &[ResStep]
+        ensures steps { result.now ≡ self.now }
+        ensures formed { AreFormedSteps result.now }
+    {
+        self.items.as_slice()
+    }
+}
+
+fn has_member(value: &Value, key: &str) -> bool
+    ensures { result ≡ is_some (get key.now (view value.now)) }
+{
+    value.get(key).is_some()
+}
+
+/// The member that is a whole number.
+#[tactic(auto, using(crate::proofs::Given::cause_given))]
+fn number_at(alloc: Global, value: &Value, place: Place, key: &str) -> Result<u64, ReadError>
+    ensures { Gives (λ n. n) result (number_member place key.now (view value.now)) }
+{
+    match value.get(key) {
+        Some(member) => match member.as_u64() {
+            Some(number) => Ok(number),
+            None => Err(field_fault(alloc, place, key, None)),
+        },
+        None => Err(field_fault(alloc, place, key, None)),
+    }
+}
+
+#[tactic(auto, using(crate::proofs::Given::cause_given))]
+fn pair_of(
+    alloc: Global,
+    values: &[Value],
+    place: Place,
+    key: &str,
+) -> Result<(u64, u64), ReadError>
+    ensures { Gives (λ p. p) result (pair_data place key.now (map view values.now)) }
+{
+    match values {
+        [first, second] => {
+            let first = number_of(alloc, first, place, key, 0)?;
+            let second = number_of(alloc, second, place, key, 1)?;
+            Ok((first, second))
+        }
+        _ => Err(field_fault(alloc, place, key, None)),
+    }
+}
+
+/// The two whole numbers that the member is.
+fn pair_at(alloc: Global, value: &Value, place: Place, key: &str) -> Result<(u64, u64), ReadError>
+    ensures { Gives (λ p. p) result (pair_member place key.now (view value.now)) }
+{
+    let values = list_at(alloc, value, place, key)?;
+    pair_of(alloc, values, place, key)
+}
+
+fn input_step(alloc: Global, value: &Value, place: Place) -> Result<ResStep, ReadError>
+    ensures value { Gives (λ s. s) result (input_data place (view value.now)) }
+    ensures formed { IfOk result IsFormedStep }
+{
+    let clause = number_at(alloc, value, place, "input")?;
+    Ok(ResStep::Input(clause))
+}
+
+fn subst_step(alloc: Global, value: &Value, place: Place) -> Result<ResStep, ReadError>
+    ensures value { Gives (λ s. s) result (subst_data place (view value.now)) }
+    ensures formed { IfOk result IsFormedStep }
+{
+    let step = number_at(alloc, value, place, "subst")?;
+    let map = map_at(alloc, value, place)?;
+    Ok(ResStep::Subst(step, map.into_subst()))
+}
+
+fn resolve_step(alloc: Global, value: &Value, place: Place) -> Result<ResStep, ReadError>
+    ensures value { Gives (λ s. s) result (resolve_data place (view value.now)) }
+    ensures formed { IfOk result IsFormedStep }
+{
+    let (positive, negative) = pair_at(alloc, value, place, "resolve")?;
+    let atom = formula_at(alloc, value, place, "atom")?;
+    Ok(ResStep::Resolve {
+        positive,
+        negative,
+        atom,
+    })
+}
+
+/// The members of a step, by the first of its keys that is present.
+#[tactic(auto, using(crate::proofs::Given::cause_given))]
+fn members_of_step(alloc: Global, value: &Value, index: usize) -> Result<ResStep, ReadError>
+    ensures value { Gives (λ s. s) result (step_data index (view value.now)) }
+    ensures formed { IfOk result IsFormedStep }
+{
+    let place = Place::Step(index);
+    if has_member(value, "input") {
+        return input_step(alloc, value, place);
+    }
+    if has_member(value, "subst") {
+        return subst_step(alloc, value, place);
+    }
+    if has_member(value, "resolve") {
+        return resolve_step(alloc, value, place);
+    }
+    Err(field_fault(alloc, Place::Top, "steps", Some(index)))
+}
+
+#[tactic(auto, using(crate::proofs::Given::cause_given))]
+fn step_at(alloc: Global, value: &Value, index: usize) -> Result<ResStep, ReadError>
+    ensures value { Gives (λ s. s) result (step_element index (view value.now)) }
+    ensures formed { IfOk result IsFormedStep }
+{
+    match value.as_object() {
+        Some(_) => members_of_step(alloc, value, index),
+        None => Err(field_fault(alloc, Place::Top, "steps", Some(index))),
+    }
+}
+
+fn steps_of(alloc: Global, values: &[Value]) -> Result<ResSteps, ReadError>
+    ensures { Gives (λ s. s) result (steps_data (map view values.now)) }
+{
+    let mut items = Vec::new(alloc);
+    for (index, value) in values.iter().enumerate() {
+        let step = step_at(alloc, value, index)?;
+        items.push(step)?;
+    }
+    Ok(ResSteps { items })
+}
+
+/// The steps of the refutation.
+pub fn res_steps_at(alloc: Global, value: &Value) -> Result<ResSteps, ReadError>
+    ensures { Gives (λ s. s) result (steps_member (view value.now)) }
+{
+    let values = list_at(alloc, value, Place::Top, "steps")?;
+    steps_of(alloc, values)
+}

@@ -1,0 +1,12 @@
+use Rattle.std.proofs.Common.{◌∙◌}
+use Rattle.proof_server.specs.Naming.{given, is_problem}
+use Rattle.proof_server.specs.Answers.{held_of}
+use Rattle.proof_server.specs.Means.{IsProblemGiven, graph_in}
+use Rattle.proof_server.proofs.Found.{finds}
+use Rattle.proof_server.proofs.store.Store.named_problem.Goals as goal
+
+pub returns : goal.returns
+returns c = λ earlier store.
+    let text = c.as_bytes.result.now in
+    finds IsProblemGiven text c.args.of c.in_ok-given.given c.found.result (given (held_of earlier) is_problem) (c.as_bytes.ensures.value ∙ c.as_str.ensures) c.found.ensures
+    (c.in_ok-given.ensures (graph_in c.args.self.now) earlier store.known)

@@ -1,0 +1,4 @@
+pub mod Unions
+pub mod Premises
+pub mod Tables
+pub mod Subtrees

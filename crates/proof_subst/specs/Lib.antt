@@ -1,0 +1,4 @@
+pub mod Benches
+pub mod Lending
+pub mod TreeVariables
+pub mod TreeImages

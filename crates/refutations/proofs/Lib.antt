@@ -1,0 +1,8 @@
+pub mod FirstOccurrences
+pub mod FormulaSets
+pub mod Closures
+pub mod Inferences
+pub mod InputTrees
+pub mod Derivations
+pub mod Refuting
+pub mod StepFaults

@@ -1,0 +1,4 @@
+pub mod Clauses
+pub mod FirstOccurrences
+pub mod Refutations
+pub mod DerivedSteps

@@ -1,0 +1,3 @@
+pub mod OverClauses
+pub mod Standing
+pub mod Derived
