@@ -34,7 +34,7 @@ use Rattle.job_lang.specs.declared.reading.JobCause.TheVariants.{Field, Op as Un
 use Rattle.job_lang.specs.declared.rules.RuleKind.{RuleKind}
 use Rattle.job_lang.specs.declared.rules.RuleKind.TheVariants as kinds
 use Rattle.job_lang.specs.declared.jobs.Op.{Op}
-use Rattle.job_lang.specs.declared.jobs.Op.TheVariants.{Lk, Problem, Proves, Show, Measure, Subst}
+use Rattle.job_lang.specs.declared.jobs.Op.TheVariants.{Lk, Problem, Proves, Show, Measure, Subst, Cutelim, Resolution}
 use Rattle.job_lang.specs.Places.{path}
 use Rattle.job_lang.specs.Fields.{Reading, ◌>>=◌, or_fault, text_at, list_at, each}
 use Rattle.job_lang.specs.Formulas.{in_field, formula_text, formula_at, term_at, variable_at, side_at}
@@ -43,9 +43,10 @@ use Rattle.job_lang.specs.Rules.{is_text, kind_named, main_at, rule_of_kind, rul
 use Rattle.job_lang.specs.Steps.{premises_of, step_of, step_at, steps_of, steps_at}
 use Rattle.job_lang.specs.FormedOps.{IsFormedOp}
 use Rattle.job_lang.specs.Maps.{member_path, binding_of, map_of, map_at}
+use Rattle.job_lang.specs.Budgets.{budget_at}
 use Rattle.job_lang.specs.Resolutions.{number_at, pair_at, input_step, subst_step, resolve_step, wrong_step, res_step_at, res_steps_of, res_steps_at}
 use Rattle.job_lang.specs.Problems as problems
-use Rattle.job_lang.specs.Jobs.{value_of, name_of, proves_of, subst_of, op_named, op_of, reads_named, reads_value, reads_job}
+use Rattle.job_lang.specs.Jobs.{value_of, name_of, proves_of, subst_of, cutelim_of, resolution_of, op_named, op_of, reads_named, reads_value, reads_job}
 
 -- what a reading of two parts gives comes of both
 both_read : {A B : Type 0} (r : Reading A) (f : A → Reading B) (y : B) → (r >>= f) ≡ Ok y → (x : A) × ((r ≡ Ok x) × (f x ≡ Ok y))
@@ -266,6 +267,18 @@ module _ (d : Data) (op : Op) where
       let map = both_read (map_at places.Top d) (λ x. Ok (Subst proof.0 x)) op proof.1.1 in
       subst IsFormedOp (same_value (Subst proof.0 map.0) op map.1.1) (map_formed places.Top d map.0 map.1.0)
 
+  in_cutelim : cutelim_of d ≡ Ok op → IsFormedOp op
+  in_cutelim is =
+      let proof = both_read (text_at places.Top (codes "proof") d) _ op is in
+      let budget = both_read (budget_at d) (λ x. Ok (Cutelim proof.0 x)) op proof.1.1 in
+      subst IsFormedOp (same_value (Cutelim proof.0 budget.0) op budget.1.1) tt
+
+  in_resolution : resolution_of d ≡ Ok op → IsFormedOp op
+  in_resolution is =
+      let problem = both_read (text_at places.Top (codes "problem") d) _ op is in
+      let steps = both_read (res_steps_at d) (λ x. Ok (Resolution problem.0 x)) op problem.1.1 in
+      subst IsFormedOp (same_value (Resolution problem.0 steps.0) op steps.1.1) (res_steps_formed d steps.0 steps.1.0)
+
   in_none : ◌≡◌ {A = Reading Op} (Err UnknownOp) (Ok op) → IsFormedOp op
   in_none is = cc
 
@@ -276,7 +289,9 @@ module _ (d : Data) (op : Op) where
       (chosen (is_text name (codes "proves")) _ _ (Ok op) in_proves
       (chosen (is_text name (codes "show")) _ _ (Ok op) in_show
       (chosen (is_text name (codes "measure")) _ _ (Ok op) in_measure
-      (chosen (is_text name (codes "subst")) _ _ (Ok op) in_subst in_none))))) is
+      (chosen (is_text name (codes "subst")) _ _ (Ok op) in_subst
+      (chosen (is_text name (codes "cutelim")) _ _ (Ok op) in_cutelim
+      (chosen (is_text name (codes "resolution")) _ _ (Ok op) in_resolution in_none))))))) is
 
   op_formed : op_of d ≡ Ok op → IsFormedOp op
   op_formed is =

@@ -8,7 +8,7 @@ use Rattle.job_lang.specs.declared.reading.JobCause.TheVariants.{Json, Field, Op
 use Rattle.job_lang.specs.declared.reading.ReadError.{ReadError}
 use Rattle.job_lang.specs.declared.reading.ReadError.TheVariants.{Fault as ReadFault, Memory as ReadMemory}
 use Rattle.job_lang.specs.declared.jobs.Op.{Op}
-use Rattle.job_lang.specs.declared.jobs.Op.TheVariants.{Lk, Problem, Proves, Show, Measure, Subst}
+use Rattle.job_lang.specs.declared.jobs.Op.TheVariants.{Lk, Problem, Proves, Show, Measure, Subst, Cutelim, Resolution}
 use Rattle.job_lang.specs.declared.jobs.Job.{Job}
 use Rattle.job_lang.specs.declared.jobs.JobError.{JobError}
 use Rattle.job_lang.specs.declared.jobs.JobError.TheVariants.{Memory, Fault}
@@ -16,9 +16,11 @@ use Rattle.job_lang.specs.Names.{is_job_name}
 use Rattle.job_lang.specs.Places.{path}
 use Rattle.job_lang.specs.Fields.{Reading, ◌>>=◌, or_fault, text_at}
 use Rattle.job_lang.specs.Maps.{map_at}
+use Rattle.job_lang.specs.Budgets.{budget_at}
 use Rattle.job_lang.specs.Problems.{problem_at}
 use Rattle.job_lang.specs.Rules.{is_text}
 use Rattle.job_lang.specs.Steps.{steps_at}
+use Rattle.job_lang.specs.Resolutions.{res_steps_at}
 
 -- the JSON value of a line, where it has one: a line that isn't UTF-8 has none
 abbrev pub value_of : List ℕ → Reading Data
@@ -44,6 +46,20 @@ subst_of d = do
   map ← map_at Top d
   Ok (Subst proof map)
 
+-- a proof, by the name of its job, and a budget
+abbrev pub cutelim_of : Data → Reading Op
+cutelim_of d = do
+  proof ← text_at Top (codes "proof") d
+  budget ← budget_at d
+  Ok (Cutelim proof budget)
+
+-- a problem, by the name of its job, and the steps of a refutation
+abbrev pub resolution_of : Data → Reading Op
+resolution_of d = do
+  problem ← text_at Top (codes "problem") d
+  steps ← res_steps_at d
+  Ok (Resolution problem steps)
+
 -- the operation of this name with its fields
 abbrev pub op_named : List ℕ → Data → Reading Op
 op_named name d =
@@ -53,7 +69,9 @@ op_named name d =
     else (if is_text name (codes "show") then text_at Top (codes "of") d >>= (λ of. Ok (Show of))
     else (if is_text name (codes "measure") then text_at Top (codes "proof") d >>= (λ proof. Ok (Measure proof))
     else (if is_text name (codes "subst") then subst_of d
-    else Err UnknownOp)))))
+    else (if is_text name (codes "cutelim") then cutelim_of d
+    else (if is_text name (codes "resolution") then resolution_of d
+    else Err UnknownOp)))))))
 
 abbrev pub op_of : Data → Reading Op
 op_of d = text_at Top (codes "op") d >>= λ name. op_named name d

@@ -2,13 +2,15 @@
 ghost use Rattle.std.specs.Prelude.{◌≡◌, IfOk};
 ghost use Rattle.serde_json.specs.View.{view};
 ghost use Rattle.job_lang.specs.Fields.{Gives};
-ghost use Rattle.job_lang.specs.Jobs.{error_with, value_of as line_value, name_of as name_data, subst_of as subst_data, op_named as named_op, op_of as op_data, reads_job, GivesJob};
+ghost use Rattle.job_lang.specs.Jobs.{error_with, value_of as line_value, name_of as name_data, subst_of as subst_data, cutelim_of as cutelim_data, resolution_of as resolution_data, op_named as named_op, op_of as op_data, reads_job, GivesJob};
 
+use crate::budgets::{Budget, budget_at};
 use crate::maps::{FormedMap, map_at};
 use crate::names::{Name, is_name};
 use crate::places::Place;
 use crate::problems::problem_at;
 use crate::reading::{JobCause, ReadError, field_fault, text_at, written_at};
+use crate::resolutions::{ResSteps, res_steps_at};
 use crate::steps::{Steps, steps_at};
 use crate::texts::Utf8Text;
 use serde_json::Value;
@@ -30,6 +32,10 @@ pub enum Op {
     Measure { proof: Utf8Text },
     /// A proof with its free variables replaced by terms.
     Subst { proof: Utf8Text, map: FormedMap },
+    /// A proof made free of cuts, within a budget of reductions.
+    Cutelim { proof: Utf8Text, budget: Budget },
+    /// The steps of a refutation of the clauses of a problem, which is named by its job.
+    Resolution { problem: Utf8Text, steps: ResSteps },
 }
 
 /// A job: what it asks for, under a name.
@@ -66,6 +72,22 @@ fn subst_of(alloc: Global, value: &Value) -> Result<Op, ReadError>
     Ok(Op::Subst { proof, map })
 }
 
+fn cutelim_of(alloc: Global, value: &Value) -> Result<Op, ReadError>
+    ensures { Gives (λ op. op) result (cutelim_data (view value.now)) }
+{
+    let proof = written_at(alloc, value, Place::Top, "proof")?;
+    let budget = budget_at(alloc, value)?;
+    Ok(Op::Cutelim { proof, budget })
+}
+
+fn resolution_of(alloc: Global, value: &Value) -> Result<Op, ReadError>
+    ensures { Gives (λ op. op) result (resolution_data (view value.now)) }
+{
+    let problem = written_at(alloc, value, Place::Top, "problem")?;
+    let steps = res_steps_at(alloc, value)?;
+    Ok(Op::Resolution { problem, steps })
+}
+
 fn op_named(alloc: Global, name: &str, value: &Value) -> Result<Op, ReadError>
     ensures { Gives (λ op. op) result (named_op name.now (view value.now)) }
 {
@@ -92,6 +114,12 @@ fn op_named(alloc: Global, name: &str, value: &Value) -> Result<Op, ReadError>
     }
     if name == "subst" {
         return subst_of(alloc, value);
+    }
+    if name == "cutelim" {
+        return cutelim_of(alloc, value);
+    }
+    if name == "resolution" {
+        return resolution_of(alloc, value);
     }
     Err(ReadError::Fault(JobCause::Op))
 }

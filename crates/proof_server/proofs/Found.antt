@@ -4,10 +4,12 @@ use Rattle.proof_graph.specs.References.{Reference}
 use Rattle.proof_graph.specs.declared.graph.Graph.{Graph}
 use Rattle.proof_graph.specs.Graphs.{IsOf}
 use Rattle.proof_trees.specs.Trees.{Tree}
+use Rattle.tptp_problem.specs.declared.problems.Problem.{Problem}
+use Rattle.tptp_problem.specs.ProblemClauses.{IsReadProblem}
 use Rattle.job_lang.specs.declared.replies.Outcome.{Outcome}
-use Rattle.proof_server.specs.Values.{Value, Run}
-use Rattle.proof_server.specs.Operations.{on_proof}
-use Rattle.proof_server.specs.Means.{Answers, Gives, IsProofGiven, found_of, Refuses, Finds}
+use Rattle.proof_server.specs.Values.{Value, problem, Run}
+use Rattle.proof_server.specs.Operations.{on_proof, on_problem}
+use Rattle.proof_server.specs.Means.{Answers, Gives, IsProofGiven, IsProblemGiven, found_of, Refuses, Finds}
 use Rattle.proof_server.specs.declared.held.Given.{Given}
 use Rattle.proof_server.specs.declared.held.Given.TheVariants as given
 use Rattle.proof_server.specs.declared.store.Ran.{Ran}
@@ -41,3 +43,19 @@ pub without_proof : (g : Graph) (k : Tree → Run) (r : Ran) (wanted : Result Va
 without_proof g k ran.Lacked wanted is = subst (λ (w : Result Value Outcome). Answers g ran.Lacked (on_proof k w)) (sym is) tt
 without_proof g k (ran.Refused outcome) wanted is = subst (λ (w : Result Value Outcome). Answers g (ran.Refused outcome) (on_proof k w)) (sym is) refl
 without_proof g k (ran.Done outcome h) wanted is = absurd is
+
+-- a problem that is found is such as is read, where each that is given is
+pub found_read : (found : Result Problem Ran) (wanted : Result Value Outcome) → ((p : Problem) → wanted ≡ Ok (problem p) → IsReadProblem p)
+    → Finds IsProblemGiven found wanted → IfOk found IsReadProblem
+found_read (Ok p) wanted read is = read p is
+found_read (Err ran) wanted read is = tt
+
+-- an operation on a problem that is found, and on one that isn't
+pub with_problem : (g : Graph) (k : Problem → Run) (p : Problem) (answer : Ran) (wanted : Result Value Outcome) → IsProblemGiven p wanted → Answers g answer (k p)
+    → Answers g answer (on_problem k wanted)
+with_problem g k p answer wanted is answers = subst (λ (w : Result Value Outcome). Answers g answer (on_problem k w)) (sym is) answers
+
+pub without_problem : (g : Graph) (k : Problem → Run) (r : Ran) (wanted : Result Value Outcome) → Refuses r wanted → Answers g r (on_problem k wanted)
+without_problem g k ran.Lacked wanted is = subst (λ (w : Result Value Outcome). Answers g ran.Lacked (on_problem k w)) (sym is) tt
+without_problem g k (ran.Refused outcome) wanted is = subst (λ (w : Result Value Outcome). Answers g (ran.Refused outcome) (on_problem k w)) (sym is) refl
+without_problem g k (ran.Done outcome h) wanted is = absurd is

@@ -6,5 +6,8 @@ pub mod LongLines
 pub mod Midway
 pub mod ReplyLines
 pub mod Turns
+pub mod HeldProblems
 pub mod AskedProofs
+pub mod Refuted
+pub mod Reduced
 pub mod Endings

@@ -6,17 +6,20 @@ use Rattle.std.specs.Prelude.{◌≡◌, ℕ, List, [], ◌∷◌, Option, Some,
 use Rattle.std.specs.FinMap as fin
 use Rattle.lk_rules.specs.declared.sequent.Sequent.{Sequent}
 use Rattle.lk_rules.specs.Sequents.{image_sequent}
-use Rattle.proof_trees.specs.Trees.{Tree, concl, IsValid}
+use Rattle.proof_trees.specs.Trees.{Tree, concl, IsValid, IsCutFree}
+use Rattle.refutations.specs.Clauses.{closures}
 use Rattle.lk_check.specs.Checking.{last_end}
+use Rattle.tptp_problem.specs.declared.problems.Problem.{Problem}
+use Rattle.tptp_problem.specs.ProblemClauses.{clauses_of, IsReadProblem}
 use Rattle.job_lang.specs.declared.jobs.Op.{Op}
-use Rattle.job_lang.specs.declared.jobs.Op.TheVariants.{Lk, Subst}
+use Rattle.job_lang.specs.declared.jobs.Op.TheVariants.{Lk, Subst, Cutelim, Resolution}
 use Rattle.job_lang.specs.declared.replies.Outcome.{Outcome}
-use Rattle.job_lang.specs.declared.replies.Outcome.TheVariants.{Proof}
+use Rattle.job_lang.specs.declared.replies.Outcome.TheVariants.{Proof, Reduced}
 use Rattle.job_lang.specs.declared.replies.Summary.{Summary}
 use Rattle.job_lang.specs.Jobs.{reads_job}
 use Rattle.proof_server.specs.Jobs.{Past}
-use Rattle.proof_server.specs.Values.{Value, proof, Lookup, done}
-use Rattle.proof_server.specs.Naming.{given, is_proof}
+use Rattle.proof_server.specs.Values.{Value, proof, problem, Lookup, done}
+use Rattle.proof_server.specs.Naming.{given, is_proof, is_problem}
 use Rattle.proof_server.specs.Operations.{summary_of}
 use Rattle.proof_server.specs.Answers.{held_of, run_line, outcome_of}
 
@@ -25,17 +28,36 @@ abbrev pub end_given : Result Value Outcome → Option Sequent
 end_given (Ok (proof t)) = Some (concl t)
 end_given wanted = None
 
+-- the closures of the clauses of the problem that a field is given, where it is given one
+abbrev pub closures_given : Result Value Outcome → Option Sequent
+closures_given (Ok (problem p)) = Some (closures (clauses_of p.entries))
+closures_given wanted = None
+
 -- The end sequent of the proof that an operation asks for, over what earlier jobs hold: that of the last step; the image of the end
--- sequent of the proof that is named. The others ask for no proof.
+-- sequent of the proof that is named; that end sequent itself; the closures of the clauses of the problem that is named, on the left. The
+-- others ask for no proof.
 abbrev pub asked : Lookup → Op → Option Sequent
 asked lookup (Lk steps) = Some (last_end steps)
 asked lookup (Subst of m) = option_map (image_sequent (fin.get m)) (end_given (given lookup is_proof of))
+asked lookup (Cutelim of n) = end_given (given lookup is_proof of)
+asked lookup (Resolution of steps) = closures_given (given lookup is_problem of)
 asked lookup op = None
 
 -- the tree is a valid proof of the sequent
 pub record IsProofOf (t : Tree) (s : Sequent) : Type 0 where
   pub valid : IsValid t
   pub ends : concl t ≡ s
+
+-- an elimination of cuts asks for a tree without cuts
+abbrev pub IsCutFreeFor : Op → Tree → Type 0
+IsCutFreeFor (Cutelim of n) t = IsCutFree t
+IsCutFreeFor op t = Unit {0}
+
+-- the outcome shows the tree: its end sequent and its counts
+abbrev pub Shows : Outcome → Tree → Type 0
+Shows (Proof summary) t = summary ≡ summary_of t
+Shows (Reduced summary n) t = summary ≡ summary_of t
+Shows outcome t = ⊥
 
 -- the line asks for a proof of a sequent; the tree is such a proof, and the outcome shows it: the sequent and the tree's counts
 pub record IsAsked (lookup : Lookup) (line : List ℕ) (outcome : Outcome) (t : Tree) : Type 0 where
@@ -44,12 +66,15 @@ pub record IsAsked (lookup : Lookup) (line : List ℕ) (outcome : Outcome) (t : 
   pub sequent : Sequent
   pub asks : asked lookup op ≡ Some sequent
   pub right : IsProofOf t sequent
-  pub shows : outcome ≡ Proof (summary_of t)
+  pub cut_free : IsCutFreeFor op t
+  pub shows : Shows outcome t
 
 -- A job after earlier ones: a proof that its line comes to is one that the line asks for, and a reply that shows a proof shows that one.
 pub record AnswersAsked (earlier : List Past) (job : Past) : Type 0 where
   pub held : (outcome : Outcome) (t : Tree) → run_line (held_of earlier) job.line ≡ done outcome (proof t) → IsAsked (held_of earlier) job.line outcome t
   pub shown : (summary : Summary) → outcome_of earlier job ≡ Proof summary → (t : Tree) × (run_line (held_of earlier) job.line ≡ done (Proof summary) (proof t))
+  pub shown_reduced : (summary : Summary) (n : ℕ) → outcome_of earlier job ≡ Reduced summary n
+      → (t : Tree) × (run_line (held_of earlier) job.line ≡ done (Reduced summary n) (proof t))
 
 -- that of each of these jobs, after those before it
 abbrev pub AreProofs : List Past → Type 0
@@ -59,3 +84,7 @@ AreProofs (job ∷ earlier) = AnswersAsked earlier job × AreProofs earlier
 -- each proof that a name stands for is valid
 abbrev pub HoldsProofs : Lookup → Type 0
 HoldsProofs lookup = (q : List ℕ) (t : Tree) → lookup q ≡ Some (proof t) → IsValid t
+
+-- each problem that a name stands for is such as is read
+abbrev pub HoldsProblems : Lookup → Type 0
+HoldsProblems lookup = (q : List ℕ) (p : Problem) → lookup q ≡ Some (problem p) → IsReadProblem p

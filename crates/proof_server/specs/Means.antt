@@ -4,7 +4,8 @@ use Rattle.std.specs.BTreeMap.{get}
 use Rattle.fol.specs.Order.{text_cmp}
 use Rattle.proof_graph.specs.declared.graph.Graph.{Graph}
 use Rattle.proof_graph.specs.Graphs.{IsOf}
-use Rattle.proof_subst.specs.Benches.{graph_of, IsBenchPassOf}
+use Rattle.proof_subst.specs.Benches.{graph_of}
+use Rattle.cut_elim.specs.Desks.{bench_of, IsDeskPassOf}
 use Rattle.tptp_problem.specs.declared.problems.Problem.{Problem}
 use Rattle.job_lang.specs.declared.replies.Outcome.{Outcome}
 use Rattle.job_lang.specs.declared.replies.Outcome.TheVariants.{UnknownName, Kind}
@@ -44,11 +45,11 @@ Knows g names earlier = (q : List ℕ) → Matches g (get text_cmp names.held q)
 
 -- the graph that the proofs of a store share
 abbrev pub graph_in : Store → Graph
-graph_in store = graph_of store.bench
+graph_in store = graph_of (bench_of store.desk)
 
 -- the store stands behind these jobs
 pub record IsStore (store : Store) (earlier : List Past) : Type 0 where
-  pub pass : IsBenchPassOf store.bench store.pass
+  pub pass : IsDeskPassOf store.desk store.pass
   pub known : Knows (graph_in store) store.names earlier
 
 -- it stands behind some jobs

@@ -1,34 +1,44 @@
 //! Running operations over the proofs of a session.
-ghost use Rattle.std.specs.Prelude.{◌≡◌, [], ℕ, List, IfOk};
+ghost use Rattle.std.specs.Prelude.{◌≡◌, ◌<◌, [], ℕ, List, IfOk};
 ghost use Rattle.std.specs.FinMap as fin;
-ghost use Rattle.std.specs.List.{All};
+ghost use Rattle.std.specs.List.{All, list_all};
 ghost use Rattle.substitution.specs.Image.{IsFormedMap};
 ghost use Rattle.lk_rules.specs.Rules.{IsFormedRule};
+ghost use Rattle.refutations.specs.Clauses.{IsClauseOf};
+ghost use Rattle.refutations.specs.Refutations.{refutation, AreFormedSteps};
+ghost use Rattle.tptp_problem.specs.ProblemClauses.{IsReadProblem};
 ghost use Rattle.lk_check.specs.Admission.{admission};
 ghost use Rattle.proof_graph.specs.Graphs.{IsOf};
 ghost use Rattle.proof_subst.specs.Benches.{graph_of, IsBenchPassOf};
+ghost use Rattle.cut_elim.specs.Desks.{bench_of, IsDeskPassOf};
 ghost use Rattle.proof_server.specs.Jobs.{Past};
 ghost use Rattle.proof_server.specs.Values.{Value, proof as proof_value, problem as problem_value, done};
-ghost use Rattle.proof_server.specs.Operations.{summary_of, shown as shown_of, admits, shows, measures, substitutes, proves as proves_of, on_proof, run as run_of};
+ghost use Rattle.proof_server.specs.Operations.{summary_of, shown as shown_of, admits, shows, measures, substitutes, eliminates, has_closure as has_closure_of, refutation_shown as refutation_shown_of, refuted, refutes_clauses, refutes, proves as proves_of, on_proof, on_problem, run as run_of};
 ghost use Rattle.std.specs.Prelude.{Result, length};
 ghost use Rattle.job_lang.specs.declared.replies.Outcome.{Outcome as OutcomeValue};
-ghost use Rattle.job_lang.specs.declared.replies.Outcome.TheVariants.{Entries, Proof as ProofOutcome};
+ghost use Rattle.job_lang.specs.declared.replies.Outcome.TheVariants.{Entries, Proof as ProofOutcome, Reduced as ReducedOutcome};
 ghost use Rattle.proof_server.specs.Naming.{given, is_proof, is_problem};
 ghost use Rattle.proof_server.specs.Answers.{held_of};
 ghost use Rattle.proof_server.specs.Means.{Answers, found_of, IsProofGiven, IsProblemGiven, graph_in, IsStore, IsSomeStore, IsMeasure, Finds};
 
 use crate::held::{Given, Held};
 use crate::names::Names;
-use job_lang::{Op, Outcome, StepShown, Steps, Summary, Utf8Text};
+use cut_contract::Steps as Contractions;
+use cut_elim::{Desk, DeskPass, ElimFault, Reduced, eliminate};
+use job_lang::{Op, Outcome, RefutationShown, StepShown, Steps, Summary, Utf8Text};
 use lk_check::{AdmitFault, StepCause, admit};
 use lk_rules::Step;
 use proof_graph::{Graph, ProofRef};
 use proof_steps::{cuts, nodes, quants, size, steps};
 use proof_subst::{Bench, BenchPass, substitute};
+use refutations::{Clause, ResCause, ResStep};
+use resolution_import::{ImportFault, import};
 use std::alloc::{AllocError, Global};
+use std::marker::Brand;
 use std::sync::Wait;
+use std::sync::ledger::{Blank, Ledger};
 use substitution::Subst;
-use tptp_problem::Problem;
+use tptp_problem::{Problem, clauses};
 
 /// What running an operation came to.
 #[derive(Drop)]
@@ -41,11 +51,11 @@ pub enum Ran {
     Done(Outcome, Held),
 }
 
-/// The proofs of a session: the bench with the graph that they share, and the names of jobs with what these hold.
+/// The proofs of a session: the desk with the graph that they share, and the names of jobs with what these hold.
 #[derive(Drop)]
 pub struct Store {
-    pub bench: Bench,
-    pub pass: BenchPass,
+    pub desk: Desk,
+    pub pass: DeskPass,
     pub names: Names,
 }
 
@@ -125,6 +135,133 @@ fn substitute_in<R: Wait>(
         Ok(image) => hold_proof(bench.graph(), alloc, image),
         Err(_) => Ran::Lacked,
     }
+}
+
+// What a proof without cuts, or a budget that was too small, comes to.
+fn hold_reduced(graph: &Graph, alloc: Global, reduced: Reduced) -> Ran
+    requires { IsOf graph.now reduced.proof }
+    ensures { Answers graph.now result (done (ReducedOutcome (summary_of reduced.proof.tree) reduced.reductions) (proof_value reduced.proof.tree)) }
+{
+    let Reduced { proof, reductions } = reduced;
+    match summary(graph, alloc, &proof) {
+        Ok(summary) => Ran::Done(Outcome::Reduced(summary, reductions), Held::Proof(proof)),
+        Err(_) => Ran::Lacked,
+    }
+}
+
+// A proof whose cuts are eliminated, with a ledger for the contractions.
+#[tactic(auto, using(crate::proofs::Reduced::elimination_gives, crate::proofs::Reduced::elimination_refuses, crate::proofs::Reduced::reduced_lacks))]
+fn eliminate_counted<R: Wait, L: Ledger>(
+    desk: &Desk,
+    rt: &R,
+    alloc: Global,
+    pass: &mut DeskPass,
+    proof: &ProofRef,
+    budget: u64,
+    ledger: Blank,
+) -> Ran
+    requires pass { IsDeskPassOf desk.now pass.old }
+    requires of { IsOf (graph_of (bench_of desk.now)) proof.now }
+    requires name { ledger.name ≡ L.name }
+    requires parts { ledger.parts ≡ L.parts }
+    requires one_part { 0 < ledger.parts }
+    ensures ran { Answers (graph_of (bench_of desk.now)) result (eliminates budget proof.now.tree) }
+    ensures pass { IsDeskPassOf desk.now pass.new }
+{
+    let mut contractions = Contractions::<L>::new(ledger);
+    match eliminate(rt, alloc, desk, pass, proof, budget, &mut contractions) {
+        Ok(reduced) => hold_reduced(desk.bench().graph(), alloc, reduced),
+        Err(ElimFault::Budget) => Ran::Done(Outcome::Budget, Held::Refused),
+        Err(ElimFault::Memory) => Ran::Lacked,
+    }
+}
+
+// A proof whose cuts are eliminated.
+fn eliminate_in<R: Wait>(
+    desk: &Desk,
+    rt: &R,
+    alloc: Global,
+    pass: &mut DeskPass,
+    proof: &ProofRef,
+    budget: u64,
+) -> Ran
+    requires pass { IsDeskPassOf desk.now pass.old }
+    requires of { IsOf (graph_of (bench_of desk.now)) proof.now }
+    ensures ran { Answers (graph_of (bench_of desk.now)) result (eliminates budget proof.now.tree) }
+    ensures pass { IsDeskPassOf desk.now pass.new }
+{
+    eliminate_counted::<R, Brand>(desk, rt, alloc, pass, proof, budget, Blank::new(1))
+}
+
+fn refutation_shown(cause: ResCause) -> RefutationShown
+    ensures { result ≡ refutation_shown_of cause }
+{
+    match cause {
+        ResCause::Reference => RefutationShown::Reference,
+        ResCause::AtomMissing => RefutationShown::AtomMissing,
+        ResCause::NotEmpty => RefutationShown::NotEmpty,
+    }
+}
+
+// Whether each clause has few enough variables for a closure.
+fn have_closures(clauses: &[Clause]) -> bool
+    ensures { result ≡ list_all has_closure_of clauses.now }
+{
+    clauses.iter().all(|clause| (clause.vars.as_slice().len() as u64) < 4_294_967_296)
+}
+
+// The proof that a refutation of these clauses stands for.
+#[tactic(auto, using(crate::proofs::Refuted::import_gives, crate::proofs::Refuted::import_refuses, crate::proofs::Refuted::refuted_lacks))]
+fn import_in<R: Wait>(
+    bench: &Bench,
+    rt: &R,
+    alloc: Global,
+    pass: &mut BenchPass,
+    clauses: &[Clause],
+    steps: &[ResStep],
+) -> Ran
+    requires pass { IsBenchPassOf bench.now pass.old }
+    requires clauses { All IsClauseOf clauses.now }
+    requires steps { AreFormedSteps steps.now }
+    ensures ran { Answers (graph_of bench.now) result (refuted (refutation clauses.now steps.now)) }
+    ensures pass { IsBenchPassOf bench.now pass.new }
+{
+    match import(rt, alloc, bench, pass, clauses, steps) {
+        Ok(proof) => hold_proof(bench.graph(), alloc, proof),
+        Err(ImportFault::Step { step, cause }) => Ran::Done(
+            Outcome::Refutation {
+                step,
+                cause: refutation_shown(cause),
+            },
+            Held::Refused,
+        ),
+        Err(ImportFault::Memory) => Ran::Lacked,
+    }
+}
+
+// The proof that a refutation of the clauses of a problem stands for.
+#[tactic(auto, using(crate::proofs::Refuted::refutes_lacks, crate::proofs::Refuted::with_closures))]
+fn refute<R: Wait>(
+    bench: &Bench,
+    rt: &R,
+    alloc: Global,
+    pass: &mut BenchPass,
+    problem: &Problem,
+    steps: &[ResStep],
+) -> Ran
+    requires pass { IsBenchPassOf bench.now pass.old }
+    requires problem { IsReadProblem problem.now }
+    requires steps { AreFormedSteps steps.now }
+    ensures ran { Answers (graph_of bench.now) result (refutes steps.now problem.now) }
+    ensures pass { IsBenchPassOf bench.now pass.new }
+{
+    let Ok(clauses) = clauses(alloc, problem) else {
+        return Ran::Lacked;
+    };
+    if !have_closures(&clauses) {
+        return Ran::Lacked;
+    }
+    import_in(bench, rt, alloc, pass, &clauses, steps)
 }
 
 // A problem, as it is read.
@@ -211,9 +348,9 @@ impl Store {
     pub fn new(alloc: Global) -> Result<Store, AllocError>
         ensures { IfOk result (λ store. IsStore store []) }
     {
-        let (bench, pass) = Bench::new(alloc)?;
+        let (desk, pass) = Desk::new(alloc)?;
         Ok(Store {
-            bench,
+            desk,
             pass,
             names: Names::new(alloc),
         })
@@ -223,7 +360,7 @@ impl Store {
     fn graph(&self) -> &Graph
         ensures { result.now ≡ graph_in self.now }
     {
-        self.bench.graph()
+        self.desk.bench().graph()
     }
 
     // The proof that is named, or what the operation comes to without it.
@@ -240,7 +377,8 @@ impl Store {
     // The problem that is named, or what the operation comes to without it.
     fn named_problem(&self, alloc: Global, of: Utf8Text) -> Result<Result<Problem, Ran>, AllocError>
         requires { IsSomeStore self.now }
-        ensures { (earlier : List Past) → IsStore self.now earlier
+        ensures read { IfOk result (λ found. IfOk found IsReadProblem) }
+        ensures found { (earlier : List Past) → IsStore self.now earlier
             → IfOk result (λ found. Finds IsProblemGiven found (given (held_of earlier) is_problem of)) }
     {
         let given = self.names.given_problem(alloc, of.as_str().as_bytes())?;
@@ -288,7 +426,62 @@ impl Store {
         ensures kept { (earlier : List Past) → IsStore self.old earlier → IsStore self.new earlier }
     {
         match self.named_proof(alloc, of)? {
-            Ok(proof) => Ok(substitute_in(&self.bench, rt, alloc, &mut self.pass, &proof, map)),
+            Ok(proof) => Ok(substitute_in(
+                self.desk.bench(),
+                rt,
+                alloc,
+                Desk::bench_pass(&mut self.pass),
+                &proof,
+                map,
+            )),
+            Err(ran) => Ok(ran),
+        }
+    }
+
+    // The proof that is named, with its cuts eliminated.
+    #[tactic(auto, using(crate::proofs::Found::with_proof, crate::proofs::Found::without_proof))]
+    fn eliminate_named<R: Wait>(
+        &mut self,
+        rt: &R,
+        alloc: Global,
+        of: Utf8Text,
+        budget: u64,
+    ) -> Result<Ran, AllocError>
+        requires { IsSomeStore self.old }
+        ensures ran { (earlier : List Past) → IsStore self.old earlier
+            → IfOk result (λ ran. Answers (graph_in self.new) ran (on_proof (eliminates budget) (given (held_of earlier) is_proof of))) }
+        ensures kept { (earlier : List Past) → IsStore self.old earlier → IsStore self.new earlier }
+    {
+        match self.named_proof(alloc, of)? {
+            Ok(proof) => Ok(eliminate_in(&self.desk, rt, alloc, &mut self.pass, &proof, budget)),
+            Err(ran) => Ok(ran),
+        }
+    }
+
+    // The proof that a refutation of the clauses of the problem that is named stands for.
+    #[tactic(auto, using(crate::proofs::Found::with_problem, crate::proofs::Found::without_problem))]
+    fn refute_named<R: Wait>(
+        &mut self,
+        rt: &R,
+        alloc: Global,
+        of: Utf8Text,
+        steps: &[ResStep],
+    ) -> Result<Ran, AllocError>
+        requires store { IsSomeStore self.old }
+        requires steps { AreFormedSteps steps.now }
+        ensures ran { (earlier : List Past) → IsStore self.old earlier
+            → IfOk result (λ ran. Answers (graph_in self.new) ran (on_problem (refutes steps.now) (given (held_of earlier) is_problem of))) }
+        ensures kept { (earlier : List Past) → IsStore self.old earlier → IsStore self.new earlier }
+    {
+        match self.named_problem(alloc, of)? {
+            Ok(problem) => Ok(refute(
+                self.desk.bench(),
+                rt,
+                alloc,
+                Desk::bench_pass(&mut self.pass),
+                &problem,
+                steps,
+            )),
             Err(ran) => Ok(ran),
         }
     }
@@ -319,15 +512,19 @@ impl Store {
     {
         match op {
             Op::Lk { steps } => Ok(admit_steps(
-                &self.bench,
+                self.desk.bench(),
                 rt,
                 alloc,
-                &mut self.pass,
+                Desk::bench_pass(&mut self.pass),
                 steps.as_slice(),
             )),
             Op::Show { of } => self.show_named(alloc, of),
             Op::Measure { proof } => self.measure_named(alloc, proof),
             Op::Subst { proof, map } => self.substitute_named(rt, alloc, proof, map.as_subst()),
+            Op::Cutelim { proof, budget } => self.eliminate_named(rt, alloc, proof, budget.get()),
+            Op::Resolution { problem, steps } => {
+                self.refute_named(rt, alloc, problem, steps.as_slice())
+            }
             Op::Proves { proof, problem } => self.prove_named(alloc, proof, problem),
             Op::Problem { problem } => Ok(hold(alloc, problem)),
         }

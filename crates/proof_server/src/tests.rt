@@ -7,9 +7,11 @@ use std::process::Abort;
 use std::sync::Wait;
 use std::test::Fail;
 
+mod eliminations;
 mod ends;
 mod lines;
 mod problems;
+mod resolutions;
 mod substitutions;
 
 /// The axiom of p as a step.

@@ -1,0 +1,19 @@
+//! Contraction of one cut whose premises have no cut, after Gentzen (1935), over references to proofs.
+#![tactic(auto)]
+
+mod above;
+mod cases;
+mod contraction;
+mod cut;
+mod inferences;
+mod moved;
+mod parts;
+mod steps;
+
+pub use contraction::{contract, contract_over};
+pub use steps::Steps;
+
+#[cfg(test)]
+mod samples;
+#[cfg(test)]
+mod tests;

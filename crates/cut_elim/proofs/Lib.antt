@@ -1,0 +1,4 @@
+pub mod CutSteps
+pub mod Several
+pub mod SameEnds
+pub mod Within

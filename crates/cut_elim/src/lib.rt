@@ -1,0 +1,18 @@
+//! Elimination of cuts, after Gentzen (1935), over shared proofs: the first cut in post-order gives way to its contraction, until no cut
+//! is left.
+#![tactic(auto)]
+
+mod desk;
+mod elimination;
+mod fault;
+mod table;
+
+pub use desk::{Desk, DeskPass};
+pub use elimination::eliminate;
+pub use fault::ElimFault;
+pub use table::Reduced;
+
+#[cfg(test)]
+mod samples;
+#[cfg(test)]
+mod tests;
