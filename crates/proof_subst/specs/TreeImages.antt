@@ -9,8 +9,6 @@ use Rattle.proof_trees.specs.Substitution.{sub}
 use Rattle.proof_graph.specs.declared.graph.Graph.{Graph}
 use Rattle.proof_graph.specs.Graphs.{IsOf}
 use Rattle.proof_subst.specs.declared.tree_images.Image.{Image}
-use Rattle.proof_subst.specs.declared.tree_images.Tables.{Tables}
-use Rattle.proof_subst.specs.TreeVariables.{AreEntries}
 
 -- keys are ordered by the number of the proof, and then by the map
 abbrev pub key_cmp : ℕ × Map → ℕ × Map → Ordering
@@ -25,8 +23,3 @@ pub record IsImage (g : Graph) (m : Map) (e : Image) : Type 0 where
 -- each entry of a table has the tree of its proof under the map of its key
 abbrev pub AreImages : Graph → BTreeMap (ℕ × Map) Image → Type 0
 AreImages g table = (q : ℕ × Map) → IfSome (ordered.get key_cmp table q) (IsImage g q.1)
-
--- the tables are right
-pub record AreTables (g : Graph) (t : Tables) : Type 0 where
-  pub vars : AreEntries g t.vars
-  pub images : AreImages g t.images

@@ -4,8 +4,10 @@ ghost use Rattle.std.specs.Borrow.{sem};
 ghost use Rattle.proof_subst.specs.Benches.{graph_of, pass_in, IsBenchPassOf};
 ghost use Rattle.proof_subst.specs.Lending.{LendsGraphPass};
 
+use crate::tree_variables::TreeVars;
 use proof_graph::{Graph, GraphPass};
 use std::alloc::{AllocError, Global};
+use std::collections::BTreeMap;
 
 /// What the transformations of proofs work on: the graph of checked proofs.
 #[derive(Drop)]
@@ -13,10 +15,11 @@ pub struct Bench {
     graph: Graph,
 }
 
-/// What is needed to put proofs into a bench.
+/// What is needed to put proofs into a bench. It keeps the free variables of the trees that maps were carried through.
 #[derive(Drop)]
 pub struct BenchPass {
-    graph: GraphPass,
+    pub(crate) graph: GraphPass,
+    pub(crate) vars: BTreeMap<u64, TreeVars>,
 }
 
 impl Bench {
@@ -25,7 +28,8 @@ impl Bench {
         ensures { IfOk result (λ made. IsBenchPassOf made.0 made.1) }
     {
         let (graph, pass) = Graph::new(alloc)?;
-        Ok((Bench { graph }, BenchPass { graph: pass }))
+        let vars = BTreeMap::new(alloc);
+        Ok((Bench { graph }, BenchPass { graph: pass, vars }))
     }
 
     /// The graph.

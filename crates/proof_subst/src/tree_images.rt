@@ -11,15 +11,14 @@ ghost use Rattle.proof_trees.specs.Trees.{concl, IsValid};
 ghost use Rattle.proof_trees.specs.FreeVariables.{is_free_in_tree};
 ghost use Rattle.proof_trees.specs.Substitution.{sub, sub_all};
 ghost use Rattle.proof_graph.specs.References.{trees_of};
-ghost use Rattle.proof_graph.specs.Graphs.{IsOf, IsPassOf, history};
+ghost use Rattle.proof_graph.specs.Graphs.{IsOf, history};
 ghost use Rattle.proof_subst.specs.Benches.{graph_of, pass_in, IsBenchPassOf};
-ghost use Rattle.proof_subst.specs.TreeVariables.{AreEntries};
-ghost use Rattle.proof_subst.specs.TreeImages.{AreImages, AreTables};
+ghost use Rattle.proof_subst.specs.TreeImages.{AreImages};
 
 use crate::bench::{Bench, BenchPass};
 use crate::images::{premise_map, rule_image};
-use crate::tree_variables::{TreeVars, vars_in};
-use proof_graph::{Graph, GraphPass, ProofRef};
+use crate::tree_variables::vars_in;
+use proof_graph::{Graph, ProofRef};
 use std::alloc::{AllocError, Global};
 use std::collections::BTreeMap;
 use std::sync::Wait;
@@ -30,14 +29,6 @@ use substitution::Subst;
 pub(crate) struct Image {
     pub proof: ProofRef,
     pub image: ProofRef,
-}
-
-/// What is known while a map is carried through a proof: the free variables of trees, and trees under the maps that they got, by the
-/// number of the proof and the map.
-#[derive(Drop)]
-pub(crate) struct Tables {
-    pub vars: BTreeMap<u64, TreeVars>,
-    pub images: BTreeMap<(u64, Subst), Image>,
 }
 
 // The tree under the map, where the table has it.
@@ -86,30 +77,30 @@ fn note(
 fn image_in<R: Wait>(
     rt: &R,
     alloc: Global,
-    graph: &Graph,
-    pass: &mut GraphPass,
-    tables: &mut Tables,
+    bench: &Bench,
+    pass: &mut BenchPass,
+    images: &mut BTreeMap<(u64, Subst), Image>,
     proof: &ProofRef,
     map: &Subst,
 ) -> Result<ProofRef, AllocError>
-    requires pass_of { IsPassOf graph.now pass.old }
-    requires of { IsOf graph.now proof.now }
+    requires pass_of { IsBenchPassOf bench.now pass.old }
+    requires of { IsOf (graph_of bench.now) proof.now }
     requires map { IsFormedMap (fin.get map.now) }
-    requires tables { AreTables graph.now tables.old }
+    requires images { AreImages (graph_of bench.now) images.old }
     ensures tree { IfOk result (λ r. r.tree ≡ sub proof.now.tree map.now) }
     ensures kept { ((v : Variable) → is_free_in_tree v proof.now.tree ≡ true → image_term (fin.get map.now) (free v) ≡ free v) → IfOk result (λ r. r ≡ proof.now) }
-    ensures of { IfOk result (IsOf graph.now) }
-    ensures tables { AreTables graph.now tables.new }
-    ensures grown { IsPrefix (history pass.old) (history pass.new) }
-    ensures pass_stays { IsPassOf graph.now pass.new }
+    ensures of { IfOk result (IsOf (graph_of bench.now)) }
+    ensures images { AreImages (graph_of bench.now) images.new }
+    ensures grown { IsPrefix (history (pass_in pass.old)) (history (pass_in pass.new)) }
+    ensures pass_stays { IsBenchPassOf bench.now pass.new }
 {
-    let vars = vars_in(graph, alloc, &mut tables.vars, proof)?;
+    let vars = vars_in(bench.graph(), alloc, &mut pass.vars, proof)?;
     let needed = map.restrict(alloc, &vars)?;
     if needed.is_empty() {
         proof.known();
         return proof.keep();
     }
-    image_once(rt, alloc, graph, pass, tables, proof, needed)
+    image_once(rt, alloc, bench, pass, images, proof, needed)
 }
 
 // The tree under the map, which is made where the table hasn't it.
@@ -117,28 +108,28 @@ fn image_in<R: Wait>(
 fn image_once<R: Wait>(
     rt: &R,
     alloc: Global,
-    graph: &Graph,
-    pass: &mut GraphPass,
-    tables: &mut Tables,
+    bench: &Bench,
+    pass: &mut BenchPass,
+    images: &mut BTreeMap<(u64, Subst), Image>,
     proof: &ProofRef,
     map: Subst,
 ) -> Result<ProofRef, AllocError>
-    requires pass_of { IsPassOf graph.now pass.old }
-    requires of { IsOf graph.now proof.now }
+    requires pass_of { IsBenchPassOf bench.now pass.old }
+    requires of { IsOf (graph_of bench.now) proof.now }
     requires map { IsFormedMap (fin.get map) }
-    requires tables { AreTables graph.now tables.old }
+    requires images { AreImages (graph_of bench.now) images.old }
     ensures tree { IfOk result (λ r. r.tree ≡ sub proof.now.tree map) }
-    ensures of { IfOk result (IsOf graph.now) }
-    ensures tables { AreTables graph.now tables.new }
-    ensures grown { IsPrefix (history pass.old) (history pass.new) }
-    ensures pass_stays { IsPassOf graph.now pass.new }
+    ensures of { IfOk result (IsOf (graph_of bench.now)) }
+    ensures images { AreImages (graph_of bench.now) images.new }
+    ensures grown { IsPrefix (history (pass_in pass.old)) (history (pass_in pass.new)) }
+    ensures pass_stays { IsBenchPassOf bench.now pass.new }
 {
     let key = (proof.number(), map);
-    if let Some(image) = look_up(graph, &tables.images, proof, &key) {
+    if let Some(image) = look_up(bench.graph(), images, proof, &key) {
         return image.keep();
     }
-    let image = image_over(rt, alloc, graph, pass, tables, proof, &key.1)?;
-    note(graph, &mut tables.images, proof, key, &image)?;
+    let image = image_over(rt, alloc, bench, pass, images, proof, &key.1)?;
+    note(bench.graph(), images, proof, key, &image)?;
     Ok(image)
 }
 
@@ -147,29 +138,31 @@ fn image_once<R: Wait>(
 fn image_over<R: Wait>(
     rt: &R,
     alloc: Global,
-    graph: &Graph,
-    pass: &mut GraphPass,
-    tables: &mut Tables,
+    bench: &Bench,
+    pass: &mut BenchPass,
+    images: &mut BTreeMap<(u64, Subst), Image>,
     proof: &ProofRef,
     map: &Subst,
 ) -> Result<ProofRef, AllocError>
-    requires pass_of { IsPassOf graph.now pass.old }
-    requires of { IsOf graph.now proof.now }
+    requires pass_of { IsBenchPassOf bench.now pass.old }
+    requires of { IsOf (graph_of bench.now) proof.now }
     requires map { IsFormedMap (fin.get map.now) }
-    requires tables { AreTables graph.now tables.old }
+    requires images { AreImages (graph_of bench.now) images.old }
     ensures tree { IfOk result (λ r. r.tree ≡ sub proof.now.tree map.now) }
-    ensures of { IfOk result (IsOf graph.now) }
-    ensures tables { AreTables graph.now tables.new }
-    ensures grown { IsPrefix (history pass.old) (history pass.new) }
-    ensures pass_stays { IsPassOf graph.now pass.new }
+    ensures of { IfOk result (IsOf (graph_of bench.now)) }
+    ensures images { AreImages (graph_of bench.now) images.new }
+    ensures grown { IsPrefix (history (pass_in pass.old)) (history (pass_in pass.new)) }
+    ensures pass_stays { IsBenchPassOf bench.now pass.new }
 {
     proof.known();
-    let root = graph.get(proof);
+    let root = bench.graph().get(proof);
     let end = root.end.image(alloc, map)?;
     let rule = rule_image(alloc, map, &root.rule, &end)?;
     let inner = premise_map(alloc, map, &root.rule, &end)?;
-    let premises = images_below(rt, alloc, graph, pass, tables, proof.premises(), &inner)?;
-    graph.intern(rt, alloc, pass, rule, end, &premises)
+    let premises = images_below(rt, alloc, bench, pass, images, proof.premises(), &inner)?;
+    bench
+        .graph()
+        .intern(rt, alloc, &mut pass.graph, rule, end, &premises)
 }
 
 // The trees of the premises under the map.
@@ -177,28 +170,28 @@ fn image_over<R: Wait>(
 fn images_below<R: Wait>(
     rt: &R,
     alloc: Global,
-    graph: &Graph,
-    pass: &mut GraphPass,
-    tables: &mut Tables,
+    bench: &Bench,
+    pass: &mut BenchPass,
+    images: &mut BTreeMap<(u64, Subst), Image>,
     premises: &[ProofRef],
     map: &Subst,
 ) -> Result<Vec<ProofRef>, AllocError>
-    requires pass_of { IsPassOf graph.now pass.old }
-    requires of { All (IsOf graph.now) premises.now }
+    requires pass_of { IsBenchPassOf bench.now pass.old }
+    requires of { All (IsOf (graph_of bench.now)) premises.now }
     requires map { IsFormedMap (fin.get map.now) }
-    requires tables { AreTables graph.now tables.old }
+    requires images { AreImages (graph_of bench.now) images.old }
     ensures trees { IfOk result (λ images. trees_of images.items ≡ sub_all (trees_of premises.now) map.now) }
-    ensures of { IfOk result (λ images. All (IsOf graph.now) images.items) }
-    ensures tables { AreTables graph.now tables.new }
-    ensures grown { IsPrefix (history pass.old) (history pass.new) }
-    ensures pass_stays { IsPassOf graph.now pass.new }
+    ensures of { IfOk result (λ images. All (IsOf (graph_of bench.now)) images.items) }
+    ensures images { AreImages (graph_of bench.now) images.new }
+    ensures grown { IsPrefix (history (pass_in pass.old)) (history (pass_in pass.new)) }
+    ensures pass_stays { IsBenchPassOf bench.now pass.new }
 {
-    let mut images = Vec::with_capacity(alloc, premises.len())?;
+    let mut made = Vec::with_capacity(alloc, premises.len())?;
     for premise in premises {
-        let image = image_in(rt, alloc, graph, pass, tables, premise, map)?;
-        images.push(image)?;
+        let image = image_in(rt, alloc, bench, pass, images, premise, map)?;
+        made.push(image)?;
     }
-    Ok(images)
+    Ok(made)
 }
 
 /// The tree of a proof under a map from variables to well-formed terms: in each conclusion, and in what the rules name, the variables that
@@ -208,7 +201,8 @@ fn images_below<R: Wait>(
 ///
 /// A proof of whose free variables the map changes none stays the very node that it is, and so does each such subtree. Any other distinct
 /// subtree is done once for each choice of the bindings that it needs, with O(log n) comparisons of keys among n such tasks, beside the
-/// work on formulas and on sets of variables.
+/// work on formulas and on sets of variables. The pass keeps the free variables of each subtree that was looked at, so a map that leaves a
+/// proof as it is costs one look-up where an earlier map has been there.
 pub fn substitute<R: Wait>(
     rt: &R,
     alloc: Global,
@@ -229,18 +223,6 @@ pub fn substitute<R: Wait>(
     ensures pass_stays { IsBenchPassOf bench.now pass.new }
 {
     proof.known();
-    let mut tables = Tables {
-        vars: BTreeMap::new(alloc),
-        images: BTreeMap::new(alloc),
-    };
-    let graph_pass = Bench::graph_pass(pass);
-    image_in(
-        rt,
-        alloc,
-        bench.graph(),
-        graph_pass,
-        &mut tables,
-        proof,
-        map,
-    )
+    let mut images = BTreeMap::new(alloc);
+    image_in(rt, alloc, bench, pass, &mut images, proof, map)
 }

@@ -10,6 +10,7 @@ use Rattle.proof_graph.specs.declared.node.Node.{Node}
 use Rattle.proof_graph.specs.References.{Reference, trees_of}
 use Rattle.proof_graph.specs.Graphs.{IsOf}
 use Rattle.proof_graph.proofs.Prefixes.{prefix_trans}
+use Rattle.proof_subst.specs.Benches.{graph_of}
 use Rattle.proof_subst.proofs.Premises.{below_smaller, premise_smaller, premise_of, one_more}
 use Rattle.proof_subst.proofs.Subtrees.{needed_part, nothing_needed, premises_formed, image_made, image_right, same_images, images_more}
 use Rattle.proof_subst.proofs.tree_images.+image.Goals as goal
@@ -49,7 +50,7 @@ image_over-images_below-requires g t c κs within =
             (
               premises_formed p.tree c.args.map.now root.rule root.end c.in_ok-end.end (ap (λ (n : Node). n.rule) c.get-root.ensures) (ap (λ (n : Node). n.end) c.get-root.ensures) c.in_ok-end.ensures
                   c.in_ok-inner.inner c.in_ok-inner.ensures c.known.ensures.valid c.requires.map,
-              c.requires.tables,
+              c.requires.images,
             ),
           ),
         ),
@@ -84,7 +85,7 @@ images_below-image_in-requires g t c κs within =
         within,
         (
           c.loop-premise.invariant.pass,
-          (premise_of c.args.graph.now c.args.premises.now c.loop-premise.premise-index c.premise-item.result c.requires.of c.loop-premise-test.true c.premise-item.is, (c.requires.map, c.loop-premise.invariant.tables)),
+          (premise_of (graph_of c.args.bench.now) c.args.premises.now c.loop-premise.premise-index c.premise-item.result c.requires.of c.loop-premise-test.true c.premise-item.is, (c.requires.map, c.loop-premise.invariant.images)),
         ),
       ),
     )
@@ -92,10 +93,10 @@ images_below-image_in-requires g t c κs within =
 pub images_below-loop-premise-preserved : goal.images_below-loop-premise-preserved
 images_below-loop-premise-preserved g t c = record {
   trees = ap trees_of c.in_ok-push.ensures.items
-      ∙ images_more c.args.map.now c.loop-premise.images.items _ _ c.in_ok-image.image c.premise-item.result c.loop-premise.invariant.trees c.in_ok-image.ensures.tree
+      ∙ images_more c.args.map.now c.loop-premise.made.items _ _ c.in_ok-image.image c.premise-item.result c.loop-premise.invariant.trees c.in_ok-image.ensures.tree
       (one_more c.args.premises.now c.loop-premise.premise-index c.premise-item.result c.loop-premise-test.true c.premise-item.is);
-  of = rw c.in_ok-push.ensures.items (All-push (IsOf c.args.graph.now) c.loop-premise.images.items c.in_ok-image.image c.loop-premise.invariant.of c.in_ok-image.ensures.of);
-  tables = c.in_ok-image.ensures.tables;
+  of = rw c.in_ok-push.ensures.items (All-push (IsOf (graph_of c.args.bench.now)) c.loop-premise.made.items c.in_ok-image.image c.loop-premise.invariant.of c.in_ok-image.ensures.of);
+  images = c.in_ok-image.ensures.images;
   grown = prefix_trans _ _ _ c.loop-premise.invariant.grown c.in_ok-image.ensures.grown;
   pass = c.in_ok-image.ensures.pass_stays;
 }

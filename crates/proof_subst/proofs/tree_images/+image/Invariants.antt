@@ -5,8 +5,9 @@ use mathlib.Core.List.{IsPrefix}
 use Rattle.proof_trees.specs.Substitution.{sub_all}
 use Rattle.proof_graph.specs.Shown.{nodes, nodes_all}
 use Rattle.proof_graph.specs.References.{trees_of}
-use Rattle.proof_graph.specs.Graphs.{IsOf, IsPassOf, history}
-use Rattle.proof_subst.specs.TreeImages.{AreTables}
+use Rattle.proof_graph.specs.Graphs.{IsOf, history}
+use Rattle.proof_subst.specs.Benches.{graph_of, pass_in, IsBenchPassOf}
+use Rattle.proof_subst.specs.TreeImages.{AreImages}
 use Rattle.proof_subst.proofs.tree_images.+image.Given as goal
 
 abbrev pub decreases-image_in : goal.decreases-image_in
@@ -23,9 +24,9 @@ decreases-images_below g l = 4 * nodes_all (trees_of l.premises.now) + 3
 
 abbrev pub invariant-images_below-loop-premise : goal.invariant-images_below-loop-premise
 invariant-images_below-loop-premise g l = record {
-  trees : trees_of l.images.items ≡ sub_all (trees_of (take l.premise-index l.premises)) l.map;
-  of : All (IsOf l.graph) l.images.items;
-  tables : AreTables l.graph l.tables;
-  grown : IsPrefix (history l.initial.pass) (history l.pass);
-  pass : IsPassOf l.graph l.pass;
+  trees : trees_of l.made.items ≡ sub_all (trees_of (take l.premise-index l.premises)) l.map;
+  of : All (IsOf (graph_of l.bench)) l.made.items;
+  images : AreImages (graph_of l.bench) l.images;
+  grown : IsPrefix (history (pass_in l.initial.pass)) (history (pass_in l.pass));
+  pass : IsBenchPassOf l.bench l.pass;
 }
