@@ -1,5 +1,5 @@
 -- Each proof that a job comes to is a valid proof of the sequent that the job asks for.
-use Rattle.std.proofs.Common.{◌≡◌, ℕ, Bool, true, false, cond, List, [], ◌∷◌, ◌++◌, length, drop_of_length-le, append-nil, Option, Some, None, Result, Ok, Err, refl, ap, subst, ◌∙◌, arith}
+use Rattle.std.proofs.Common.{◌≡◌, ℕ, Bool, true, false, cond, List, [], ◌∷◌, ◌++◌, length, drop_of_length-le, append-nil, Option, Some, None, Result, Ok, Err, refl, sym, ap, subst, ◌∙◌, arith}
 use Rattle.std.proofs.lemmas.Bool.{ltb-true}
 use Rattle.std.proofs.lemmas.List.Elements.{All-cons, All-head, All-tail}
 use Rattle.std.specs.Prelude.{◌^◌, option_map}
@@ -14,7 +14,8 @@ use Rattle.proof_trees.proofs.Substituted.{concl-sub, sub_valid}
 use Rattle.fol.specs.Formed.{IsFormed}
 use Rattle.elimination_laws.specs.Elimination.{elimination}
 use Rattle.contraction_laws.proofs.Contracted.{con_valid}
-use Rattle.elimination_laws.proofs.Kept.{result_free, result_end, result_valid}
+use Rattle.elimination_laws.proofs.Kept.{result_end, result_valid}
+use Rattle.elimination_laws.proofs.Reached.{least_reached}
 use Rattle.refutations.specs.declared.clause.Clause.{Clause}
 use Rattle.refutations.specs.declared.step.ResStep.{ResStep}
 use Rattle.refutations.specs.declared.step.ResCause.{ResCause}
@@ -41,10 +42,10 @@ use Rattle.job_lang.proofs.FormedReadings.{formed_op}
 use Rattle.proof_server.specs.Jobs.{Past, is_too_long}
 use Rattle.proof_server.specs.Values.{Value, nothing, refused, lacking, proof, problem, Lookup, Run, fault, short, done, concluded}
 use Rattle.proof_server.specs.Naming.{pair_name, given_by, is_proof, is_problem, is_none, given_name, given}
-use Rattle.proof_server.specs.Operations.{admits, on_proof, on_problem, shows, measures, substitutes, reduced, eliminates, has_closure, refuted, refutes, proves, run}
+use Rattle.proof_server.specs.Operations.{summary_of, admits, on_proof, on_problem, shows, measures, substitutes, reduced, eliminates, has_closure, refuted, refutes, proves, run}
 use Rattle.proof_server.specs.Answers.{name_of, is_taken, run_read, run_line, named_value, held_of}
 use Rattle.proof_server.proofs.HeldProblems.{given_read, held_by_some, named_is, holds_problems}
-use Rattle.proof_server.specs.Asked.{end_given, closures_given, IsAsked, AnswersAsked, AreProofs, HoldsProofs, HoldsProblems}
+use Rattle.proof_server.specs.Asked.{end_given, closures_given, IsReached, IsAsked, AnswersAsked, AreProofs, HoldsProofs, HoldsProblems}
 
 -- a proof that a field is given is valid, and no proof is shown where it is refused
 abbrev IsGivenRight : Result Value Outcome → Type 0
@@ -139,7 +140,7 @@ module _ (lookup : Lookup) (line : List ℕ) where
     sequent = last_end steps;
     asks = refl;
     right = record { valid = valid_admission steps t (formed_op line (Lk steps) reads) is; ends = end_of_admission steps t is };
-    cut_free = tt;
+    reached = tt;
     shows = refl;
   }
   lk_right steps (Err admission.Empty) reads is = tt
@@ -154,11 +155,11 @@ module _ (lookup : Lookup) (line : List ℕ) where
     sequent = image_sequent (fin.get m) (concl t);
     asks = ap (λ (wanted : Result Value Outcome). option_map (image_sequent (fin.get m)) (end_given wanted)) is;
     right = record { valid = sub_valid t m (formed_op line (Subst of m) reads) valid; ends = concl-sub t m };
-    cut_free = tt;
+    reached = tt;
     shows = refl;
   }
 
-  -- an elimination asks for a proof without cuts of the end sequent
+  -- an elimination asks for the proof without cuts that is reached, which has the same end sequent
   reduced_right : (of : List ℕ) (n : ℕ) (t : Tree) (r : Option (Tree × ℕ)) → (reads_job line).op ≡ Ok (Cutelim of n) → given lookup is_proof of ≡ Ok (proof t) → IsValid t
       → elimination t n ≡ r → IsRight (reduced r)
   reduced_right of n t None reads is valid found = tt
@@ -168,7 +169,7 @@ module _ (lookup : Lookup) (line : List ℕ) where
     sequent = concl t;
     asks = ap end_given is;
     right = record { valid = result_valid con_valid t p.0 p.1 n valid found; ends = result_end t p.0 p.1 n found };
-    cut_free = result_free t p.0 p.1 n found;
+    reached = subst (λ (wanted : Result Value Outcome). IsReached n wanted (outcomes.Reduced (summary_of p.0) p.1) p.0) (sym is) ((least_reached t n p.0 p.1).0 found);
     shows = refl;
   }
 
@@ -186,7 +187,7 @@ module _ (lookup : Lookup) (line : List ℕ) where
         sequent = closures cs;
         asks = ap closures_given is;
         right = record { valid = valid_refutation cs steps t each (closures_formed cs each closed) formed refutes_by; ends = end_of_refutation cs steps t each formed refutes_by };
-        cut_free = tt;
+        reached = tt;
         shows = refl;
       }
 

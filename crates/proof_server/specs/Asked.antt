@@ -1,12 +1,14 @@
 -- Which proof a job asks for, and that each proof that is answered is a valid proof of the sequent asked.
 --     asked      the end sequent of the proof that an operation asks for
 --     IsProofOf      the tree is a valid proof of the sequent
+--     IsReachedFor      what is asked of an elimination of cuts beside that
 --     AnswersAsked      what holds of each job after others
-use Rattle.std.specs.Prelude.{◌≡◌, ℕ, List, [], ◌∷◌, Option, Some, None, option_map, Result, Ok}
+use Rattle.std.specs.Prelude.{◌≡◌, ℕ, ◌≤◌, List, [], ◌∷◌, Option, Some, None, option_map, Result, Ok}
 use Rattle.std.specs.FinMap as fin
 use Rattle.lk_rules.specs.declared.sequent.Sequent.{Sequent}
 use Rattle.lk_rules.specs.Sequents.{image_sequent}
-use Rattle.proof_trees.specs.Trees.{Tree, concl, IsValid, IsCutFree}
+use Rattle.proof_trees.specs.Trees.{Tree, concl, IsValid}
+use Rattle.elimination_laws.specs.Elimination.{Reaches}
 use Rattle.refutations.specs.Clauses.{closures}
 use Rattle.lk_check.specs.Checking.{last_end}
 use Rattle.tptp_problem.specs.declared.problems.Problem.{Problem}
@@ -48,10 +50,15 @@ pub record IsProofOf (t : Tree) (s : Sequent) : Type 0 where
   pub valid : IsValid t
   pub ends : concl t ≡ s
 
--- an elimination of cuts asks for a tree without cuts
-abbrev pub IsCutFreeFor : Op → Tree → Type 0
-IsCutFreeFor (Cutelim of n) t = IsCutFree t
-IsCutFreeFor op t = Unit {0}
+-- from the tree that a field is given, u is reached in just as many replacements as the outcome shows, and these are at most n
+abbrev pub IsReached : ℕ → Result Value Outcome → Outcome → Tree → Type 0
+IsReached n (Ok (proof t)) (Reduced summary k) u = Reaches t k u × (k ≤ n)
+IsReached n wanted outcome u = ⊥
+
+-- an elimination of cuts asks for the tree without cuts that is reached from the one that is named, within its budget
+abbrev pub IsReachedFor : Lookup → Op → Outcome → Tree → Type 0
+IsReachedFor lookup (Cutelim of n) outcome u = IsReached n (given lookup is_proof of) outcome u
+IsReachedFor lookup op outcome u = Unit {0}
 
 -- the outcome shows the tree: its end sequent and its counts
 abbrev pub Shows : Outcome → Tree → Type 0
@@ -66,7 +73,7 @@ pub record IsAsked (lookup : Lookup) (line : List ℕ) (outcome : Outcome) (t : 
   pub sequent : Sequent
   pub asks : asked lookup op ≡ Some sequent
   pub right : IsProofOf t sequent
-  pub cut_free : IsCutFreeFor op t
+  pub reached : IsReachedFor lookup op outcome t
   pub shows : Shows outcome t
 
 -- A job after earlier ones: a proof that its line comes to is one that the line asks for, and a reply that shows a proof shows that one.
