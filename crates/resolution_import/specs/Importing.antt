@@ -1,7 +1,7 @@
 -- What the import of a refutation answers.
 --     IsClosed      the closures of clauses
---     meant, HasProof      a derived clause with its proof
---     Derives, DerivesAll, Imports      what the code answers, beside what it is to answer
+--     meant, clauses_in, HasProof      derived clauses with their proofs
+--     DerivesClause, DerivesClauses, Imports      what the code answers, beside what it is to answer
 use Rattle.std.specs.Prelude.{◌≡◌, ℕ, true, List, map, Result, Ok, Err}
 use Rattle.std.specs.List.{All}
 use Rattle.fol.specs.Formed.{IsFormed}
@@ -39,17 +39,21 @@ pub record HasProof (graph : Graph) (g : Sequent) (d : DerivedProof) : Type 0 wh
   pub of : IsOf graph d.proof
   pub end : concl d.proof.tree ≡ union_sequent g d.clause
 
--- what a step is to derive, unless memory runs out
-abbrev pub Derives : Result DerivedProof StepFault → Result Derived ResCause → Type 0
-Derives (Ok d) wanted = wanted ≡ Ok (meant d)
-Derives (Err step_fault.Memory) wanted = Unit {0}
-Derives (Err (step_fault.Cause cause)) wanted = wanted ≡ Err cause
+-- the clauses of derived clauses with their proofs
+abbrev pub clauses_in : List DerivedProof → List Sequent
+clauses_in ds = map (λ d. d.clause) ds
 
--- what all steps are to derive, seen by view, unless memory runs out
-abbrev pub DerivesAll : {X : Type 0} → (X → List DerivedProof) → Result X ImportFault → Result (List Derived) (ℕ × ResCause) → Type 0
-DerivesAll view (Ok ds) wanted = wanted ≡ Ok (map meant (view ds))
-DerivesAll view (Err import_fault.Memory) wanted = Unit {0}
-DerivesAll view (Err (import_fault.Step i cause)) wanted = wanted ≡ Err (i, cause)
+-- the clause that a step is to derive, unless memory runs out
+abbrev pub DerivesClause : Result Sequent StepFault → Result Sequent ResCause → Type 0
+DerivesClause (Ok s) wanted = wanted ≡ Ok s
+DerivesClause (Err step_fault.Memory) wanted = Unit {0}
+DerivesClause (Err (step_fault.Cause cause)) wanted = wanted ≡ Err cause
+
+-- the clauses that all steps are to derive, seen by view, unless memory runs out
+abbrev pub DerivesClauses : {X : Type 0} → (X → List Sequent) → Result X ImportFault → Result (List Sequent) (ℕ × ResCause) → Type 0
+DerivesClauses view (Ok ss) wanted = wanted ≡ Ok (view ss)
+DerivesClauses view (Err import_fault.Memory) wanted = Unit {0}
+DerivesClauses view (Err (import_fault.Step i cause)) wanted = wanted ≡ Err (i, cause)
 
 -- the code answers just what is wanted, unless memory runs out
 abbrev pub Imports : Result Reference ImportFault → Result Tree (ℕ × ResCause) → Type 0

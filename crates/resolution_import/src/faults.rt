@@ -1,5 +1,7 @@
 //! Why there is no proof.
 ghost use Rattle.std.specs.Prelude.{◌≡◌};
+ghost use Rattle.resolution_import.specs.declared.faults.ImportFault.TheVariants as import_fault;
+ghost use Rattle.resolution_import.specs.declared.faults.StepFault.TheVariants as step_fault;
 
 use refutations::ResCause;
 use std::alloc::AllocError;
@@ -14,9 +16,9 @@ pub enum ImportFault {
 }
 
 impl From<AllocError> for ImportFault {
-    fn from(_error: AllocError) -> ImportFault
-        ensures { result ≡ ImportFault.Memory }
-    {
+    ghost from_gives = { λ _ fault. fault ≡ import_fault.Memory };
+
+    fn from(_error: AllocError) -> ImportFault {
         ImportFault::Memory
     }
 }
@@ -29,9 +31,9 @@ pub(crate) enum StepFault {
 }
 
 impl From<AllocError> for StepFault {
-    fn from(_error: AllocError) -> StepFault
-        ensures { result ≡ StepFault.Memory }
-    {
+    ghost from_gives = { λ _ fault. fault ≡ step_fault.Memory };
+
+    fn from(_error: AllocError) -> StepFault {
         StepFault::Memory
     }
 }

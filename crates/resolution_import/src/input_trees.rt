@@ -4,7 +4,7 @@ ghost use mathlib.Core.List.{IsPrefix};
 ghost use Rattle.fol.specs.Formed.{IsFormed};
 ghost use Rattle.finite.specs.Finite as set;
 ghost use Rattle.proof_graph.specs.Graphs.{IsOf, IsPassOf, history};
-ghost use Rattle.refutations.specs.Clauses.{IsClauseOf, closure_of};
+ghost use Rattle.refutations.specs.Clauses.{IsClauseOf, literals_of, closure_of};
 ghost use Rattle.refutations.specs.Refutations.{over_literals as literals_tree, over_instances as instances_tree, of_input};
 ghost use Rattle.resolution_import.specs.Importing.{meant};
 ghost use Rattle.resolution_import.specs.InputTrees.{IsOverClause, IsOverClosure};
@@ -14,7 +14,7 @@ use crate::steps::DerivedProof;
 use fol::{Formula, FormulaNode, Term, Var};
 use lk_rules::{Rule, Sequent, Side};
 use proof_graph::{Graph, GraphPass, ProofRef};
-use refutations::{Clause, literals};
+use refutations::Clause;
 use std::alloc::{AllocError, Global};
 use std::sync::Wait;
 use substitution::instance;
@@ -93,7 +93,7 @@ pub(crate) fn over_instances<R: Wait>(
     over_one(graph, rt, alloc, pass, rule, end, premise)
 }
 
-/// A clause itself, over the closures of all clauses.
+/// A clause itself, over the closures of all clauses. These are its literals.
 pub(crate) fn over_clause<R: Wait>(
     graph: &Graph,
     rt: &R,
@@ -102,18 +102,19 @@ pub(crate) fn over_clause<R: Wait>(
     closures: &Sequent,
     clause: &Clause,
     closure: &Formula,
+    own: Sequent,
 ) -> Result<DerivedProof, AllocError>
     requires pass_of { IsPassOf graph.now pass.old }
     requires clause { IsClauseOf clause.now }
     requires closure { closure.now ≡ closure_of clause.now }
     requires formed { IsFormed closure.now }
     requires stands { set.has closures.now.left closure.now ≡ true }
+    requires own { own ≡ literals_of clause.now.matrix }
     ensures derived { IfOk result (λ d. meant d ≡ of_input closures.now clause.now) }
     ensures of { IfOk result (λ d. IsOf graph.now d.proof) }
     ensures grown { IsPrefix (history pass.old) (history pass.new) }
     ensures pass_stays { IsPassOf graph.now pass.new }
 {
-    let own = literals(alloc, &clause.matrix)?;
     let end = closures.union(alloc, &own)?;
     let vars = clause.vars.as_slice();
     let proof = over_instances(graph, rt, alloc, pass, &end, vars, closure, &clause.matrix)?;

@@ -1,6 +1,7 @@
 //! From resolution refutations to proofs: the proof that a refutation stands for is put into the graph of a bench.
 #![tactic(auto)]
 
+mod clauses;
 mod closing;
 mod faults;
 mod importing;

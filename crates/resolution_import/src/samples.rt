@@ -225,3 +225,24 @@ pub fn fault<R: Abort + Wait>(
         Ok(_) => Err(Fail::from("there is no fault")),
     }
 }
+
+/// The number of a refutation's proof in a new graph, after another refutation was refused there.
+pub fn number_after<R: Abort + Wait>(
+    rt: &R,
+    alloc: Global,
+    clause_codes: &[&str],
+    refused_codes: &[&str],
+    step_codes: &[&str],
+) -> Result<u64, Fail> {
+    let clauses = clauses(rt, alloc, clause_codes)?;
+    let refused = steps(rt, alloc, refused_codes)?;
+    let steps = steps(rt, alloc, step_codes)?;
+    let (bench, mut pass) = Bench::new(alloc)?;
+    let Err(_) = import(rt, alloc, &bench, &mut pass, &clauses, &refused) else {
+        return Err(Fail::from("there is no fault"));
+    };
+    let Ok(proof) = import(rt, alloc, &bench, &mut pass, &clauses, &steps) else {
+        return Err(Fail::from("there is a fault"));
+    };
+    Ok(proof.number())
+}

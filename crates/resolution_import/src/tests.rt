@@ -1,6 +1,6 @@
 //! Small refutations, with their proofs and their faults found by hand.
 use super::*;
-use crate::samples::{fault, imported};
+use crate::samples::{fault, imported, number_after};
 use refutations::ResCause;
 use std::test::Fail;
 
@@ -64,18 +64,48 @@ fn refutation_under_a_map(rt: HostRuntime) -> Result<(), Fail> {
 fn first_faults(rt: HostRuntime) -> Result<(), Fail> {
     let alloc = rt.alloc();
     let cases = [
-        ([].as_slice(), 0, ResCause::NotEmpty),
-        (&["i 2", "i 0"], 0, ResCause::Reference),
+        // an input beyond the clauses
+        (["i 2", "i 0"].as_slice(), 0, ResCause::Reference),
+        (&["i 18446744073709551615"], 0, ResCause::Reference),
+        (&["i 0", "i 2", "i 1"], 1, ResCause::Reference),
+        (&["i 0", "i 1", "i 2"], 2, ResCause::Reference),
+        // a map of the step itself, and of a later step
         (&["s 0 X a", "i 0"], 0, ResCause::Reference),
-        (&["r 0 0 p", "i 0"], 0, ResCause::Reference),
+        (&["s 1 X a", "i 0"], 0, ResCause::Reference),
         (&["i 0", "s 1 X a", "i 5"], 1, ResCause::Reference),
+        (&["i 0", "s 2 X a", "i 1"], 1, ResCause::Reference),
+        (&["i 0", "i 1", "s 2 X a"], 2, ResCause::Reference),
+        (&["i 0", "i 1", "s 3 X a"], 2, ResCause::Reference),
+        // a resolution with the step itself, and with a later step
+        (&["r 0 0 p", "i 0"], 0, ResCause::Reference),
         (&["i 0", "r 0 1 p", "r 0 0 p"], 1, ResCause::Reference),
         (&["i 0", "r 1 0 p", "i 1"], 1, ResCause::Reference),
+        (&["i 0", "r 0 2 p", "i 1"], 1, ResCause::Reference),
+        (&["i 0", "i 1", "r 2 1 p"], 2, ResCause::Reference),
         (&["i 0", "i 1", "r 0 3 p"], 2, ResCause::Reference),
+        (&["i 1", "r 0 5 q"], 1, ResCause::Reference),
+        // an atom that isn't there: the first step has nothing to resolve
         (&["i 0", "r 0 0 p", "i 9"], 1, ResCause::AtomMissing),
         (&["i 1", "r 0 0 p", "i 1"], 1, ResCause::AtomMissing),
+        (
+            &["i 0", "i 1", "r 1 0 p", "r 0 1 p"],
+            2,
+            ResCause::AtomMissing,
+        ),
+        (
+            &["i 0", "i 1", "r 0 1 q", "r 0 1 p"],
+            2,
+            ResCause::AtomMissing,
+        ),
         (&["i 0", "i 1", "r 1 0 p"], 2, ResCause::AtomMissing),
         (&["i 0", "i 1", "r 0 1 q"], 2, ResCause::AtomMissing),
+        (
+            &["i 0", "i 1", "r 0 1 p", "r 2 1 p"],
+            3,
+            ResCause::AtomMissing,
+        ),
+        // a last clause that isn't empty
+        (&[], 0, ResCause::NotEmpty),
         (&["i 0"], 0, ResCause::NotEmpty),
         (&["i 0", "i 1"], 1, ResCause::NotEmpty),
         (&["i 0", "i 1", "r 0 1 p", "i 0"], 3, ResCause::NotEmpty),
@@ -84,5 +114,28 @@ fn first_faults(rt: HostRuntime) -> Result<(), Fail> {
         let found = fault(&rt, alloc, &["p", "p~"], steps)?;
         assert_eq!(rt; found, ImportFault::Step { step, cause });
     }
+    Ok(())
+}
+
+// The proof has three nodes: an axiom, which both clauses share, the negation above it and the cut. So the cut is number 2, unless a
+// refused refutation has left nodes, as one for the clause q, or the refutation itself has one for q.
+#[test]
+fn refusals_leave_nothing(rt: HostRuntime) -> Result<(), Fail> {
+    let alloc = rt.alloc();
+    let clauses = ["p", "p~", "q"];
+    let refused = [
+        [].as_slice(),
+        &["i 2"],
+        &["i 2", "i 3"],
+        &["i 2", "s 0 X a", "s 2 X a", "i 0"],
+        &["i 2", "i 1", "i 0", "r 1 2 p"],
+        &["i 0", "i 1", "r 0 1 p", "i 2"],
+    ];
+    for first in refused {
+        let number = number_after(&rt, alloc, &clauses, first, &["i 0", "i 1", "r 0 1 p"])?;
+        assert_eq!(rt; number, 2);
+    }
+    let with_q = ["i 2", "i 0", "i 1", "r 1 2 p"];
+    assert_eq!(rt; number_after(&rt, alloc, &clauses, &[], &with_q)?, 3);
     Ok(())
 }
