@@ -1,11 +1,12 @@
 //! Small proofs from short texts, for tests.
-ghost use Rattle.std.specs.Prelude.{IfOk};
+ghost use Rattle.std.specs.Prelude.{◌≡◌, true, IfOk};
 ghost use Rattle.std.specs.List.{All};
+ghost use Rattle.proof_trees.specs.Trees.{IsCutFree};
 ghost use Rattle.proof_graph.specs.Graphs.{IsOf};
 ghost use Rattle.proof_subst.specs.Benches.{graph_of, IsBenchPassOf};
 
 use crate::cases::case_at;
-use crate::contraction::contract_over;
+use crate::contraction::{contract, contract_over};
 use crate::cut::Cut;
 use crate::inferences::infer;
 use crate::steps::Steps;
@@ -171,8 +172,8 @@ fn step<R: Abort>(rt: &R, alloc: Global, text: &str) -> Result<Step, Fail> {
     })
 }
 
-/// The steps of a text, with a semicolon between them.
-pub fn steps_of<R: Abort>(rt: &R, alloc: Global, text: &str) -> Result<Vec<Step>, Fail> {
+// The steps of a text, with a semicolon between them.
+fn steps_of<R: Abort>(rt: &R, alloc: Global, text: &str) -> Result<Vec<Step>, Fail> {
     let mut steps = Vec::new(alloc);
     for line in text.split(';') {
         steps.push(step(rt, alloc, line)?)?;
@@ -200,8 +201,8 @@ fn chosen<R: Abort>(
     Ok(chosen)
 }
 
-/// The proofs of a list of steps, one for each.
-pub fn proofs<R: Abort + Wait>(
+// The proofs of a list of steps, one for each.
+fn proofs<R: Abort + Wait>(
     rt: &R,
     alloc: Global,
     bench: &Bench,
@@ -219,6 +220,24 @@ pub fn proofs<R: Abort + Wait>(
         made.push(checked(rt, alloc, bench, pass, inference, &premises)?)?;
     }
     Ok(made)
+}
+
+/// The proof of the last step of a text.
+pub fn proof_of<R: Abort + Wait>(
+    rt: &R,
+    alloc: Global,
+    bench: &Bench,
+    pass: &mut BenchPass,
+    text: &str,
+) -> Result<ProofRef, Fail>
+    requires { IsBenchPassOf bench.now pass.old }
+    ensures of { IfOk result (IsOf (graph_of bench.now)) }
+    ensures pass_stays { IsBenchPassOf bench.now pass.new }
+{
+    let list = steps_of(rt, alloc, text)?;
+    let made = proofs(rt, alloc, bench, pass, &list)?;
+    assert!(rt; !made.is_empty());
+    Ok(made[made.len() - 1].keep()?)
 }
 
 /// The premise of a proof at a place.
@@ -269,6 +288,45 @@ pub fn contracted<R: Abort + Wait, L: Ledger>(
     Ok((case, made))
 }
 
+// Whether the proof has no cut and is at most `height` inferences high.
+fn has_no_cut(bench: &Bench, proof: &ProofRef, height: u64) -> bool
+    requires { IsOf (graph_of bench.now) proof.now }
+    ensures { result ≡ true → IsCutFree proof.now.tree }
+{
+    if height == 0 || matches!(bench.graph().get(proof).rule, Rule::Cut(_)) {
+        return false;
+    }
+    let premises = proof.premises();
+    for premise in premises {
+        if !has_no_cut(bench, premise, height - 1) {
+            return false;
+        }
+    }
+    true
+}
+
+/// The contraction of a proof whose last rule is a cut and whose premises have no cut and are at most nine inferences high.
+pub fn contracted_whole<R: Abort + Wait, L: Ledger>(
+    rt: &R,
+    alloc: Global,
+    bench: &Bench,
+    pass: &mut BenchPass,
+    proof: &ProofRef,
+    steps: &mut Steps<L>,
+) -> Result<ProofRef, Fail>
+    requires pass_of { IsBenchPassOf bench.now pass.old }
+    requires of { IsOf (graph_of bench.now) proof.now }
+    ensures of { IfOk result (IsOf (graph_of bench.now)) }
+    ensures pass_stays { IsBenchPassOf bench.now pass.new }
+{
+    let (Rule::Cut(_), [left, right]) = (&bench.graph().get(proof).rule, proof.premises()) else {
+        panic!(rt; "no cut")
+    };
+    assert!(rt; has_no_cut(bench, left, 9));
+    assert!(rt; has_no_cut(bench, right, 9));
+    Ok(contract(rt, alloc, bench, pass, proof, steps)?)
+}
+
 // Sees that the last rule of a proof and those of its premises are of these kinds.
 fn expect_kinds<R: Abort>(
     rt: &R,
@@ -288,8 +346,8 @@ fn expect_kinds<R: Abort>(
     Ok(())
 }
 
-/// Sees that the cut which is the last step of the text is that case, and which rules its contraction has at its root and right above it.
-/// Answers the contraction.
+/// Sees that the cut which is the last step of the text is that case, which rules its contraction has at its root and right above it, and
+/// that the contraction by the cut's parts is that of the whole cut. Answers the contraction.
 pub fn expect<R: Abort + Wait, L: Ledger>(
     rt: &R,
     alloc: Global,
@@ -304,11 +362,11 @@ pub fn expect<R: Abort + Wait, L: Ledger>(
     ensures pass_stays { IsBenchPassOf bench.now pass.new }
 {
     let (expected_case, root, above) = expected;
-    let list = steps_of(rt, alloc, text)?;
-    let made = proofs(rt, alloc, bench, pass, &list)?;
-    assert!(rt; !made.is_empty());
-    let (case, made) = contracted(rt, alloc, bench, pass, &made[made.len() - 1], steps)?;
+    let cut = proof_of(rt, alloc, bench, pass, text)?;
+    let whole = contracted_whole(rt, alloc, bench, pass, &cut, steps)?;
+    let (case, made) = contracted(rt, alloc, bench, pass, &cut, steps)?;
     assert_eq!(rt; case, expected_case);
+    assert!(rt; bench.graph().same(&whole, &made));
     expect_kinds(rt, bench, &made, root, above)?;
     Ok(made)
 }

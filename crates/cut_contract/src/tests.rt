@@ -1,7 +1,7 @@
 //! Contractions of small cuts.
 ghost use Rattle.std.specs.Prelude.{◌≡◌, ◌<◌};
 
-use crate::samples::expect;
+use crate::samples::{contracted_whole, expect, proof_of};
 use crate::steps::Steps;
 use contraction_laws::Case;
 use fol::Var;
@@ -252,6 +252,42 @@ fn cuts_and_eigenvariables<R: Abort + Wait, L: Ledger>(
     Ok(())
 }
 
+// The contraction of a whole cut, whose premises have none, is the proof that is expected. The proofs were found by a
+// program of another kind, which contracts trees.
+fn whole_cuts<R: Abort + Wait, L: Ledger>(rt: &R, alloc: Global, ledger: Blank) -> Result<(), Fail>
+    requires name { ledger.name ≡ L.name }
+    requires parts { ledger.parts ≡ L.parts }
+    requires one_part { 0 < ledger.parts }
+{
+    let (bench, mut pass) = Bench::new(alloc)?;
+    let mut steps = Steps::<L>::new(ledger);
+    for (text, contraction) in [
+        (
+            "ax p- p/p~;negR ~- /p~ 0;ax p- p~/p;negL ~- p~/ 2;cut ~- p/p 1 3",
+            "ax p- p/p~;ax p- p~/p;negL ~- p~/ 1;cut ~- p/p 0 2;negR ~- p/p~ 3;cut ~- p/p 4 2",
+        ),
+        (
+            "ax p- p/p;ax q- q/q;andR &- pq/& 0 1;andL &- &/p 0;cut &- pq/p 2 3",
+            "ax p- p/p;ax q- q/q;cut q- pq/p 1 0;cut p- pq/p 0 2",
+        ),
+        (
+            "ax p- p/py;allR Ay p/pA 0;ax a- a/a;allL Aa A/a 2;cut A- p/pa 1 3",
+            "ax p- p/pa;ax a- a/a;cut a- p/pa 0 1",
+        ),
+        (
+            "ax p- p/p;negR ~- /p~ 0;ax p- p~/pq;orR |- p~/| 2;cut ~- p/p| 1 3",
+            "ax p- p/p;negR ~- /p~ 0;ax p- p~/pq;cut ~- p/pq| 1 2;orR |- p/p| 3",
+        ),
+    ] {
+        let cut = proof_of(rt, alloc, &bench, &mut pass, text)?;
+        let wanted = proof_of(rt, alloc, &bench, &mut pass, contraction)?;
+        let made = contracted_whole(rt, alloc, &bench, &mut pass, &cut, &mut steps)?;
+        assert!(rt; bench.graph().same(&made, &wanted), "{text}");
+    }
+    steps.end();
+    Ok(())
+}
+
 #[test]
 fn upper_cuts_on_a_negation(rt: HostRuntime) -> Result<(), Fail> {
     upper_cuts::<HostRuntime, Brand>(&rt, rt.alloc(), Blank::new(1))
@@ -275,4 +311,9 @@ fn parts_of_the_cut_formula(rt: HostRuntime) -> Result<(), Fail> {
 #[test]
 fn eigenvariables(rt: HostRuntime) -> Result<(), Fail> {
     cuts_and_eigenvariables::<HostRuntime, Brand>(&rt, rt.alloc(), Blank::new(1))
+}
+
+#[test]
+fn whole_cuts_with_ample_memory(rt: HostRuntime) -> Result<(), Fail> {
+    whole_cuts::<HostRuntime, Brand>(&rt, rt.alloc(), Blank::new(1))
 }

@@ -2,7 +2,7 @@
 ghost use Rattle.std.specs.Prelude.{◌≡◌, ◌+◌, ◌≤◌, true, false, Some, None, IfOk};
 ghost use Rattle.std.specs.List.{All};
 ghost use mathlib.Core.List.{IsPrefix};
-ghost use Rattle.proof_trees.specs.Trees.{node, none, more, concl, rule_of, below, is_cut, IsCutFree, IsInference};
+ghost use Rattle.proof_trees.specs.Trees.{node, none, more, concl, rule_of, below, is_cut, IsCutFree, IsInference, IsValid};
 ghost use Rattle.proof_graph.specs.References.{trees_of};
 ghost use Rattle.proof_graph.specs.Graphs.{IsOf, history};
 ghost use Rattle.proof_subst.specs.Benches.{graph_of, pass_in, IsBenchPassOf};
@@ -336,6 +336,7 @@ pub fn eliminate<R: Wait, L: Ledger>(
     ensures budget { result ≡ Err ElimFault.Budget → elimination proof.now.tree budget ≡ None }
     ensures of { IfOk result (λ made. IsOf (graph_of (bench_of desk.now)) made.proof) }
     ensures cut_free { IfOk result (λ made. IsCutFree made.proof.tree) }
+    ensures valid { IfOk result (λ made. IsValid made.proof.tree) }
     ensures end { IfOk result (λ made. concl made.proof.tree ≡ concl proof.now.tree) }
     ensures grown { IsPrefix (history (pass_in (bench_pass_in pass.old))) (history (pass_in (bench_pass_in pass.new))) }
     ensures pass_stays { IsDeskPassOf desk.now pass.new }
@@ -343,6 +344,7 @@ pub fn eliminate<R: Wait, L: Ledger>(
     ensures counted { steps.new ≤ steps.old + budget }
 {
     laws::results();
+    proof.known();
     let mut table = BTreeMap::new(alloc);
     let bench = desk.bench();
     eliminate_in(

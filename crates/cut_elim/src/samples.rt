@@ -25,15 +25,19 @@ fn symbol(alloc: Global, letter: u8, arity: u32) -> Result<Sym, AllocError> {
     Ok(Sym { name, arity })
 }
 
-// The variable Y.
-fn variable(alloc: Global) -> Result<Var, AllocError> {
-    Ok(Var::Word(Text::from_vec(alloc, vec![in alloc; b'Y']?)?))
+// A variable by one byte: `x` is X, `v` the first numbered one, and another letter is Y.
+fn variable(alloc: Global, code: u8) -> Result<Var, AllocError> {
+    match code {
+        b'x' => Ok(Var::Word(Text::from_vec(alloc, vec![in alloc; b'X']?)?)),
+        b'v' => Ok(Var::Num(0)),
+        _ => Ok(Var::Word(Text::from_vec(alloc, vec![in alloc; b'Y']?)?)),
+    }
 }
 
-// A term by one byte: `y` is the variable Y, `0` an index, and another letter is a constant.
+// A term by one byte: x, y and v are variables, `0` is an index, and another letter is a constant.
 fn term(alloc: Global, code: u8) -> Result<Term, AllocError> {
     match code {
-        b'y' => Term::free(alloc, variable(alloc)?),
+        b'x' | b'y' | b'v' => Term::free(alloc, variable(alloc, code)?),
         b'0' => Term::bound(alloc, 0),
         _ => Term::app(alloc, symbol(alloc, code, 0)?, Terms::empty(alloc)?),
     }
@@ -43,24 +47,36 @@ fn letter(alloc: Global, name: u8) -> Result<Formula, AllocError> {
     Formula::atom(alloc, symbol(alloc, name, 0)?, Terms::empty(alloc)?)
 }
 
+// The negation of a formula's negation.
+fn twice_negated(alloc: Global, body: Formula) -> Result<Formula, AllocError> {
+    Formula::not(alloc, Formula::not(alloc, body)?)
+}
+
 // u of a term.
 fn holds(alloc: Global, argument: u8) -> Result<Formula, AllocError> {
     let arguments = Terms::cons(alloc, term(alloc, argument)?, Terms::empty(alloc)?)?;
     Formula::atom(alloc, symbol(alloc, b'u', 1)?, arguments)
 }
 
-// A formula by one byte: p, q and r; the connectives for compounds of p and q, and = for p | p; a, b and y for u of that term; A and E
-// for u of all and of some.
+// A formula by one byte: T and F; p, q and r; the connectives for compounds of p and q, = for p | p, and N for ~~p; a, b, x, y and v for u
+// of that term; A and E for u of all and of some, m and o for the negations of these, and M and O for the negations of those.
 fn formula(alloc: Global, code: u8) -> Result<Formula, AllocError> {
     match code {
+        b'T' => Formula::top(alloc),
+        b'F' => Formula::bot(alloc),
         b'~' => Formula::not(alloc, letter(alloc, b'p')?),
+        b'N' => twice_negated(alloc, letter(alloc, b'p')?),
         b'&' => Formula::and(alloc, letter(alloc, b'p')?, letter(alloc, b'q')?),
         b'|' => Formula::or(alloc, letter(alloc, b'p')?, letter(alloc, b'q')?),
         b'=' => Formula::or(alloc, letter(alloc, b'p')?, letter(alloc, b'p')?),
         b'>' => Formula::imp(alloc, letter(alloc, b'p')?, letter(alloc, b'q')?),
         b'A' => Formula::all(alloc, holds(alloc, b'0')?),
+        b'm' => Formula::not(alloc, Formula::all(alloc, holds(alloc, b'0')?)?),
+        b'M' => twice_negated(alloc, Formula::all(alloc, holds(alloc, b'0')?)?),
         b'E' => Formula::ex(alloc, holds(alloc, b'0')?),
-        b'a' | b'b' | b'y' => holds(alloc, code),
+        b'o' => Formula::not(alloc, Formula::ex(alloc, holds(alloc, b'0')?)?),
+        b'O' => twice_negated(alloc, Formula::ex(alloc, holds(alloc, b'0')?)?),
+        b'a' | b'b' | b'x' | b'y' | b'v' => holds(alloc, code),
         _ => letter(alloc, code),
     }
 }
@@ -86,6 +102,8 @@ fn rule(alloc: Global, kind: &str, main: u8, code: u8) -> Result<Rule, AllocErro
     let main = formula(alloc, main)?;
     match kind {
         "ax" => Ok(Rule::Ax(main)),
+        "topR" => Ok(Rule::TopR),
+        "botL" => Ok(Rule::BotL),
         "negL" => Ok(Rule::NegL(main)),
         "negR" => Ok(Rule::NegR(main)),
         "andL" => Ok(Rule::AndL(main)),
@@ -95,8 +113,8 @@ fn rule(alloc: Global, kind: &str, main: u8, code: u8) -> Result<Rule, AllocErro
         "impL" => Ok(Rule::ImpL(main)),
         "impR" => Ok(Rule::ImpR(main)),
         "allL" => Ok(Rule::AllL(main, term(alloc, code)?)),
-        "allR" => Ok(Rule::AllR(main, variable(alloc)?)),
-        "exL" => Ok(Rule::ExL(main, variable(alloc)?)),
+        "allR" => Ok(Rule::AllR(main, variable(alloc, code)?)),
+        "exL" => Ok(Rule::ExL(main, variable(alloc, code)?)),
         "exR" => Ok(Rule::ExR(main, term(alloc, code)?)),
         "cut" => Ok(Rule::Cut(main)),
         _ => Ok(Rule::Weak),

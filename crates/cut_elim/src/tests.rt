@@ -2,6 +2,12 @@
 ghost use Rattle.std.specs.Prelude.{◌≡◌, ◌<◌};
 ghost use Rattle.cut_elim.specs.Desks.{IsDeskPassOf};
 
+mod tables;
+
+use self::tables::{
+    ABOVE_LEFT, ABOVE_RIGHT, CONNECTIVES, EIGENVARIABLES, LEAVES, NESTED, QUANTIFIERS, SHARED,
+    UNCUT, WEAKENED,
+};
 use crate::desk::{Desk, DeskPass};
 use crate::elimination::eliminate;
 use crate::fault::ElimFault;
@@ -16,7 +22,7 @@ use std::sync::ledger::{Blank, Ledger};
 use std::test::Fail;
 
 // Sees that the elimination in a proof takes so many contractions, no fewer, and gives what the replacement of one cut after the other
-// gives: a proof of so many different nodes.
+// gives: a proof of so many different nodes. Where it takes none it is the proof itself.
 fn expect<R: Abort + Wait, L: Ledger>(
     rt: &R,
     alloc: Global,
@@ -32,34 +38,30 @@ fn expect<R: Abort + Wait, L: Ledger>(
     let (reductions, size) = expected;
     let list = steps_of(rt, alloc, text)?;
     let start = proof(rt, alloc, desk, pass, &list)?;
-    let short = eliminate(
-        rt,
-        alloc,
-        desk,
-        pass,
-        &start,
-        reductions.saturating_sub(1),
-        steps,
-    );
-    assert!(rt; matches!(short, Err(ElimFault::Budget)));
+    let graph = desk.bench().graph();
+    if reductions > 0 {
+        let short = eliminate(rt, alloc, desk, pass, &start, reductions - 1, steps);
+        assert!(rt; matches!(short, Err(ElimFault::Budget)), "{text}");
+    }
     let found = eliminate(rt, alloc, desk, pass, &start, reductions, steps);
     let found = found.ok().ok_or("no elimination")?;
-    assert_eq!(rt; found.reductions, reductions);
-    let graph = desk.bench().graph();
-    assert_eq!(rt; cuts(graph, alloc, &found.proof)?, 0);
-    assert_eq!(rt; nodes(graph, alloc, &found.proof)?, size);
+    assert_eq!(rt; found.reductions, reductions, "{text}");
+    assert_eq!(rt; cuts(graph, alloc, &found.proof)?, 0, "{text}");
+    assert_eq!(rt; nodes(graph, alloc, &found.proof)?, size, "{text}");
+    assert_eq!(rt; graph.same(&start, &found.proof), reductions == 0, "{text}");
     let bench = desk.bench();
     let (plain, count) = one_at_a_time(rt, alloc, bench, Desk::bench_pass(pass), &start, steps)?;
-    assert_eq!(rt; count, reductions);
-    assert!(rt; graph.same(&plain, &found.proof));
+    assert_eq!(rt; count, reductions, "{text}");
+    assert!(rt; graph.same(&plain, &found.proof), "{text}");
     Ok(())
 }
 
-// 3 contractions leave a weakening of an axiom, and so do 6 of the other.
-fn propositional<R: Abort + Wait, L: Ledger>(
+// Sees this of each proof of a table.
+fn expect_each<R: Abort + Wait, L: Ledger>(
     rt: &R,
     alloc: Global,
     ledger: Blank,
+    table: &[(&str, u64, u64)],
 ) -> Result<(), Fail>
     requires name { ledger.name ≡ L.name }
     requires parts { ledger.parts ≡ L.parts }
@@ -67,14 +69,64 @@ fn propositional<R: Abort + Wait, L: Ledger>(
 {
     let (desk, mut pass) = Desk::new(alloc)?;
     let mut steps = Steps::<L>::new(ledger);
-    // A cut on a conjunction.
-    let text = "ax p- p/p;ax q- q/q;andR &- pq/& 0 1;andL &- &/p 0;cut &- pq/p 2 3";
-    expect(rt, alloc, &desk, &mut pass, text, (3, 2), &mut steps)?;
-    // A cut on a negation.
-    let text = "ax p- p/p~;negR ~- /p~ 0;ax p- p~/p;negL ~- p~/ 2;cut ~- p/p 1 3";
-    expect(rt, alloc, &desk, &mut pass, text, (6, 2), &mut steps)?;
+    for (text, reductions, size) in table {
+        expect(
+            rt,
+            alloc,
+            &desk,
+            &mut pass,
+            text,
+            (*reductions, *size),
+            &mut steps,
+        )?;
+    }
     steps.end();
     Ok(())
+}
+
+// The same, with a ledger of its own.
+fn see<R: Abort + Wait>(rt: &R, alloc: Global, table: &[(&str, u64, u64)]) -> Result<(), Fail> {
+    expect_each::<R, Brand>(rt, alloc, Blank::new(1), table)
+}
+
+#[test]
+fn premise_that_proves_the_conclusion(rt: HostRuntime) -> Result<(), Fail> {
+    see(&rt, rt.alloc(), &WEAKENED)
+}
+
+#[test]
+fn leaf_that_proves_the_conclusion(rt: HostRuntime) -> Result<(), Fail> {
+    see(&rt, rt.alloc(), &LEAVES)
+}
+
+#[test]
+fn cut_above_each_rule_of_the_left_premise(rt: HostRuntime) -> Result<(), Fail> {
+    see(&rt, rt.alloc(), &ABOVE_LEFT)
+}
+
+#[test]
+fn cut_above_each_rule_of_the_right_premise(rt: HostRuntime) -> Result<(), Fail> {
+    see(&rt, rt.alloc(), &ABOVE_RIGHT)
+}
+
+#[test]
+fn parts_of_compound_formulas(rt: HostRuntime) -> Result<(), Fail> {
+    see(&rt, rt.alloc(), &CONNECTIVES)
+}
+
+#[test]
+fn instances_of_quantified_formulas(rt: HostRuntime) -> Result<(), Fail> {
+    see(&rt, rt.alloc(), &QUANTIFIERS)
+}
+
+#[test]
+fn cuts_above_cuts(rt: HostRuntime) -> Result<(), Fail> {
+    see(&rt, rt.alloc(), &NESTED)
+}
+
+#[test]
+fn eigenvariables_with_new_names(rt: HostRuntime) -> Result<(), Fail> {
+    see(&rt, rt.alloc(), &EIGENVARIABLES)
 }
 
 // A cut over a proof of forty levels, each with the level below it for both premises.
@@ -88,84 +140,16 @@ fn levels(alloc: Global) -> Result<String, AllocError> {
     Ok(text)
 }
 
-// Twice as many for the premise that is used twice, and one below forty levels.
-fn with_sharing<R: Abort + Wait, L: Ledger>(
-    rt: &R,
-    alloc: Global,
-    ledger: Blank,
-) -> Result<(), Fail>
-    requires name { ledger.name ≡ L.name }
-    requires parts { ledger.parts ≡ L.parts }
-    requires one_part { 0 < ledger.parts }
-{
-    let (desk, mut pass) = Desk::new(alloc)?;
-    let mut steps = Steps::<L>::new(ledger);
-    // A cut on a conjunction, as both premises of a disjunction on the left.
-    let text = "ax p- p/p;ax q- q/q;andR &- pq/& 0 1;andL &- &/p 0;cut &- pq/p 2 3;orL =- =q/p 4 4";
-    expect(rt, alloc, &desk, &mut pass, text, (6, 3), &mut steps)?;
-    // A cut over a proof of forty levels.
-    let text = levels(alloc)?;
-    let text = text.as_str();
-    expect(rt, alloc, &desk, &mut pass, text, (1, 42), &mut steps)?;
-    steps.end();
-    Ok(())
-}
-
-// The eigenvariable gets a new name on the way.
-fn with_renaming<R: Abort + Wait, L: Ledger>(
-    rt: &R,
-    alloc: Global,
-    ledger: Blank,
-) -> Result<(), Fail>
-    requires name { ledger.name ≡ L.name }
-    requires parts { ledger.parts ≡ L.parts }
-    requires one_part { 0 < ledger.parts }
-{
-    let (desk, mut pass) = Desk::new(alloc)?;
-    let mut steps = Steps::<L>::new(ledger);
-    // A cut below an existential formula on the left, whose eigenvariable is free in the conclusion of the cut.
-    let text = "ax p- yp/p;andL &- y&/p 0;exL Ey E&/p 1;ax p- py/pq;orR |- py/| 3;cut p- E&y/| 2 4";
-    expect(rt, alloc, &desk, &mut pass, text, (3, 5), &mut steps)?;
-    steps.end();
-    Ok(())
-}
-
-// A proof without cuts is its own elimination, at a budget of 0 too.
-fn untouched<R: Abort + Wait, L: Ledger>(rt: &R, alloc: Global, ledger: Blank) -> Result<(), Fail>
-    requires name { ledger.name ≡ L.name }
-    requires parts { ledger.parts ≡ L.parts }
-    requires one_part { 0 < ledger.parts }
-{
-    let (desk, mut pass) = Desk::new(alloc)?;
-    let mut steps = Steps::<L>::new(ledger);
-    let list = steps_of(rt, alloc, "ax p- p/p")?;
-    let start = proof(rt, alloc, &desk, &mut pass, &list)?;
-    let found = eliminate(rt, alloc, &desk, &mut pass, &start, 0, &mut steps);
-    let found = found.ok().ok_or("no elimination")?;
-    assert_eq!(rt; found.reductions, 0);
-    assert!(rt; desk.bench().graph().same(&start, &found.proof));
-    steps.end();
-    Ok(())
-}
-
-#[test]
-fn reductions_of_small_proofs(rt: HostRuntime) -> Result<(), Fail> {
-    propositional::<HostRuntime, Brand>(&rt, rt.alloc(), Blank::new(1))
-}
-
 #[test]
 fn shared_parts(rt: HostRuntime) -> Result<(), Fail> {
-    with_sharing::<HostRuntime, Brand>(&rt, rt.alloc(), Blank::new(1))
+    see(&rt, rt.alloc(), &SHARED)?;
+    let text = levels(rt.alloc())?;
+    see(&rt, rt.alloc(), &[(text.as_str(), 1, 42)])
 }
 
 #[test]
-fn eigenvariable_in_the_conclusion(rt: HostRuntime) -> Result<(), Fail> {
-    with_renaming::<HostRuntime, Brand>(&rt, rt.alloc(), Blank::new(1))
-}
-
-#[test]
-fn proof_without_cuts(rt: HostRuntime) -> Result<(), Fail> {
-    untouched::<HostRuntime, Brand>(&rt, rt.alloc(), Blank::new(1))
+fn proofs_without_cuts(rt: HostRuntime) -> Result<(), Fail> {
+    see(&rt, rt.alloc(), &UNCUT)
 }
 
 // The messages.
