@@ -2,7 +2,7 @@
 use Rattle.std.proofs.Common.{rules, arith, ◌≡◌, ◌≤◌, ◌<◌, List, [], ◌∷◌, length, get_or, sym, ap, ◌∙◌}
 use Rattle.fol.specs.Syntax.{Formula}
 use Rattle.lk_rules.specs.declared.rule.Rule.TheVariants.{Cut}
-use Rattle.proof_trees.specs.Trees.{Tree, node, none, more, concl, rule_of, below, IsCutFree}
+use Rattle.proof_trees.specs.Trees.{Tree, node, none, more, rule_of, below, IsCutFree}
 use Rattle.proof_graph.specs.declared.node.Node.{Node}
 use Rattle.proof_graph.specs.References.{Reference, trees_of}
 use Rattle.cut_contract.specs.LowestCuts.{IsLowestCut}

@@ -1,0 +1,4 @@
+pub mod Extended
+pub mod Walking
+pub mod ProofParts
+pub mod Taking

@@ -1,0 +1,13 @@
+pub mod Tests
+pub mod Listed
+pub mod Passing
+pub mod Weights
+pub mod Searched
+pub mod Taken
+pub mod TruthTables
+pub mod Lower
+pub mod Untaken
+pub mod Found
+pub mod Decided
+pub mod Atoms
+pub mod Unrolled
