@@ -2,6 +2,7 @@
 ghost use Rattle.std.specs.Prelude.{◌≡◌, ◌≢◌, [], Ok, IfOk, IfErr, map};
 ghost use Rattle.std.specs.List.{All};
 ghost use mathlib.Core.List.{IsPrefix};
+ghost use Rattle.proof_trees.specs.Trees.{concl, IsValid};
 ghost use Rattle.proof_graph.specs.Graphs.{IsOf, history};
 ghost use Rattle.proof_subst.specs.Benches.{graph_of, pass_in, IsBenchPassOf};
 ghost use Rattle.refutations.specs.Clauses.{IsClauseOf, closures};
@@ -74,6 +75,8 @@ pub fn import<R: Wait>(
     requires steps { AreFormedSteps steps.now }
     // It is the tree of the last step, or the first faulty step, unless memory runs out.
     ensures exact { Imports result (refutation clauses.now steps.now) }
+    ensures valid { IfOk result (λ r. IsValid r.tree) }
+    ensures end { IfOk result (λ r. concl r.tree ≡ closures clauses.now) }
     ensures of { IfOk result (IsOf (graph_of bench.now)) }
     // Each step is looked at before the first proof is put into the graph.
     ensures unchanged { IfErr result (λ e. e ≢ ImportFault.Memory → history (pass_in pass.new) ≡ history (pass_in pass.old)) }
@@ -84,7 +87,10 @@ pub fn import<R: Wait>(
     let closed = close_clauses(alloc, clauses)?;
     let mut derived = derive_all(bench, rt, alloc, pass, clauses, &closed, steps, found)?;
     match derived.pop() {
-        Some(last) => Ok(last.proof),
+        Some(last) => {
+            last.proof.known();
+            Ok(last.proof)
+        }
         None => unreachable!(),
     }
 }

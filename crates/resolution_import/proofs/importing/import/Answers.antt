@@ -4,6 +4,7 @@ use Rattle.std.proofs.lemmas.Result.{err_from_is_err_and}
 use Rattle.lk_rules.specs.declared.sequent.Sequent.{Sequent}
 use Rattle.proof_graph.specs.Graphs.{IsOf}
 use Rattle.proof_subst.specs.Benches.{graph_of}
+use Rattle.refutations.proofs.Refuting.{end_of_refutation}
 use Rattle.resolution_import.specs.declared.steps.DerivedProof.{DerivedProof}
 use Rattle.resolution_import.proofs.ClauseLaws.{found_clauses}
 use Rattle.resolution_import.proofs.Imported.{of_last, fault_imported, some_proof, proof_imported}
@@ -26,6 +27,12 @@ pub returns-clause-exact : goal.returns-clause-exact
 returns-clause-exact g c =
     proof_imported c.args.clauses.now c.args.steps.now c.in_ok-found.found.items c.in_ok-derived.derived.items c.in_ok-found.ensures.value c.in_ok-derived.ensures.value
     c.pop.new.self.items c.in-Some.last c.in-Some.ensures.items
+
+pub returns-clause-end : goal.returns-clause-end
+returns-clause-end g c =
+    end_of_refutation c.args.clauses.now c.args.steps.now c.in-Some.last.proof.tree c.requires.clauses c.requires.steps
+    (proof_imported c.args.clauses.now c.args.steps.now c.in_ok-found.found.items c.in_ok-derived.derived.items c.in_ok-found.ensures.value c.in_ok-derived.ensures.value
+    c.pop.new.self.items c.in-Some.last c.in-Some.ensures.items)
 
 pub returns-clause-of : goal.returns-clause-of
 returns-clause-of g c =
