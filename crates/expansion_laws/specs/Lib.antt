@@ -1,0 +1,5 @@
+pub mod Expansions
+pub mod Building
+pub mod Dependency
+pub mod Helping
+pub mod Sequents

@@ -1,0 +1,4 @@
+//! Expansion trees and expansion proofs, after Miller (1987), and the laws of them.
+#![tactic(auto)]
+
+pub mod laws;
