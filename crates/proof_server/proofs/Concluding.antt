@@ -1,8 +1,7 @@
 -- What running a line comes to, from what reading it gives.
-use Rattle.std.proofs.Common.{◌≡◌, ℕ, ◌<◌, Bool, true, false, cond, List, length, Ok, Err, sym, ap, ◌∙◌, refl, subst, arith}
+use Rattle.std.proofs.Common.{◌≡◌, ℕ, ◌<◌, Bool, true, false, cond, List, length, Ok, Err, sym, ap, ◌∙◌, arith}
 use Rattle.std.specs.Prelude.{Option, Some, None}
 use Rattle.std.proofs.lemmas.Bool.Decides.{nat_tests}
-use Rattle.proof_graph.specs.declared.graph.Graph.{Graph}
 use Rattle.job_lang.specs.declared.jobs.Job.{Job}
 use Rattle.job_lang.specs.declared.jobs.JobError.TheVariants.{Fault}
 use Rattle.job_lang.specs.declared.reading.JobCause.{JobCause}
@@ -11,8 +10,6 @@ use Rattle.job_lang.specs.Jobs.{reads_job, GivesJob}
 use Rattle.proof_server.specs.Jobs.{max_line, is_too_long}
 use Rattle.proof_server.specs.Values.{Lookup, Run, fault}
 use Rattle.proof_server.specs.Answers.{name_of, run_read, run_line}
-use Rattle.proof_server.specs.Means.{Answers}
-use Rattle.proof_server.specs.declared.store.Ran.TheVariants as ran
 
 module _ (line : List ℕ) where
   run_short : (lookup : Lookup) → is_too_long line ≡ false → run_line lookup line ≡ run_read lookup (reads_job line).name (reads_job line).op
@@ -33,14 +30,9 @@ module _ (line : List ℕ) where
   pub fault_named : (name : Option (List ℕ)) (cause : JobCause) → is_too_long line ≡ false → GivesJob (Err (Fault name cause)) (reads_job line) → name ≡ name_of line
   fault_named name cause short given = sym (name_short short ∙ given.0)
 
-  fault_run : (lookup : Lookup) (name : Option (List ℕ)) (cause : JobCause) → is_too_long line ≡ false → GivesJob (Err (Fault name cause)) (reads_job line)
+  pub fault_run : (lookup : Lookup) (name : Option (List ℕ)) (cause : JobCause) → is_too_long line ≡ false → GivesJob (Err (Fault name cause)) (reads_job line)
       → run_line lookup line ≡ fault (Reading cause)
   fault_run lookup name cause short given = run_short lookup short ∙ (λ i. run_read lookup (given.0 i) (given.1 i))
-
-  pub fault_answers : (g : Graph) (lookup : Lookup) (name : Option (List ℕ)) (cause : JobCause) → is_too_long line ≡ false → GivesJob (Err (Fault name cause)) (reads_job line)
-      → Answers g (ran.Refused (Reading cause)) (run_line lookup line)
-  fault_answers g lookup name cause short given =
-      subst (λ (r : Run). Answers g (ran.Refused (Reading cause)) r) (sym (fault_run lookup name cause short given)) refl
 
   pub long_is : max_line < length line → is_too_long line ≡ true
   long_is long = grind (arith, nat_tests)

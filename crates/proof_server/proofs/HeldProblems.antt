@@ -49,7 +49,7 @@ given_read lookup of holds p = by_name (pair_name of)
     by_name (Some pair) is = holds pair p (found_problem of is_none (lookup pair) p is)
 
 -- a problem that a run holds is such as is read
-abbrev IsReadRun : Run → Type 0
+abbrev pub IsReadRun : Run → Type 0
 IsReadRun (done outcome (problem p)) = IsReadProblem p
 IsReadRun r = Unit {0}
 
@@ -91,7 +91,7 @@ proves_read (Ok (proof t)) (Ok (problem p)) = tt
 proves_read (Ok value) (Ok other) = tt
 
 -- each operation
-run_reads : (lookup : Lookup) (op : Op) → IsFormedOp op → IsReadRun (run lookup op)
+pub run_reads : (lookup : Lookup) (op : Op) → IsFormedOp op → IsReadRun (run lookup op)
 run_reads lookup (Lk steps) formed = admits_read (admission_of steps)
 run_reads lookup (Show of) formed = proof_read shows (given lookup is_proof of) (λ t. tt)
 run_reads lookup (Measure of) formed = proof_read measures (given lookup is_proof of) (λ t. tt)

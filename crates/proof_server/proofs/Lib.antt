@@ -1,4 +1,7 @@
 pub mod Found
+pub mod Giving
+pub mod HeldRuns
+pub mod Answered
 pub mod Learned
 pub mod Taken
 pub mod Concluding

@@ -7,8 +7,8 @@ use Rattle.proof_server.specs.Values.{proof, done}
 use Rattle.proof_server.specs.Operations.{summary_of, reduced}
 use Rattle.proof_server.specs.Means.{Answers}
 use Rattle.proof_server.specs.declared.held.Held.TheVariants as held
-use Rattle.proof_server.specs.declared.store.Ran.{Ran}
-use Rattle.proof_server.specs.declared.store.Ran.TheVariants as ran
+use Rattle.proof_server.specs.declared.operations.Ran.{Ran}
+use Rattle.proof_server.specs.declared.operations.Ran.TheVariants as ran
 
 -- a proof is held
 pub elimination_gives : (g : Graph) (answer : Ran) (t : Tree) (n : ℕ) (wanted : Option (Tree × ℕ)) → wanted ≡ Some (t, n)

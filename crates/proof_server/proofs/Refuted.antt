@@ -14,8 +14,8 @@ use Rattle.proof_server.specs.Values.{proof, short, done}
 use Rattle.proof_server.specs.Operations.{summary_of, has_closure, refutation_shown, refuted, refutes_clauses, refutes}
 use Rattle.proof_server.specs.Means.{Answers}
 use Rattle.proof_server.specs.declared.held.Held.TheVariants as held
-use Rattle.proof_server.specs.declared.store.Ran.{Ran}
-use Rattle.proof_server.specs.declared.store.Ran.TheVariants as ran
+use Rattle.proof_server.specs.declared.operations.Ran.{Ran}
+use Rattle.proof_server.specs.declared.operations.Ran.TheVariants as ran
 
 -- a proof is held
 pub import_gives : (g : Graph) (answer : Ran) (t : Tree) (wanted : Result Tree (ℕ × ResCause)) → wanted ≡ Ok t → Answers g answer (done (outcomes.Proof (summary_of t)) (proof t))

@@ -6,6 +6,8 @@ pub mod Answers
 pub mod Asked
 pub mod Replying
 pub mod Means
+pub mod Given
+pub mod ReadOps
 pub mod Shown
 pub mod Session
 pub mod Ending

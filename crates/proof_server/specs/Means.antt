@@ -17,11 +17,9 @@ use Rattle.proof_server.specs.Operations.{measures}
 use Rattle.proof_server.specs.Answers.{held_of}
 use Rattle.proof_server.specs.declared.held.Held.{Held}
 use Rattle.proof_server.specs.declared.held.Held.TheVariants as held
-use Rattle.proof_server.specs.declared.held.Given.{Given}
-use Rattle.proof_server.specs.declared.held.Given.TheVariants as given
 use Rattle.proof_server.specs.declared.names.Names.{Names}
-use Rattle.proof_server.specs.declared.store.Ran.{Ran}
-use Rattle.proof_server.specs.declared.store.Ran.TheVariants as ran
+use Rattle.proof_server.specs.declared.operations.Ran.{Ran}
+use Rattle.proof_server.specs.declared.operations.Ran.TheVariants as ran
 use Rattle.proof_server.specs.declared.store.Store.{Store}
 
 -- a reference means its tree
@@ -56,13 +54,6 @@ pub record IsStore (store : Store) (earlier : List Past) : Type 0 where
 abbrev pub IsSomeStore : Store → Type 0
 IsSomeStore store = (earlier : List Past) × IsStore store earlier
 
--- what a field with this text is given; `is` says what a value that it takes stands for
-abbrev pub Gives : {T : Type 0} → (T → Result Value Outcome → Type 0) → List ℕ → Given T → Result Value Outcome → Type 0
-Gives is text (given.Value x) wanted = is x wanted
-Gives is text given.Lacking wanted = wanted ≡ Ok lacking
-Gives is text given.Unknown wanted = wanted ≡ Err (UnknownName text)
-Gives is text given.Kind wanted = wanted ≡ Err (Kind text)
-
 -- a reference of the graph stands for its tree, and a problem for itself
 abbrev pub IsProofGiven : Graph → Reference → Result Value Outcome → Type 0
 IsProofGiven g r wanted = IsOf g r × (wanted ≡ Ok (proof r.tree))
@@ -70,31 +61,16 @@ IsProofGiven g r wanted = IsOf g r × (wanted ≡ Ok (proof r.tree))
 abbrev pub IsProblemGiven : Problem → Result Value Outcome → Type 0
 IsProblemGiven p wanted = wanted ≡ Ok (problem p)
 
--- What a field is given where its name stands for this; `takes` says which values the field takes.
-abbrev pub given_taken : {T : Type 0} → Option T → Given T
-given_taken (Some x) = given.Value x
-given_taken None = given.Kind
-
-abbrev pub given_held : {T : Type 0} → (Held → Option T) → Option Held → Given T
-given_held takes None = given.Unknown
-given_held takes (Some held.Unheld) = given.Lacking
-given_held takes (Some h) = given_taken (takes h)
-
--- the values that a field for a proof takes, that a field for a problem takes, and that any field takes of a pair
-abbrev pub taken_proof : Held → Option Reference
-taken_proof (held.Proof r) = Some r
-taken_proof h = None
-
-abbrev pub taken_problem : Held → Option Problem
-taken_problem (held.Problem p) = Some p
-taken_problem h = None
-
-abbrev pub taken_none : {T : Type 0} → Held → Option T
-taken_none h = None
+-- an error that shows a name
+abbrev pub ShowsName : Outcome → Type 0
+ShowsName (UnknownName text) = Unit {0}
+ShowsName (Kind text) = Unit {0}
+ShowsName outcome = ⊥
 
 -- what running an operation came to; only one that isn't refused may lack memory
 abbrev pub Answers : Graph → Ran → Run → Type 0
 Answers g (ran.Refused outcome) (fault wanted) = outcome ≡ wanted
+Answers g ran.Unnamed (fault wanted) = ShowsName wanted
 Answers g ran.Lacked short = Unit {0}
 Answers g ran.Lacked (done wanted value) = Unit {0}
 Answers g (ran.Done outcome h) (done wanted value) = (outcome ≡ wanted) × Means g h value
@@ -104,17 +80,12 @@ Answers g r wanted = ⊥
 abbrev pub IsMeasure : Outcome → Tree → Type 0
 IsMeasure outcome t = measures t ≡ done outcome nothing
 
--- what a field with this text is given, or what an operation comes to without it
-abbrev pub found_of : {T : Type 0} → List ℕ → Given T → Result T Ran
-found_of text (given.Value x) = Ok x
-found_of text given.Lacking = Err ran.Lacked
-found_of text given.Unknown = Err (ran.Refused (UnknownName text))
-found_of text given.Kind = Err (ran.Refused (Kind text))
-
 -- what an operation comes to without a value that it needs
 abbrev pub Refuses : Ran → Result Value Outcome → Type 0
 Refuses ran.Lacked wanted = wanted ≡ Ok lacking
 Refuses (ran.Refused outcome) wanted = wanted ≡ Err outcome
+Refuses ran.Unnamed (Err wanted) = ShowsName wanted
+Refuses ran.Unnamed (Ok value) = ⊥
 Refuses (ran.Done outcome h) wanted = ⊥
 
 -- a value is found, or what the operation comes to without it

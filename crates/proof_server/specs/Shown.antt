@@ -7,7 +7,7 @@ use Rattle.proof_server.specs.Answers.{name_of, held_of, run_line, outcome_of, m
 use Rattle.proof_server.specs.Replying.{reply_line, is_ok_reply}
 use Rattle.proof_server.specs.Means.{Means, IsStore}
 use Rattle.proof_server.specs.declared.store.Store.{Store}
-use Rattle.proof_server.specs.declared.reply.Conclusion.{Conclusion}
+use Rattle.proof_server.specs.declared.store.Conclusion.{Conclusion}
 use Rattle.proof_server.specs.declared.reply.Shown.{Shown}
 use Rattle.proof_server.specs.declared.reply.ReplyLine.{ReplyLine}
 

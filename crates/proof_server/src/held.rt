@@ -1,8 +1,11 @@
 //! What jobs hold for later ones.
+ghost use Rattle.std.specs.Prelude.{◌≡◌, IfOk};
+
 use proof_graph::ProofRef;
+use std::alloc::{AllocError, Global};
 use tptp_problem::Problem;
 
-/// What a job holds.
+/// The value that a name of a job stands for: what the job holds.
 #[derive(Drop)]
 pub enum Held {
     /// Nothing that a later job could use.
@@ -11,18 +14,26 @@ pub enum Held {
     Refused,
     /// The job reported want of memory.
     Unheld,
+    /// No earlier job has the name. No job holds this.
+    Unknown,
+    /// A proof, by its reference in the graph that the session's proofs share.
     Proof(ProofRef),
+    /// A problem.
     Problem(Problem),
 }
 
-/// What a field is given that takes values of a kind.
-#[derive(Drop)]
-pub enum Given<T> {
-    Value(T),
-    /// The job that is named reported want of memory.
-    Lacking,
-    /// No earlier job has the name.
-    Unknown,
-    /// The job that is named holds another kind of value.
-    Kind,
+impl Held {
+    /// The same value, whose proof or problem is shared.
+    pub fn copy(&self, alloc: Global) -> Result<Held, AllocError>
+        ensures { IfOk result (λ copy. copy ≡ self.now) }
+    {
+        match self {
+            Held::Nothing => Ok(Held::Nothing),
+            Held::Refused => Ok(Held::Refused),
+            Held::Unheld => Ok(Held::Unheld),
+            Held::Unknown => Ok(Held::Unknown),
+            Held::Proof(proof) => Ok(Held::Proof(proof.keep()?)),
+            Held::Problem(problem) => Ok(Held::Problem(problem.copy(alloc)?)),
+        }
+    }
 }

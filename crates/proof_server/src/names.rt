@@ -1,20 +1,20 @@
 //! The names that jobs have taken, with what the jobs hold.
-ghost use Rattle.std.specs.Prelude.{◌≡◌, ◌∷◌, [], ℕ, List, Some, None, IfOk, OnOk, option_copied, option_map};
+ghost use Rattle.std.specs.Prelude.{◌≡◌, ◌∷◌, [], ℕ, List, Some, IfOk, OnOk, option_copied, option_map, unwrap_or};
 ghost use Rattle.std.specs.BTreeMap.{get};
 ghost use Rattle.fol.specs.Order.{text_cmp};
 ghost use Rattle.proof_graph.specs.declared.graph.Graph.{Graph};
 ghost use Rattle.proof_server.specs.Jobs.{Past};
-ghost use Rattle.proof_server.specs.Values.{Value, concluded};
-ghost use Rattle.proof_server.specs.Naming.{pair_name as pair_of, given, is_proof, is_problem};
+ghost use Rattle.proof_server.specs.Values.{concluded};
+ghost use Rattle.proof_server.specs.Naming.{pair_name as pair_of};
 ghost use Rattle.proof_server.specs.Answers.{name_of, run_line, held_of, is_taken as is_taken_by};
-ghost use Rattle.proof_server.specs.Means.{Means, Knows, Gives, IsProofGiven, IsProblemGiven, given_held, taken_proof, taken_problem, taken_none};
+ghost use Rattle.proof_server.specs.Means.{Means, Knows};
+ghost use Rattle.proof_server.specs.Given.{base_name as base_of, IsGiven};
+ghost use Rattle.proof_server.specs.declared.held.Held.TheVariants.{Unknown};
 
-use crate::held::{Given, Held};
+use crate::held::Held;
 use fol::Text;
-use proof_graph::ProofRef;
 use std::alloc::{AllocError, Global};
 use std::collections::BTreeMap;
-use tptp_problem::Problem;
 
 /// The names of the jobs of a session so far, each with what the first job with it holds.
 #[derive(Drop)]
@@ -22,8 +22,8 @@ pub struct Names {
     pub held: BTreeMap<Text, Held>,
 }
 
-// The name of the pair that a name with the suffix `.first` or `.second` is about.
-fn pair_name(text: &[u8]) -> Option<&[u8]>
+/// The name of the pair that a name with the suffix `.first` or `.second` is about.
+pub fn pair_name(text: &[u8]) -> Option<&[u8]>
     ensures { option_map (λ name. name.now) result ≡ pair_of text.now }
 {
     match text.strip_suffix(b".first") {
@@ -32,38 +32,23 @@ fn pair_name(text: &[u8]) -> Option<&[u8]>
     }
 }
 
-// What a field is given that takes a proof, where the name stands for this.
-fn given_of(held: Option<&Held>) -> Result<Given<ProofRef>, AllocError>
-    ensures { IfOk result (λ g. g ≡ given_held taken_proof (option_copied held.entry)) }
+// The name of the job that a field with this text is about.
+fn base_name(text: &[u8]) -> &[u8]
+    ensures { result.now ≡ base_of text.now }
 {
-    match held {
-        None => Ok(Given::Unknown),
-        Some(Held::Proof(proof)) => Ok(Given::Value(proof.keep()?)),
-        Some(Held::Unheld) => Ok(Given::Lacking),
-        Some(Held::Nothing | Held::Refused | Held::Problem(_)) => Ok(Given::Kind),
+    match pair_name(text) {
+        Some(name) => name,
+        None => text,
     }
 }
 
-// What a field is given that takes a problem, where the name stands for this.
-fn goal_of(alloc: Global, held: Option<&Held>) -> Result<Given<Problem>, AllocError>
-    ensures { IfOk result (λ g. g ≡ given_held taken_problem (option_copied held.entry)) }
+// What a name stands for, where the job with it holds this.
+fn value_of(alloc: Global, held: Option<&Held>) -> Result<Held, AllocError>
+    ensures { IfOk result (λ h. h ≡ unwrap_or (option_copied held.entry) Unknown) }
 {
     match held {
-        None => Ok(Given::Unknown),
-        Some(Held::Problem(problem)) => Ok(Given::Value(problem.copy(alloc)?)),
-        Some(Held::Unheld) => Ok(Given::Lacking),
-        Some(Held::Nothing | Held::Refused | Held::Proof(_)) => Ok(Given::Kind),
-    }
-}
-
-// What any field is given whose name is that of a proof of a pair, where the pair's name stands for this.
-fn given_of_pair<T>(held: Option<&Held>) -> Given<T>
-    ensures { result ≡ given_held taken_none (option_copied held.entry) }
-{
-    match held {
-        None => Given::Unknown,
-        Some(Held::Unheld) => Given::Lacking,
-        Some(_) => Given::Kind,
+        Some(held) => held.copy(alloc),
+        None => Ok(Held::Unknown),
     }
 }
 
@@ -97,36 +82,12 @@ impl Names {
         self.held.contains_key(name)
     }
 
-    /// What a field with this text is given that takes a proof.
-    pub fn given_proof(&self, alloc: Global, text: &[u8]) -> Result<Given<ProofRef>, AllocError>
-        ensures { (g : Graph) (earlier : List Past) → Knows g self.now earlier → IfOk result (λ answer. Gives (IsProofGiven g) text.now answer (given (held_of earlier) is_proof text.now)) }
+    /// The value that a field with this text names. Of a proof of a pair, which is named by a suffix, it is what the pair's name stands for.
+    pub fn value(&self, alloc: Global, text: &[u8]) -> Result<Held, AllocError>
+        ensures { (g : Graph) (earlier : List Past) → Knows g self.now earlier → IfOk result (λ h. IsGiven g (held_of earlier) text.now h) }
     {
-        match pair_name(text) {
-            Some(pair) => {
-                let name = text_of(alloc, pair)?;
-                Ok(given_of_pair(self.find(&name)))
-            }
-            None => {
-                let name = text_of(alloc, text)?;
-                given_of(self.find(&name))
-            }
-        }
-    }
-
-    /// What a field with this text is given that takes a problem.
-    pub fn given_problem(&self, alloc: Global, text: &[u8]) -> Result<Given<Problem>, AllocError>
-        ensures { (g : Graph) (earlier : List Past) → Knows g self.now earlier → IfOk result (λ answer. Gives IsProblemGiven text.now answer (given (held_of earlier) is_problem text.now)) }
-    {
-        match pair_name(text) {
-            Some(pair) => {
-                let name = text_of(alloc, pair)?;
-                Ok(given_of_pair(self.find(&name)))
-            }
-            None => {
-                let name = text_of(alloc, text)?;
-                goal_of(alloc, self.find(&name))
-            }
-        }
+        let name = text_of(alloc, base_name(text))?;
+        value_of(alloc, self.find(&name))
     }
 
     /// Keeps what a job holds under its name, unless an earlier job has the name.

@@ -1,15 +1,14 @@
 //! The reply to a job.
 ghost use Rattle.std.specs.Prelude.{◌≡◌, ◌+◌, ◌<◌, ◌^◌, ◌∷◌, List, ℕ, IfOk, OnOk, length, false, option_copied, Some, Ok};
 ghost use Rattle.job_lang.specs.Replies.{is_ok_outcome};
-ghost use Rattle.proof_graph.specs.declared.graph.Graph.{Graph};
-ghost use Rattle.proof_server.specs.Values.{Run, concluded};
+ghost use Rattle.proof_server.specs.Values.{concluded};
 ghost use Rattle.proof_server.specs.Jobs.{Past, IsKept, is_too_long};
 ghost use Rattle.proof_server.specs.Answers.{name_of, run_read, run_line, held_of};
-ghost use Rattle.proof_server.specs.Means.{Answers, Means, graph_in, IsStore, IsSomeStore};
+ghost use Rattle.proof_server.specs.Means.{Means, graph_in, IsStore, IsSomeStore};
 ghost use Rattle.proof_server.specs.Shown.{IsConcluded, IsAnswered, IsReply};
 
 use crate::held::Held;
-use crate::store::{Ran, Store};
+use crate::store::{Conclusion, Store, refusal};
 use fol::Text;
 use job_lang::{Job, JobError, Name, Op, Outcome, Reply, read_job, reply_line};
 use std::alloc::{AllocError, Global};
@@ -31,14 +30,6 @@ pub struct Shown {
     pub lacked: bool,
 }
 
-/// What came of a job, what it holds, and whether it reports want of memory.
-#[derive(Drop)]
-pub struct Conclusion {
-    pub outcome: Outcome,
-    pub held: Held,
-    pub lacked: bool,
-}
-
 fn is_ok(outcome: &Outcome) -> bool
     ensures { result ≡ is_ok_outcome outcome.now }
 {
@@ -53,28 +44,6 @@ fn is_ok(outcome: &Outcome) -> bool
     )
 }
 
-fn conclude(ran: Ran) -> Conclusion
-    ensures { (g : Graph) (r : Run) → Answers g ran r → IsConcluded g result r }
-{
-    match ran {
-        Ran::Refused(outcome) => Conclusion {
-            outcome,
-            held: Held::Refused,
-            lacked: false,
-        },
-        Ran::Lacked => Conclusion {
-            outcome: Outcome::Memory,
-            held: Held::Unheld,
-            lacked: true,
-        },
-        Ran::Done(outcome, held) => Conclusion {
-            outcome,
-            held,
-            lacked: false,
-        },
-    }
-}
-
 fn name_text(alloc: Global, name: &Name) -> Result<Text, AllocError>
     ensures { IfOk result (λ t. t ≡ name.now) }
 {
@@ -87,18 +56,18 @@ fn run_job<R: Wait>(
     rt: &R,
     alloc: Global,
     name: &Text,
-    op: Op,
-) -> Result<Ran, AllocError>
+    op: &Op,
+) -> Result<Conclusion, AllocError>
     requires { IsSomeStore store.old }
     ensures ran { (earlier : List Past) → IsStore store.old earlier
-        → IfOk result (λ ran. Answers (graph_in store.new) ran (run_read (held_of earlier) (Some name.now) (Ok op))) }
+        → IfOk result (λ c. IsConcluded (graph_in store.new) c (run_read (held_of earlier) (Some name.now) (Ok op.now))) }
     ensures kept { (earlier : List Past) → IsStore store.old earlier → IsStore store.new earlier }
 {
     if store.names.is_taken(name) {
-        return Ok(Ran::Refused(Outcome::NameTaken));
+        return Ok(refusal(Outcome::NameTaken));
     }
-    let ran = store.run(rt, alloc, op)?;
-    Ok(ran)
+    let conclusion = store.run(rt, alloc, op)?;
+    Ok(conclusion)
 }
 
 /// What came of a job whose line isn't too long: its name, where it has one, and its conclusion.
@@ -118,14 +87,12 @@ fn conclude_line<R: Wait>(
     match read_job(alloc, line) {
         Ok(Job { name, op }) => {
             let text = name_text(alloc, &name)?;
-            let ran = run_job(store, rt, alloc, &text, op)?;
-            Ok((Some(name), conclude(ran)))
+            let conclusion = run_job(store, rt, alloc, &text, &op)?;
+            Ok((Some(name), conclusion))
         }
         Err(error) => match error {
             JobError::Memory => Err(AllocError),
-            JobError::Fault { name, cause } => {
-                Ok((name, conclude(Ran::Refused(Outcome::Reading(cause)))))
-            }
+            JobError::Fault { name, cause } => { Ok((name, refusal(Outcome::Reading(cause)))) }
         },
     }
 }

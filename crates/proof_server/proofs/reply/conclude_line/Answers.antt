@@ -4,20 +4,20 @@ use Rattle.job_lang.specs.declared.jobs.JobError.{JobError}
 use Rattle.job_lang.specs.Jobs.{reads_job, GivesJob}
 use Rattle.proof_server.specs.Values.{Run}
 use Rattle.proof_server.specs.Answers.{run_read, run_line, held_of}
-use Rattle.proof_server.specs.Means.{Answers, graph_in}
-use Rattle.proof_server.proofs.Concluding.{job_named, job_run, fault_named, fault_answers}
+use Rattle.proof_server.specs.Means.{graph_in}
+use Rattle.proof_server.specs.Shown.{IsConcluded}
+use Rattle.proof_server.proofs.Concluding.{job_named, job_run, fault_named, fault_run}
 use Rattle.proof_server.proofs.reply.conclude_line.Goals as goal
 
-pub returns-in_ok-ran-in-Ok-clause-name : goal.returns-in_ok-ran-in-Ok-clause-name
-returns-in_ok-ran-in-Ok-clause-name g c = job_named c.args.line.now c.in-Ok.field-0 c.requires.short c.in-Ok.ensures
+pub returns-in_ok-conclusion-in-Ok-clause-name : goal.returns-in_ok-conclusion-in-Ok-clause-name
+returns-in_ok-conclusion-in-Ok-clause-name g c = job_named c.args.line.now c.in-Ok.field-0 c.requires.short c.in-Ok.ensures
 
-pub returns-in_ok-ran-in-Ok-clause-concluded : goal.returns-in_ok-ran-in-Ok-clause-concluded
-returns-in_ok-ran-in-Ok-clause-concluded g c = λ earlier store.
+pub returns-in_ok-conclusion-in-Ok-clause-concluded : goal.returns-in_ok-conclusion-in-Ok-clause-concluded
+returns-in_ok-conclusion-in-Ok-clause-concluded g c = λ earlier store.
     let lookup = held_of earlier in
-    c.conclude.ensures _ (run_line lookup c.args.line.now)
-    (subst (λ (r : Run). Answers (graph_in c.run_job.new.store) c.in_ok-ran-in-Ok.ran r)
+    subst (λ (r : Run). IsConcluded (graph_in c.run_job.new.store) c.in_ok-conclusion-in-Ok.conclusion r)
     ((λ i. run_read lookup (Some (c.in_ok-text-in-Ok.ensures i)) (Ok c.in-Ok.field-0.op)) ∙ sym (job_run c.args.line.now lookup c.in-Ok.field-0 c.requires.short c.in-Ok.ensures))
-    (c.in_ok-ran-in-Ok.ensures.ran earlier store))
+    (c.in_ok-conclusion-in-Ok.ensures.ran earlier store)
 
 pub returns-in-Fault-clause-name : goal.returns-in-Fault-clause-name
 returns-in-Fault-clause-name g c =
@@ -26,6 +26,7 @@ returns-in-Fault-clause-name g c =
 
 pub returns-in-Fault-clause-concluded : goal.returns-in-Fault-clause-concluded
 returns-in-Fault-clause-concluded g c = λ earlier store.
-    c.conclude-in-Fault.ensures (graph_in c.args.store.now) (run_line (held_of earlier) c.args.line.now)
-    (fault_answers c.args.line.now (graph_in c.args.store.now) (held_of earlier) c.in-Fault.name c.in-Fault.cause c.requires.short
-    (subst (λ (error : JobError). GivesJob (Err error) (reads_job c.args.line.now)) c.in-Fault.is c.in-Err.ensures))
+    subst (λ (r : Run). IsConcluded (graph_in c.args.store.now) c.refusal.result r)
+    (sym (fault_run c.args.line.now (held_of earlier) c.in-Fault.name c.in-Fault.cause c.requires.short
+    (subst (λ (error : JobError). GivesJob (Err error) (reads_job c.args.line.now)) c.in-Fault.is c.in-Err.ensures)))
+    (c.refusal.ensures (graph_in c.args.store.now))

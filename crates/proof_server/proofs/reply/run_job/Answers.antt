@@ -1,3 +1,4 @@
+use Rattle.std.proofs.Common.{Result, Ok, Err, IfOk}
 use Rattle.proof_server.specs.Answers.{held_of}
 use Rattle.proof_server.specs.Means.{graph_in}
 use Rattle.proof_server.proofs.Taken.{taken, untaken}
@@ -5,8 +6,9 @@ use Rattle.proof_server.proofs.reply.run_job.Goals as goal
 
 pub returns-then-is_taken-clause-ran : goal.returns-then-is_taken-clause-ran
 returns-then-is_taken-clause-ran g c = λ earlier store.
-    taken (graph_in c.args.store.now) (held_of earlier) c.args.name.now c.args.op c.is_taken.result (c.is_taken.ensures (graph_in c.args.store.now) earlier store.known) c.if-is_taken.true
+    let graph = graph_in c.args.store.now in
+    taken graph (held_of earlier) c.args.name.now c.args.op.now c.is_taken.result (c.is_taken.ensures graph earlier store.known) c.refusal.result c.if-is_taken.true (c.refusal.ensures graph)
 
 pub returns-clause-ran : goal.returns-clause-ran
 returns-clause-ran g c = λ earlier store.
-    untaken _ (held_of earlier) c.args.name.now c.args.op c.is_taken.result (c.is_taken.ensures _ earlier store.known) c.in_ok-ran.ran c.if-is_taken.false (c.in_ok-ran.ensures.ran earlier store)
+    untaken _ (held_of earlier) c.args.name.now c.args.op.now c.is_taken.result (c.is_taken.ensures _ earlier store.known) c.in_ok-conclusion.conclusion c.if-is_taken.false (c.in_ok-conclusion.ensures.ran earlier store)

@@ -1,33 +1,29 @@
--- What the operation that was matched comes to.
-use Rattle.std.proofs.Common.{ℕ, List, IfOk, sym, subst}
-use Rattle.substitution.specs.Maps.{Map}
-use Rattle.refutations.specs.declared.step.ResStep.{ResStep}
-use Rattle.job_lang.specs.declared.jobs.Op.{Op}
-use Rattle.job_lang.specs.declared.jobs.Op.TheVariants.{Subst, Cutelim, Resolution}
+use Rattle.std.proofs.Common.{List, length, sym, ap, ◌∙◌, subst}
+use Rattle.std.specs.List.{All}
+use Rattle.proof_server.specs.declared.held.Held.{Held}
 use Rattle.proof_server.specs.Operations.{run}
 use Rattle.proof_server.specs.Answers.{held_of}
-use Rattle.proof_server.specs.Means.{Answers, graph_in}
+use Rattle.proof_server.specs.Means.{graph_in}
+use Rattle.proof_server.specs.Given.{names_in, AreGiven, Fits}
+use Rattle.proof_server.proofs.HeldProblems.{holds_problems}
+use Rattle.proof_server.proofs.HeldRuns.{run_held}
+use Rattle.proof_server.proofs.Giving.{values_fit, values_count}
 use Rattle.proof_server.proofs.store.Store.run.Goals as goal
 
-pub returns-in-Subst-clause-ran : goal.returns-in-Subst-clause-ran
-returns-in-Subst-clause-ran g c = λ earlier store.
-    subst (λ (op : Op). IfOk c.substitute_named.result (λ ran. Answers (graph_in c.substitute_named.new.self) ran (run (held_of earlier) op))) (sym c.in-Subst.is)
-    (subst (λ (m : Map). IfOk c.substitute_named.result (λ ran. Answers (graph_in c.substitute_named.new.self) ran (run (held_of earlier) (Subst c.in-Subst.proof m)))) c.as_subst.ensures.map
-    (c.substitute_named.ensures.ran earlier store))
+pub answer-requires-clause-count : goal.answer-requires-clause-count
+answer-requires-clause-count g c =
+    let earlier = c.requires.0 in
+    ap (λ (hs : List Held). length hs) c.deref.ensures.value
+    ∙ values_count (graph_in c.args.self.now) (held_of earlier) (names_in c.args.op.now) c.in_ok-given.given.items (c.in_ok-given.ensures earlier c.requires.1)
 
-pub returns-in-Cutelim-clause-ran : goal.returns-in-Cutelim-clause-ran
-returns-in-Cutelim-clause-ran g c = λ earlier store.
-    subst (λ (op : Op). IfOk c.eliminate_named.result (λ ran. Answers (graph_in c.eliminate_named.new.self) ran (run (held_of earlier) op))) (sym c.in-Cutelim.is)
-    (subst (λ (n : ℕ). IfOk c.eliminate_named.result (λ ran. Answers (graph_in c.eliminate_named.new.self) ran (run (held_of earlier) (Cutelim c.in-Cutelim.proof n)))) c.get.ensures.value
-    (c.eliminate_named.ensures.ran earlier store))
+pub answer-requires-clause-fits : goal.answer-requires-clause-fits
+answer-requires-clause-fits g c =
+    let earlier = c.requires.0 in
+    subst (λ (hs : List Held). All (Fits (graph_in c.args.self.now)) hs) (sym c.deref.ensures.value)
+    (values_fit (graph_in c.args.self.now) (held_of earlier) (names_in c.args.op.now) c.in_ok-given.given.items (holds_problems earlier) (c.in_ok-given.ensures earlier c.requires.1))
 
-pub returns-in-Resolution-clause-ran : goal.returns-in-Resolution-clause-ran
-returns-in-Resolution-clause-ran g c = λ earlier store.
-    subst (λ (op : Op). IfOk c.refute_named.result (λ ran. Answers (graph_in c.refute_named.new.self) ran (run (held_of earlier) op))) (sym c.in-Resolution.is)
-    (subst (λ (steps : List ResStep). IfOk c.refute_named.result (λ ran. Answers (graph_in c.refute_named.new.self) ran (run (held_of earlier) (Resolution c.in-Resolution.problem steps))))
-    c.as_slice-in-Resolution.ensures.steps
-    (c.refute_named.ensures.ran earlier store))
-
-pub returns-in-Proves-clause-ran : goal.returns-in-Proves-clause-ran
-returns-in-Proves-clause-ran g c = λ earlier store.
-    subst (λ (op : Op). IfOk c.prove_named.result (λ ran. Answers (graph_in c.args.self.now) ran (run (held_of earlier) op))) (sym c.in-Proves.is) (c.prove_named.ensures earlier store)
+pub returns-clause-ran : goal.returns-clause-ran
+returns-clause-ran g c = λ earlier store.
+    c.conclude.ensures (graph_in c.args.self.now) (run (held_of earlier) c.args.op.now) (run_held (held_of earlier) c.args.op.now)
+    (c.answer.ensures.answered (held_of earlier)
+    (subst (λ (hs : List Held). AreGiven (graph_in c.args.self.now) (held_of earlier) (names_in c.args.op.now) hs) (sym c.deref.ensures.value) (c.in_ok-given.ensures earlier store)))
