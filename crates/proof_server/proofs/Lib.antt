@@ -1,4 +1,3 @@
-pub mod Found
 pub mod Giving
 pub mod HeldRuns
 pub mod Answered

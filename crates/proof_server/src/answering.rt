@@ -271,7 +271,7 @@ fn run_given<R: Wait>(
 /// the job holds.
 ///
 /// A value that has a fault is refused, the first such value alone: at `Unknown` by `UnknownName`, and by `Kind` at another kind of value
-/// than the field takes, or at any value where the text has the suffix `.first` or `.second`. Where no value has a fault and one is `Unheld`,
+/// than the field takes, or at any where the text has the suffix `.first` or `.second`. `Unheld` is no fault: where no value has one and one is `Unheld`,
 /// the answer is `Outcome::Memory` with `Held::Unheld`, as it is where memory runs out in the operation. Each refusal holds `Held::Refused`.
 /// Where there is no memory for the name that a refusal shows, the answer is `Outcome::Memory` with `Held::Refused`, which is the answer in
 /// no other case.

@@ -7,7 +7,6 @@ use std::process::Abort;
 use std::sync::Wait;
 use std::test::Fail;
 
-mod answers;
 mod eliminations;
 mod ends;
 mod lines;
