@@ -6,6 +6,3 @@ mod numbers;
 mod reading;
 
 pub use reading::{Settings, WordsError, read_words};
-
-#[cfg(test)]
-mod tests;

@@ -108,5 +108,5 @@ pub(crate) fn above<R: Wait>(
     laws::faultless_inferences();
     let Moved { rule, premises } = moved_to(rt, alloc, bench, pass, end, cut.premise)?;
     let cuts = cuts_above(rt, alloc, bench, pass, cut, &rule, &premises)?;
-    infer(rt, alloc, bench, pass, rule, end.copy(alloc)?, &cuts)
+    infer(rt, alloc, bench, pass, rule, end.copy()?, &cuts)
 }

@@ -100,10 +100,10 @@ fn split_left<R: Wait>(
     ensures grown { IsPrefix (history (pass_in pass.old)) (history (pass_in pass.new)) }
     ensures pass_stays { IsBenchPassOf bench.now pass.new }
 {
-    let mut upper_end = cut.end.copy(alloc)?;
+    let mut upper_end = cut.end.copy()?;
     upper_end.add(Side::Right, cut.formula.copy()?)?;
     let upper = pass_left(rt, alloc, bench, pass, &upper_end, cut)?;
-    let end = cut.end.copy(alloc)?;
+    let end = cut.end.copy()?;
     cut_over(rt, alloc, bench, pass, end, cut.formula, &upper, cut.right)
 }
 
@@ -125,10 +125,10 @@ fn split_right<R: Wait>(
     ensures grown { IsPrefix (history (pass_in pass.old)) (history (pass_in pass.new)) }
     ensures pass_stays { IsBenchPassOf bench.now pass.new }
 {
-    let mut upper_end = cut.end.copy(alloc)?;
+    let mut upper_end = cut.end.copy()?;
     upper_end.add(Side::Left, cut.formula.copy()?)?;
     let upper = pass_right(rt, alloc, bench, pass, &upper_end, cut)?;
-    let end = cut.end.copy(alloc)?;
+    let end = cut.end.copy()?;
     cut_over(rt, alloc, bench, pass, end, cut.formula, cut.left, &upper)
 }
 

@@ -79,7 +79,7 @@ pub(crate) fn weakening<R: Wait>(
     ensures grown { IsPrefix (history (pass_in pass.old)) (history (pass_in pass.new)) }
     ensures pass_stays { IsBenchPassOf bench.now pass.new }
 {
-    let end = end.copy(alloc)?;
+    let end = end.copy()?;
     let premises = [premise.keep()?];
     infer(rt, alloc, bench, pass, Rule::Weak, end, &premises)
 }
@@ -101,6 +101,6 @@ pub(crate) fn leaf<R: Wait>(
     ensures pass_stays { IsBenchPassOf bench.now pass.new }
 {
     let rule = rule.copy()?;
-    let end = end.copy(alloc)?;
+    let end = end.copy()?;
     infer(rt, alloc, bench, pass, rule, end, &[])
 }

@@ -12,8 +12,3 @@ mod steps;
 
 pub use contraction::{contract, contract_over};
 pub use steps::Steps;
-
-#[cfg(test)]
-mod samples;
-#[cfg(test)]
-mod tests;

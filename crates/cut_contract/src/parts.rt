@@ -64,7 +64,7 @@ fn unchanged<R: Wait>(
     ensures grown { IsPrefix (history (pass_in pass.old)) (history (pass_in pass.new)) }
     ensures pass_stays { IsBenchPassOf bench.now pass.new }
 {
-    let end = cut.end.copy(alloc)?;
+    let end = cut.end.copy()?;
     cut_over(
         rt,
         alloc,
@@ -102,7 +102,7 @@ fn cut_negation<R: Wait>(
     let Some(above_right) = only_premise(cut.right) else {
         return unchanged(rt, alloc, bench, pass, cut);
     };
-    let end = cut.end.copy(alloc)?;
+    let end = cut.end.copy()?;
     cut_over(rt, alloc, bench, pass, end, body, above_right, above_left)
 }
 
@@ -133,7 +133,7 @@ fn cut_conjunction<R: Wait>(
     let Some(above_right) = only_premise(cut.right) else {
         return unchanged(rt, alloc, bench, pass, cut);
     };
-    let mut upper_end = cut.end.copy(alloc)?;
+    let mut upper_end = cut.end.copy()?;
     upper_end.add(Side::Left, first.copy()?)?;
     let upper = cut_over(
         rt,
@@ -145,7 +145,7 @@ fn cut_conjunction<R: Wait>(
         second_left,
         above_right,
     )?;
-    let end = cut.end.copy(alloc)?;
+    let end = cut.end.copy()?;
     cut_over(rt, alloc, bench, pass, end, first, first_left, &upper)
 }
 
@@ -176,7 +176,7 @@ fn cut_disjunction<R: Wait>(
     let Some((first_right, second_right)) = both_premises(cut.right) else {
         return unchanged(rt, alloc, bench, pass, cut);
     };
-    let mut upper_end = cut.end.copy(alloc)?;
+    let mut upper_end = cut.end.copy()?;
     upper_end.add(Side::Right, second.copy()?)?;
     let upper = cut_over(
         rt,
@@ -188,7 +188,7 @@ fn cut_disjunction<R: Wait>(
         above_left,
         first_right,
     )?;
-    let end = cut.end.copy(alloc)?;
+    let end = cut.end.copy()?;
     cut_over(rt, alloc, bench, pass, end, second, &upper, second_right)
 }
 
@@ -219,7 +219,7 @@ fn cut_implication<R: Wait>(
     let Some((first_right, second_right)) = both_premises(cut.right) else {
         return unchanged(rt, alloc, bench, pass, cut);
     };
-    let mut upper_end = cut.end.copy(alloc)?;
+    let mut upper_end = cut.end.copy()?;
     upper_end.add(Side::Right, second.copy()?)?;
     let upper = cut_over(
         rt,
@@ -231,7 +231,7 @@ fn cut_implication<R: Wait>(
         first_right,
         above_left,
     )?;
-    let end = cut.end.copy(alloc)?;
+    let end = cut.end.copy()?;
     cut_over(rt, alloc, bench, pass, end, second, &upper, second_right)
 }
 
@@ -272,7 +272,7 @@ fn cut_universal<R: Wait>(
     let formula = instance(alloc, body, term)?;
     let map = only(alloc, variable, term.copy()?)?;
     let left = substitute(rt, alloc, bench, pass, above_left, &map)?;
-    let end = cut.end.copy(alloc)?;
+    let end = cut.end.copy()?;
     cut_over(rt, alloc, bench, pass, end, &formula, &left, above_right)
 }
 
@@ -313,7 +313,7 @@ fn cut_existential<R: Wait>(
     let formula = instance(alloc, body, term)?;
     let map = only(alloc, variable, term.copy()?)?;
     let right = substitute(rt, alloc, bench, pass, above_right, &map)?;
-    let end = cut.end.copy(alloc)?;
+    let end = cut.end.copy()?;
     cut_over(rt, alloc, bench, pass, end, &formula, above_left, &right)
 }
 

@@ -67,7 +67,7 @@ fn rebuilt<R: Wait>(
     let graph = bench.graph();
     let root = graph.get(proof);
     let rule = root.rule.copy()?;
-    let end = root.end.copy(alloc)?;
+    let end = root.end.copy()?;
     graph.intern(rt, alloc, Bench::graph_pass(pass), rule, end, premises)
 }
 

@@ -11,8 +11,3 @@ pub use desk::{Desk, DeskPass};
 pub use elimination::eliminate;
 pub use fault::ElimFault;
 pub use table::Reduced;
-
-#[cfg(test)]
-mod samples;
-#[cfg(test)]
-mod tests;

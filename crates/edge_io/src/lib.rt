@@ -16,6 +16,3 @@ pub use never::{NeverSink, NeverSource};
 pub use next::{Next, next_line};
 pub use reader::LineReader;
 pub use std_ends::{StdSink, StdSource};
-
-#[cfg(test)]
-mod tests;

@@ -1,3 +1,5 @@
 pub mod OrderTies
 pub mod FormedDepth
 pub mod NumberedTexts
+pub mod Fingerprints
+pub mod KeyTies

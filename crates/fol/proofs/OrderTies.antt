@@ -13,7 +13,7 @@ use Rattle.fol.specs.Order.{text_cmp, sym_cmp, var_cmp, term_cmp, terms_cmp, for
 use Rattle.fol.specs.OrderLaws.{text_total, sym_total, var_total, term_total, terms_total, formula_total}
 
 -- two comparisons in a row tie only where both do
-then_ties : (a b : Ordering) → ordering_then a b ≡ Equal → (a ≡ Equal) × (b ≡ Equal)
+pub then_ties : (a b : Ordering) → ordering_then a b ≡ Equal → (a ≡ Equal) × (b ≡ Equal)
 then_ties Less b h = cc
 then_ties Equal b h = (refl, h)
 then_ties Greater b h = cc

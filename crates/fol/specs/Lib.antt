@@ -1,7 +1,10 @@
 pub mod Syntax
 pub mod Codes
 pub mod Shown
+pub mod Mixing
+pub mod Facts
 pub mod Order
 pub mod OrderLaws
+pub mod Keys
 pub mod Numbered
 pub mod Formed

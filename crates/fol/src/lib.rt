@@ -4,18 +4,19 @@
 //! quantifiers between it and its own. Names are shared texts of bytes.
 #![tactic(auto)]
 
+mod facts;
 mod formed;
+mod keys;
 mod numerals;
 mod order;
 mod symbols;
 mod syntax;
 mod texts;
 
+pub use facts::mix;
 pub use formed::{well_formed, well_formed_sym, well_formed_term, well_formed_var};
+pub use keys::{FormulaKey, TermKey};
 pub use numerals::numbered;
 pub use symbols::{Sym, Var};
 pub use syntax::{Formula, FormulaNode, Term, TermNode, Terms, TermsLink};
 pub use texts::Text;
-
-#[cfg(test)]
-mod tests;

@@ -1,4 +1,5 @@
-//! The order of texts, symbols, variables, terms and formulas. It is total, only equal values tie, and `==` is equality.
+//! The order of texts, symbols, variables, terms and formulas. It is total, only equal values tie, and `==` is equality: it looks at
+//! fingerprints first, so that unequal values mostly cost one look.
 ghost use Rattle.std.specs.Prelude.{◌≡◌, ◌↔◌, IsTrue, refl};
 ghost use Rattle.std.specs.Ordering.{eq_by_cmp, as_partial_cmp};
 ghost use Rattle.std.specs.Cmp.{partial_equiv_from_equiv, partial_order_from_total};
@@ -17,12 +18,15 @@ impl PartialEq for Text {
 
     ghost laws = { partial_equiv_from_equiv (eq_by_cmp_equiv text_total) };
 
-    #[tactic(auto, using(crate::proofs::OrderTies::text_equality_same))]
+    #[tactic(auto, using(crate::proofs::OrderTies::text_equality_same, crate::proofs::Fingerprints::text_apart, crate::proofs::Fingerprints::text_equal))]
     fn eq(&self, other: &Text) -> bool
         ensures value { result ≡ eq_by_cmp text_cmp self.now other.now }
         ensures same { IsTrue result ↔ (self.now ≡ other.now) }
     {
-        self.cmp(other).is_eq()
+        if self.fingerprint() != other.fingerprint() {
+            return false;
+        }
+        self.as_bytes() == other.as_bytes()
     }
 }
 
@@ -64,12 +68,12 @@ impl PartialEq for Sym {
 
     ghost laws = { partial_equiv_from_equiv (eq_by_cmp_equiv sym_total) };
 
-    #[tactic(auto, using(crate::proofs::OrderTies::sym_equality_same))]
+    #[tactic(auto, using(crate::proofs::OrderTies::sym_equality_same, crate::proofs::Fingerprints::sym_equal))]
     fn eq(&self, other: &Sym) -> bool
         ensures value { result ≡ eq_by_cmp sym_cmp self.now other.now }
         ensures same { IsTrue result ↔ (self.now ≡ other.now) }
     {
-        self.cmp(other).is_eq()
+        self.arity == other.arity && self.name == other.name
     }
 }
 
@@ -118,7 +122,7 @@ impl PartialEq for Var {
         ensures value { result ≡ eq_by_cmp var_cmp self.now other.now }
         ensures same { IsTrue result ↔ (self.now ≡ other.now) }
     {
-        self.cmp(other).is_eq()
+        are_vars_equal(self, other)
     }
 }
 
@@ -165,11 +169,14 @@ impl PartialEq for Term {
 
     ghost laws = { partial_equiv_from_equiv (eq_by_cmp_equiv term_total) };
 
-    #[tactic(auto, using(crate::proofs::OrderTies::term_equality_same))]
+    #[tactic(auto, using(crate::proofs::OrderTies::term_equality_same, crate::proofs::Fingerprints::term_apart))]
     fn eq(&self, other: &Term) -> bool
         ensures value { result ≡ eq_by_cmp term_cmp self.now other.now }
         ensures same { IsTrue result ↔ (self.now ≡ other.now) }
     {
+        if self.fingerprint() != other.fingerprint() {
+            return false;
+        }
         self.cmp(other).is_eq()
     }
 }
@@ -212,11 +219,14 @@ impl PartialEq for Terms {
 
     ghost laws = { partial_equiv_from_equiv (eq_by_cmp_equiv terms_total) };
 
-    #[tactic(auto, using(crate::proofs::OrderTies::terms_equality_same))]
+    #[tactic(auto, using(crate::proofs::OrderTies::terms_equality_same, crate::proofs::Fingerprints::terms_apart))]
     fn eq(&self, other: &Terms) -> bool
         ensures value { result ≡ eq_by_cmp terms_cmp self.now other.now }
         ensures same { IsTrue result ↔ (self.now ≡ other.now) }
     {
+        if self.fingerprint() != other.fingerprint() {
+            return false;
+        }
         self.cmp(other).is_eq()
     }
 }
@@ -259,11 +269,14 @@ impl PartialEq for Formula {
 
     ghost laws = { partial_equiv_from_equiv (eq_by_cmp_equiv formula_total) };
 
-    #[tactic(auto, using(crate::proofs::OrderTies::formula_equality_same))]
+    #[tactic(auto, using(crate::proofs::OrderTies::formula_equality_same, crate::proofs::Fingerprints::formula_apart))]
     fn eq(&self, other: &Formula) -> bool
         ensures value { result ≡ eq_by_cmp formula_cmp self.now other.now }
         ensures same { IsTrue result ↔ (self.now ≡ other.now) }
     {
+        if self.fingerprint() != other.fingerprint() {
+            return false;
+        }
         self.cmp(other).is_eq()
     }
 }
@@ -298,6 +311,17 @@ impl Ord for Formula {
         ensures ties { (result ≡ Ordering.Equal) ↔ (self.now ≡ other.now) }
     {
         compare_formulas(self, other)
+    }
+}
+
+#[tactic(auto, using(crate::proofs::Fingerprints::nat_equal))]
+fn are_vars_equal(a: &Var, b: &Var) -> bool
+    ensures { result ≡ eq_by_cmp var_cmp a.now b.now }
+{
+    match (a, b) {
+        (Var::Word(x), Var::Word(y)) => x == y,
+        (Var::Num(m), Var::Num(n)) => m == n,
+        _ => false,
     }
 }
 

@@ -1,6 +1,8 @@
 //! Symbols and free variables.
 ghost use Rattle.std.specs.Prelude.{◌≡◌, IfOk};
+ghost use Rattle.fol.specs.Facts.{sym_fingerprint, var_fingerprint};
 
+use crate::facts::mix;
 use crate::texts::Text;
 use std::alloc::AllocError;
 
@@ -20,6 +22,14 @@ pub enum Var {
 }
 
 impl Sym {
+    /// A number in which unequal symbols mostly differ, without a walk over the name.
+    #[tactic(auto, unfolding(crate::specs::Facts::sym_fingerprint))]
+    pub fn fingerprint(&self) -> u64
+        ensures { result ≡ sym_fingerprint self.now }
+    {
+        mix(mix(16, self.name.fingerprint()), u64::from(self.arity))
+    }
+
     /// The same symbol, whose name is shared.
     pub fn copy(&self) -> Result<Sym, AllocError>
         ensures { IfOk result (λ s. s ≡ self.now) }
@@ -33,6 +43,17 @@ impl Sym {
 }
 
 impl Var {
+    /// A number in which unequal variables mostly differ, without a walk over the word.
+    #[tactic(auto, unfolding(crate::specs::Facts::var_fingerprint))]
+    pub fn fingerprint(&self) -> u64
+        ensures { result ≡ var_fingerprint self.now }
+    {
+        match self {
+            Var::Word(text) => mix(17, text.fingerprint()),
+            Var::Num(number) => mix(18, *number),
+        }
+    }
+
     /// The same variable, whose word is shared.
     pub fn copy(&self) -> Result<Var, AllocError>
         ensures { IfOk result (λ v. v ≡ self.now) }

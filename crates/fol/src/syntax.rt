@@ -1,18 +1,32 @@
-//! Terms, lists of terms and formulas, with shared nodes.
-ghost use Rattle.std.specs.Prelude.{◌≡◌, IfOk};
+//! Terms, lists of terms and formulas, with shared nodes that keep facts of what stands below them.
+//!
+//! As a tree none of them has more than 2^26 nodes. What would have more is refused as want of memory where it is made, since a walk
+//! over a formula that sharing keeps small, as over deeply nested equivalences, would otherwise go on for hours.
+ghost use Rattle.std.specs.Prelude.{◌≡◌, ◌+◌, ◌≤◌, ◌^◌, ◌||◌, max, IfOk};
 ghost use Rattle.fol.specs.Syntax.{free, bound, app, nil, cons, atom, top, bot, not, and, or, imp, all, ex};
 ghost use Rattle.fol.specs.Shown.{term_of, terms_of, formula_of};
+ghost use Rattle.fol.specs.Facts.{term_size, terms_size, formula_size, is_term_open, are_terms_open, is_open, term_dangling, terms_dangling, formula_dangling, term_fingerprint, terms_fingerprint, formula_fingerprint, AreFacts, AreTermFacts, AreTermsFacts, AreFormulaFacts};
+ghost use Rattle.fol.specs.Mixing.{mixed};
 
+use crate::facts::{Facts, MAX_SIZE, mix};
 use crate::symbols::{Sym, Var};
 use std::alloc::{AllocError, Global};
 use std::marker::Model;
 use std::sync::Arc;
 
-/// A term.
+/// A term, of at most 2^26 nodes as a tree.
 #[cycle(term)]
 #[derive(Debug)]
 pub struct Term {
-    node: Arc<TermNode>,
+    cell: Arc<TermCell>,
+}
+
+// The root of a term with the facts of the whole.
+#[cycle(term)]
+#[derive(Drop, Debug)]
+struct TermCell {
+    facts: Facts,
+    node: TermNode,
 }
 
 /// What stands at the root of a term.
@@ -27,11 +41,19 @@ pub enum TermNode {
     App(Sym, Terms),
 }
 
-/// A list of terms, the arguments of a symbol.
+/// A list of terms, the arguments of a symbol, of at most 2^26 nodes as a tree.
 #[cycle(term)]
 #[derive(Debug)]
 pub struct Terms {
-    link: Arc<TermsLink>,
+    cell: Arc<TermsCell>,
+}
+
+// The root of a list with the facts of the whole.
+#[cycle(term)]
+#[derive(Drop, Debug)]
+struct TermsCell {
+    facts: Facts,
+    link: TermsLink,
 }
 
 /// How a list of terms begins.
@@ -42,11 +64,19 @@ pub enum TermsLink {
     Cons(Term, Terms),
 }
 
-/// A formula.
+/// A formula, of at most 2^26 nodes as a tree.
 #[cycle(formula)]
 #[derive(Debug)]
 pub struct Formula {
-    node: Arc<FormulaNode>,
+    cell: Arc<FormulaCell>,
+}
+
+// The root of a formula with the facts of the whole.
+#[cycle(formula)]
+#[derive(Drop, Debug)]
+struct FormulaCell {
+    facts: Facts,
+    node: FormulaNode,
 }
 
 /// What stands at the root of a formula. The body of a quantifier has the quantified variable as `Bound(0)`.
@@ -72,10 +102,14 @@ impl Model for Term {
 
     ghost coded = { coded_term };
 
+    ghost use Rattle.std.specs.Prelude.{◌≤◌, ◌^◌};
     ghost use Rattle.fol.specs.Syntax.{term_nodes};
     ghost use Rattle.fol.specs.Shown.{term_of};
+    ghost use Rattle.fol.specs.Facts.{AreTermFacts};
 
-    ghost view = { λ t. term_of t.node.value };
+    ghost view = { λ t. term_of t.cell.value.node };
+
+    ghost invariant = { λ t. AreTermFacts t.cell.value.facts (term_of t.cell.value.node) × (t.cell.value.facts.size ≤ 2 ^ 26) };
 
     ghost size = { term_nodes };
 }
@@ -88,10 +122,14 @@ impl Model for Terms {
 
     ghost coded = { coded_terms };
 
+    ghost use Rattle.std.specs.Prelude.{◌≤◌, ◌^◌};
     ghost use Rattle.fol.specs.Syntax.{terms_nodes};
     ghost use Rattle.fol.specs.Shown.{terms_of};
+    ghost use Rattle.fol.specs.Facts.{AreTermsFacts};
 
-    ghost view = { λ ts. terms_of ts.link.value };
+    ghost view = { λ ts. terms_of ts.cell.value.link };
+
+    ghost invariant = { λ ts. AreTermsFacts ts.cell.value.facts (terms_of ts.cell.value.link) × (ts.cell.value.facts.size ≤ 2 ^ 26) };
 
     ghost size = { terms_nodes };
 }
@@ -104,10 +142,14 @@ impl Model for Formula {
 
     ghost coded = { coded_formula };
 
+    ghost use Rattle.std.specs.Prelude.{◌≤◌, ◌^◌};
     ghost use Rattle.fol.specs.Syntax.{formula_nodes};
     ghost use Rattle.fol.specs.Shown.{formula_of};
+    ghost use Rattle.fol.specs.Facts.{AreFormulaFacts};
 
-    ghost view = { λ f. formula_of f.node.value };
+    ghost view = { λ f. formula_of f.cell.value.node };
+
+    ghost invariant = { λ f. AreFormulaFacts f.cell.value.facts (formula_of f.cell.value.node) × (f.cell.value.facts.size ≤ 2 ^ 26) };
 
     ghost size = { formula_nodes };
 }
@@ -115,33 +157,38 @@ impl Model for Formula {
 impl Drop for Term {
     #[cycle(term_drop)]
     fn drop(self) {
-        let Term { node } = self;
-        drop(node);
+        let Term { cell } = self;
+        drop(cell);
     }
 }
 
 impl Drop for Terms {
     #[cycle(term_drop)]
     fn drop(self) {
-        let Terms { link } = self;
-        drop(link);
+        let Terms { cell } = self;
+        drop(cell);
     }
 }
 
 impl Drop for Formula {
     #[cycle(formula_drop)]
     fn drop(self) {
-        let Formula { node } = self;
-        drop(node);
+        let Formula { cell } = self;
+        drop(cell);
     }
 }
 
 impl Term {
+    // Refuses what has more than `MAX_SIZE` nodes as a tree.
     fn of(alloc: Global, node: TermNode) -> Result<Term, AllocError>
         ensures { IfOk result (λ t. t ≡ term_of node) }
     {
-        let node = Arc::new(alloc, node)?;
-        Ok(Term { node })
+        let facts = term_facts(&node);
+        if facts.size > MAX_SIZE {
+            return Err(AllocError);
+        }
+        let cell = Arc::new(alloc, TermCell { facts, node })?;
+        Ok(Term { cell })
     }
 
     /// The free variable as a term.
@@ -169,24 +216,65 @@ impl Term {
     pub fn node(&self) -> &TermNode
         ensures { term_of result.now ≡ self.now }
     {
-        &self.node
+        &self.cell.node
+    }
+
+    /// The number of nodes of the term as a tree.
+    pub fn size(&self) -> u32
+        ensures size { result ≡ term_size self.now }
+        ensures within { result ≤ 2 ^ 26 }
+    {
+        self.cell.facts.size
+    }
+
+    /// Whether a variable stands in the term.
+    pub fn has_free(&self) -> bool
+        ensures { result ≡ is_term_open self.now }
+    {
+        self.cell.facts.has_free
+    }
+
+    /// The least number that is above each index in the term.
+    pub fn dangling(&self) -> u64
+        ensures { result ≡ term_dangling self.now }
+    {
+        self.cell.facts.dangling
+    }
+
+    /// A number in which unequal terms mostly differ.
+    pub fn fingerprint(&self) -> u64
+        ensures { result ≡ term_fingerprint self.now }
+    {
+        self.cell.facts.fingerprint
+    }
+
+    fn facts(&self) -> Facts
+        ensures facts { AreTermFacts result self.now }
+        ensures within { result.size ≤ 2 ^ 26 }
+    {
+        self.cell.facts
     }
 
     /// Another owner of the same nodes.
     pub fn copy(&self) -> Result<Term, AllocError>
         ensures { IfOk result (λ t. t ≡ self.now) }
     {
-        let node = Arc::try_clone(&self.node)?;
-        Ok(Term { node })
+        let cell = Arc::try_clone(&self.cell)?;
+        Ok(Term { cell })
     }
 }
 
 impl Terms {
+    // Refuses what has more than `MAX_SIZE` nodes as a tree.
     fn of(alloc: Global, link: TermsLink) -> Result<Terms, AllocError>
         ensures { IfOk result (λ ts. ts ≡ terms_of link) }
     {
-        let link = Arc::new(alloc, link)?;
-        Ok(Terms { link })
+        let facts = terms_facts(&link);
+        if facts.size > MAX_SIZE {
+            return Err(AllocError);
+        }
+        let cell = Arc::new(alloc, TermsCell { facts, link })?;
+        Ok(Terms { cell })
     }
 
     /// The list of no term.
@@ -207,24 +295,65 @@ impl Terms {
     pub fn link(&self) -> &TermsLink
         ensures { terms_of result.now ≡ self.now }
     {
-        &self.link
+        &self.cell.link
+    }
+
+    /// The number of nodes of the list as a tree.
+    pub fn size(&self) -> u32
+        ensures size { result ≡ terms_size self.now }
+        ensures within { result ≤ 2 ^ 26 }
+    {
+        self.cell.facts.size
+    }
+
+    /// Whether a variable stands in the list.
+    pub fn has_free(&self) -> bool
+        ensures { result ≡ are_terms_open self.now }
+    {
+        self.cell.facts.has_free
+    }
+
+    /// The least number that is above each index in the list.
+    pub fn dangling(&self) -> u64
+        ensures { result ≡ terms_dangling self.now }
+    {
+        self.cell.facts.dangling
+    }
+
+    /// A number in which unequal lists mostly differ.
+    pub fn fingerprint(&self) -> u64
+        ensures { result ≡ terms_fingerprint self.now }
+    {
+        self.cell.facts.fingerprint
+    }
+
+    fn facts(&self) -> Facts
+        ensures facts { AreTermsFacts result self.now }
+        ensures within { result.size ≤ 2 ^ 26 }
+    {
+        self.cell.facts
     }
 
     /// Another owner of the same list.
     pub fn copy(&self) -> Result<Terms, AllocError>
         ensures { IfOk result (λ ts. ts ≡ self.now) }
     {
-        let link = Arc::try_clone(&self.link)?;
-        Ok(Terms { link })
+        let cell = Arc::try_clone(&self.cell)?;
+        Ok(Terms { cell })
     }
 }
 
 impl Formula {
+    // Refuses what has more than `MAX_SIZE` nodes as a tree.
     fn of(alloc: Global, node: FormulaNode) -> Result<Formula, AllocError>
         ensures { IfOk result (λ f. f ≡ formula_of node) }
     {
-        let node = Arc::new(alloc, node)?;
-        Ok(Formula { node })
+        let facts = formula_facts(&node);
+        if facts.size > MAX_SIZE {
+            return Err(AllocError);
+        }
+        let cell = Arc::new(alloc, FormulaCell { facts, node })?;
+        Ok(Formula { cell })
     }
 
     /// The atom of a predicate symbol with these arguments. Whether there are as many as its arity says is for `well_formed` to tell.
@@ -294,14 +423,114 @@ impl Formula {
     pub fn node(&self) -> &FormulaNode
         ensures { formula_of result.now ≡ self.now }
     {
-        &self.node
+        &self.cell.node
+    }
+
+    /// The number of nodes of the formula as a tree.
+    pub fn size(&self) -> u32
+        ensures size { result ≡ formula_size self.now }
+        ensures within { result ≤ 2 ^ 26 }
+    {
+        self.cell.facts.size
+    }
+
+    /// Whether a variable is free in the formula.
+    pub fn has_free(&self) -> bool
+        ensures { result ≡ is_open self.now }
+    {
+        self.cell.facts.has_free
+    }
+
+    /// How many of the quantifiers that may stand around the formula its indices reach: 0 where it uses none of them.
+    pub fn dangling(&self) -> u64
+        ensures { result ≡ formula_dangling self.now }
+    {
+        self.cell.facts.dangling
+    }
+
+    /// A number in which unequal formulas mostly differ.
+    pub fn fingerprint(&self) -> u64
+        ensures { result ≡ formula_fingerprint self.now }
+    {
+        self.cell.facts.fingerprint
+    }
+
+    fn facts(&self) -> Facts
+        ensures facts { AreFormulaFacts result self.now }
+        ensures within { result.size ≤ 2 ^ 26 }
+    {
+        self.cell.facts
     }
 
     /// Another owner of the same nodes.
     pub fn copy(&self) -> Result<Formula, AllocError>
         ensures { IfOk result (λ f. f ≡ self.now) }
     {
-        let node = Arc::try_clone(&self.node)?;
-        Ok(Formula { node })
+        let cell = Arc::try_clone(&self.cell)?;
+        Ok(Formula { cell })
     }
+}
+
+// Each kind of node begins its fingerprint with a number of its own.
+#[tactic(auto, unfolding(crate::specs::Facts::term_fingerprint))]
+fn term_facts(node: &TermNode) -> Facts
+    ensures { AreTermFacts result (term_of node.now) }
+{
+    match node {
+        TermNode::Free(var) => Facts {
+            size: 1,
+            has_free: true,
+            dangling: 0,
+            fingerprint: mix(1, var.fingerprint()),
+        },
+        TermNode::Bound(index) => Facts {
+            size: 1,
+            has_free: false,
+            dangling: u64::from(*index) + 1,
+            fingerprint: mix(2, u64::from(*index)),
+        },
+        TermNode::App(symbol, terms) => terms
+            .facts()
+            .on_top(mix(mix(3, symbol.fingerprint()), terms.fingerprint())),
+    }
+}
+
+#[tactic(auto, unfolding(crate::specs::Facts::terms_fingerprint))]
+fn terms_facts(link: &TermsLink) -> Facts
+    ensures { AreTermsFacts result (terms_of link.now) }
+{
+    match link {
+        TermsLink::Nil => Facts::leaf(mix(4, 0)),
+        TermsLink::Cons(term, terms) => {
+            let fingerprint = mix(mix(5, term.fingerprint()), terms.fingerprint());
+            term.facts().joined(terms.facts(), fingerprint)
+        }
+    }
+}
+
+#[tactic(auto, unfolding(crate::specs::Facts::formula_fingerprint))]
+fn formula_facts(node: &FormulaNode) -> Facts
+    ensures { AreFormulaFacts result (formula_of node.now) }
+{
+    match node {
+        FormulaNode::Atom(symbol, terms) => terms
+            .facts()
+            .on_top(mix(mix(6, symbol.fingerprint()), terms.fingerprint())),
+        FormulaNode::Top => Facts::leaf(mix(7, 0)),
+        FormulaNode::Bot => Facts::leaf(mix(8, 0)),
+        FormulaNode::Not(body) => body.facts().on_top(mix(9, body.fingerprint())),
+        FormulaNode::And(first, second) => joined(10, first, second),
+        FormulaNode::Or(first, second) => joined(11, first, second),
+        FormulaNode::Imp(first, second) => joined(12, first, second),
+        FormulaNode::All(body) => body.facts().bound(mix(13, body.fingerprint())),
+        FormulaNode::Ex(body) => body.facts().bound(mix(14, body.fingerprint())),
+    }
+}
+
+// The facts of a connective between two formulas.
+fn joined(kind: u64, first: &Formula, second: &Formula) -> Facts
+    ensures { AreFacts result (formula_size first.now + formula_size second.now + 1) (is_open first.now || is_open second.now) (max (formula_dangling first.now) (formula_dangling second.now)) (mixed (mixed kind (formula_fingerprint first.now)) (formula_fingerprint second.now)) }
+{
+    let fingerprint = mix(mix(kind, first.fingerprint()), second.fingerprint());
+    first.facts().joined(second.facts(), fingerprint)
 }

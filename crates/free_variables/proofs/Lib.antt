@@ -2,3 +2,4 @@ pub mod RisingLists
 pub mod OccurrenceLaws
 pub mod FreshVariables
 pub mod FormedMembers
+pub mod ShutLaws

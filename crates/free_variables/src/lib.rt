@@ -18,6 +18,3 @@ pub use sets::{free_vars, preds, term_vars};
 pub use syms::Syms;
 pub use texts::Texts;
 pub use vars::Vars;
-
-#[cfg(test)]
-mod tests;

@@ -6,9 +6,13 @@ use fol::{Formula, FormulaNode, Sym, Term, TermNode, Terms, TermsLink, Var};
 use std::alloc::AllocError;
 
 /// Whether the variable is free in the formula.
+#[tactic(auto, using(crate::proofs::ShutLaws::shut_free))]
 pub fn occurs_free(var: &Var, formula: &Formula) -> bool
     ensures { result ≡ is_free_in var.now formula.now }
 {
+    if !formula.has_free() {
+        return false;
+    }
     match formula.node() {
         FormulaNode::Atom(_, terms) => occurs_in_terms(var, terms),
         FormulaNode::Top | FormulaNode::Bot => false,
@@ -23,9 +27,13 @@ pub fn occurs_free(var: &Var, formula: &Formula) -> bool
 
 /// Whether the variable stands in the term.
 #[cycle(occurs)]
+#[tactic(auto, using(crate::proofs::ShutLaws::shut_free_term))]
 pub fn occurs_in_term(var: &Var, term: &Term) -> bool
     ensures { result ≡ is_free_in_term var.now term.now }
 {
+    if !term.has_free() {
+        return false;
+    }
     match term.node() {
         TermNode::Free(other) => var == other,
         TermNode::Bound(_) => false,
@@ -34,9 +42,13 @@ pub fn occurs_in_term(var: &Var, term: &Term) -> bool
 }
 
 #[cycle(occurs)]
+#[tactic(auto, using(crate::proofs::ShutLaws::shut_free_terms))]
 fn occurs_in_terms(var: &Var, terms: &Terms) -> bool
     ensures { result ≡ is_free_in_terms var.now terms.now }
 {
+    if !terms.has_free() {
+        return false;
+    }
     match terms.link() {
         TermsLink::Nil => false,
         TermsLink::Cons(term, rest) => occurs_in_term(var, term) || occurs_in_terms(var, rest),
@@ -44,9 +56,13 @@ fn occurs_in_terms(var: &Var, terms: &Terms) -> bool
 }
 
 /// Appends the free variables of the formula, from the left, one for each occurrence. After an error some of them may stand there.
+#[tactic(auto, using(crate::proofs::ShutLaws::shut_list))]
 pub fn push_free_vars(list: &mut Vec<Var>, formula: &Formula) -> Result<(), AllocError>
     ensures { IfOk result (λ _. list.new.items ≡ list.old.items ++ var_list formula.now) }
 {
+    if !formula.has_free() {
+        return Ok(());
+    }
     match formula.node() {
         FormulaNode::Atom(_, terms) => push_terms_vars(list, terms),
         FormulaNode::Top | FormulaNode::Bot => Ok(()),
@@ -64,9 +80,13 @@ pub fn push_free_vars(list: &mut Vec<Var>, formula: &Formula) -> Result<(), Allo
 
 /// Appends the variables of the term, from the left, one for each occurrence. After an error some of them may stand there.
 #[cycle(push_vars)]
+#[tactic(auto, using(crate::proofs::ShutLaws::shut_list_term))]
 pub fn push_term_vars(list: &mut Vec<Var>, term: &Term) -> Result<(), AllocError>
     ensures { IfOk result (λ _. list.new.items ≡ list.old.items ++ var_list_term term.now) }
 {
+    if !term.has_free() {
+        return Ok(());
+    }
     match term.node() {
         TermNode::Free(var) => {
             list.push(var.copy()?)?;
@@ -78,9 +98,13 @@ pub fn push_term_vars(list: &mut Vec<Var>, term: &Term) -> Result<(), AllocError
 }
 
 #[cycle(push_vars)]
+#[tactic(auto, using(crate::proofs::ShutLaws::shut_list_terms))]
 fn push_terms_vars(list: &mut Vec<Var>, terms: &Terms) -> Result<(), AllocError>
     ensures { IfOk result (λ _. list.new.items ≡ list.old.items ++ var_list_terms terms.now) }
 {
+    if !terms.has_free() {
+        return Ok(());
+    }
     match terms.link() {
         TermsLink::Nil => Ok(()),
         TermsLink::Cons(term, rest) => {

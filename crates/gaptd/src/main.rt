@@ -5,13 +5,17 @@ use edge_io::{StdSink, StdSource};
 use proof_server::{NoGate, top};
 use std::alloc::AllocError;
 use std::env;
-use std::io::{self, ErrorKind};
+use std::io::{self, BufWriter, ErrorKind};
 use std::process::ExitCode;
 use std::thread::{Builder, Promise};
 
 /// The bytes of stack that the server asks for, the most first. Formulas, terms and proofs may nest as deeply as a line of
 /// input is long, and the system gives memory only to the part of a stack that is used.
 const STACK_SIZES: [usize; 4] = [4 << 30, 1 << 30, 256 << 20, 64 << 20];
+
+/// The bytes of output that are gathered before they are written, unless they are flushed first: a call of the system for each reply would
+/// take longer than most jobs.
+const OUTPUT_SIZE: usize = 64 << 10;
 
 /// What is known of the status that the server's thread ends with: nothing.
 #[derive(Drop)]
@@ -49,7 +53,10 @@ fn main(rt: HostRuntime) -> ExitCode {
     };
     let alloc = rt.alloc();
     let mut source = StdSource::new(rt.stdin());
-    let mut sink = StdSink::new(rt.stdout());
+    let mut sink = match BufWriter::with_capacity(alloc, OUTPUT_SIZE, rt.stdout()) {
+        Ok(writer) => StdSink::new(writer),
+        Err(_) => return ExitCode::from(5),
+    };
     let mut notes = StdSink::new(rt.stderr());
     let mut serve = move || top(
         &rt,

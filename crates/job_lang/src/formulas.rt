@@ -12,13 +12,15 @@ use fol::{Formula, Term, Var};
 use lk_rules::Formulas;
 use serde_json::Value;
 use std::alloc::Global;
-use tptp_read::{TextError, read_formula, read_term};
+use text_tables::FormulaTexts;
+use tptp_read::{TextError, read_term};
 use tptp_tokens::read_variable;
 
 /// The formula of a text. No text of a line is as long as the reader's bound of 2^32 bytes, since no line is.
 #[tactic(auto, using(crate::proofs::Given::cause_given))]
 pub fn read_text(
     alloc: Global,
+    texts: &mut FormulaTexts,
     text: &str,
     place: Place,
     key: &str,
@@ -30,7 +32,7 @@ pub fn read_text(
     if text.len() >= 1 << 32 {
         return Err(ReadError::Memory);
     }
-    match read_formula(alloc, text.as_bytes()) {
+    match texts.read(alloc, text) {
         Ok(formula) => Ok(formula),
         Err(TextError::Memory) => Err(ReadError::Memory),
         Err(TextError::Text(fault)) => Err(text_fault(alloc, place, key, index, fault)),
@@ -40,6 +42,7 @@ pub fn read_text(
 /// The member that is a formula.
 pub fn formula_at(
     alloc: Global,
+    texts: &mut FormulaTexts,
     value: &Value,
     place: Place,
     key: &str,
@@ -48,7 +51,7 @@ pub fn formula_at(
     ensures formed { IfOk result IsFormed }
 {
     let text = text_at(alloc, value, place, key)?;
-    read_text(alloc, text, place, key, None)
+    read_text(alloc, texts, text, place, key, None)
 }
 
 /// The member that is a term.
@@ -85,6 +88,7 @@ pub fn variable_at(alloc: Global, value: &Value, place: Place, key: &str) -> Res
 #[tactic(auto, using(crate::proofs::Given::cause_given))]
 fn formula_of(
     alloc: Global,
+    texts: &mut FormulaTexts,
     value: &Value,
     place: Place,
     key: &str,
@@ -94,7 +98,7 @@ fn formula_of(
     ensures formed { IfOk result IsFormed }
 {
     match value.as_str() {
-        Some(text) => read_text(alloc, text, place, key, Some(index)),
+        Some(text) => read_text(alloc, texts, text, place, key, Some(index)),
         None => Err(field_fault(alloc, place, key, Some(index))),
     }
 }
@@ -102,6 +106,7 @@ fn formula_of(
 /// The formulas that the elements of a list are.
 fn each_formula(
     alloc: Global,
+    texts: &mut FormulaTexts,
     values: &[Value],
     place: Place,
     key: &str,
@@ -111,7 +116,7 @@ fn each_formula(
 {
     let mut formulas = Vec::new(alloc);
     for (index, value) in values.iter().enumerate() {
-        let formula = formula_of(alloc, value, place, key, index)?;
+        let formula = formula_of(alloc, texts, value, place, key, index)?;
         formulas.push(formula)?;
     }
     Ok(formulas)
@@ -119,20 +124,27 @@ fn each_formula(
 
 fn formulas_of(
     alloc: Global,
+    texts: &mut FormulaTexts,
     values: &[Value],
     place: Place,
     key: &str,
 ) -> Result<Formulas, ReadError>
     ensures { Gives (λ s. s) result (side_of place key.now (map view values.now)) }
 {
-    let formulas = each_formula(alloc, values, place, key)?;
-    Ok(Formulas::from_vec(formulas))
+    let formulas = each_formula(alloc, texts, values, place, key)?;
+    Ok(Formulas::from_vec(alloc, formulas)?)
 }
 
 /// The member that is a side of a sequent: a list of formulas. One that is written twice is in it once.
-pub fn side_at(alloc: Global, value: &Value, place: Place, key: &str) -> Result<Formulas, ReadError>
+pub fn side_at(
+    alloc: Global,
+    texts: &mut FormulaTexts,
+    value: &Value,
+    place: Place,
+    key: &str,
+) -> Result<Formulas, ReadError>
     ensures { Gives (λ s. s) result (side_member place key.now (view value.now)) }
 {
     let values = list_at(alloc, value, place, key)?;
-    formulas_of(alloc, values, place, key)
+    formulas_of(alloc, texts, values, place, key)
 }

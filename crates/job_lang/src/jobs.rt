@@ -15,10 +15,11 @@ use crate::steps::{Steps, steps_at};
 use crate::texts::Utf8Text;
 use serde_json::Value;
 use std::alloc::Global;
+use text_tables::FormulaTexts;
 use tptp_problem::Problem;
 
 /// What a job asks for.
-#[derive(Debug, Drop)]
+#[derive(Drop)]
 pub enum Op {
     /// The steps of a proof, to be checked.
     Lk { steps: Steps },
@@ -39,7 +40,7 @@ pub enum Op {
 }
 
 /// A job: what it asks for, under a name.
-#[derive(Debug, Drop)]
+#[derive(Drop)]
 pub struct Job {
     pub name: Name,
     pub op: Op,
@@ -80,19 +81,24 @@ fn cutelim_of(alloc: Global, value: &Value) -> Result<Op, ReadError>
     Ok(Op::Cutelim { proof, budget })
 }
 
-fn resolution_of(alloc: Global, value: &Value) -> Result<Op, ReadError>
+fn resolution_of(alloc: Global, texts: &mut FormulaTexts, value: &Value) -> Result<Op, ReadError>
     ensures { Gives (λ op. op) result (resolution_data (view value.now)) }
 {
     let problem = written_at(alloc, value, Place::Top, "problem")?;
-    let steps = res_steps_at(alloc, value)?;
+    let steps = res_steps_at(alloc, texts, value)?;
     Ok(Op::Resolution { problem, steps })
 }
 
-fn op_named(alloc: Global, name: &str, value: &Value) -> Result<Op, ReadError>
+fn op_named(
+    alloc: Global,
+    texts: &mut FormulaTexts,
+    name: &str,
+    value: &Value,
+) -> Result<Op, ReadError>
     ensures { Gives (λ op. op) result (named_op name.now (view value.now)) }
 {
     if name == "lk" {
-        let steps = steps_at(alloc, value)?;
+        let steps = steps_at(alloc, texts, value)?;
         return Ok(Op::Lk { steps });
     }
     if name == "problem" {
@@ -119,16 +125,16 @@ fn op_named(alloc: Global, name: &str, value: &Value) -> Result<Op, ReadError>
         return cutelim_of(alloc, value);
     }
     if name == "resolution" {
-        return resolution_of(alloc, value);
+        return resolution_of(alloc, texts, value);
     }
     Err(ReadError::Fault(JobCause::Op))
 }
 
-fn op_of(alloc: Global, value: &Value) -> Result<Op, ReadError>
+fn op_of(alloc: Global, texts: &mut FormulaTexts, value: &Value) -> Result<Op, ReadError>
     ensures { Gives (λ op. op) result (op_data (view value.now)) }
 {
     let name = text_at(alloc, value, Place::Top, "op")?;
-    op_named(alloc, name, value)
+    op_named(alloc, texts, name, value)
 }
 
 fn value_of(alloc: Global, line: &[u8]) -> Result<Value, ReadError>
@@ -156,8 +162,8 @@ fn error_of(name: Option<Name>, error: ReadError) -> JobError
 }
 
 /// The job that a line is, or its first fault: the line's JSON, then the fields `job` and `op`, then those of the operation, each list
-/// and object from its front.
-pub fn read_job(alloc: Global, line: &[u8]) -> Result<Job, JobError>
+/// and object from its front. Formulas whose texts were read before are taken from the table.
+pub fn read_job(alloc: Global, texts: &mut FormulaTexts, line: &[u8]) -> Result<Job, JobError>
     ensures { GivesJob result (reads_job line.now) }
 {
     let value = match value_of(alloc, line) {
@@ -168,7 +174,7 @@ pub fn read_job(alloc: Global, line: &[u8]) -> Result<Job, JobError>
         Ok(name) => name,
         Err(error) => return Err(error_of(None, error)),
     };
-    match op_of(alloc, &value) {
+    match op_of(alloc, texts, &value) {
         Ok(op) => Ok(Job { name, op }),
         Err(error) => Err(error_of(Some(name), error)),
     }

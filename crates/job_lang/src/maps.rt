@@ -21,7 +21,7 @@ use tptp_read::{TextError, read_term};
 use tptp_tokens::{TextFault, read_variable};
 
 /// A finite map from variables to well-formed terms.
-#[derive(Debug, Drop)]
+#[derive(Drop)]
 pub struct FormedMap {
     map: Subst,
 }

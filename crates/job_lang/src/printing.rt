@@ -13,34 +13,49 @@ use crate::values::formulas_value;
 use lk_rules::{RuleFault, Sequent};
 use serde_json::{Value, json};
 use std::alloc::{AllocError, Global};
+use text_tables::CanonicalTexts;
 use tptp_problem::ProblemKind;
 use tptp_tokens::TextKind;
 
-fn summary_value(alloc: Global, summary: &Summary) -> Result<Value, AllocError>
+fn summary_value(
+    alloc: Global,
+    texts: &mut CanonicalTexts,
+    summary: &Summary,
+) -> Result<Value, AllocError>
     ensures { IfOk result (λ v. view v ≡ summary_data summary.now) }
 {
-    let left = formulas_value(alloc, summary.end.left())?;
-    let right = formulas_value(alloc, summary.end.right())?;
+    let left = formulas_value(alloc, texts, summary.end.left())?;
+    let right = formulas_value(alloc, texts, summary.end.right())?;
     let cuts = summary.cuts;
     let quants = summary.quants;
     json!(in alloc; {"cuts": cuts, "left": left, "quants": quants, "right": right})
 }
 
-fn reduced_value(alloc: Global, summary: &Summary, reductions: u64) -> Result<Value, AllocError>
+fn reduced_value(
+    alloc: Global,
+    texts: &mut CanonicalTexts,
+    summary: &Summary,
+    reductions: u64,
+) -> Result<Value, AllocError>
     ensures { IfOk result (λ v. view v ≡ reduced_data summary.now reductions) }
 {
-    let left = formulas_value(alloc, summary.end.left())?;
-    let right = formulas_value(alloc, summary.end.right())?;
+    let left = formulas_value(alloc, texts, summary.end.left())?;
+    let right = formulas_value(alloc, texts, summary.end.right())?;
     let cuts = summary.cuts;
     let quants = summary.quants;
     json!(in alloc; {"cuts": cuts, "left": left, "quants": quants, "reductions": reductions, "right": right})
 }
 
-fn entries_value(alloc: Global, entries: u64, sequent: &Sequent) -> Result<Value, AllocError>
+fn entries_value(
+    alloc: Global,
+    texts: &mut CanonicalTexts,
+    entries: u64,
+    sequent: &Sequent,
+) -> Result<Value, AllocError>
     ensures { IfOk result (λ v. view v ≡ entries_data entries sequent.now) }
 {
-    let left = formulas_value(alloc, sequent.left())?;
-    let right = formulas_value(alloc, sequent.right())?;
+    let left = formulas_value(alloc, texts, sequent.left())?;
+    let right = formulas_value(alloc, texts, sequent.right())?;
     json!(in alloc; {"entries": entries, "left": left, "right": right})
 }
 
@@ -198,17 +213,23 @@ fn name_value(alloc: Global, name: Option<&Name>) -> Result<Value, AllocError>
 }
 
 /// What the reply says: the Ok object, or the error object.
-fn answer_value(alloc: Global, outcome: &Outcome) -> Result<Result<Value, Value>, AllocError>
+fn answer_value(
+    alloc: Global,
+    texts: &mut CanonicalTexts,
+    outcome: &Outcome,
+) -> Result<Result<Value, Value>, AllocError>
     ensures { IfOk result (λ answer. viewed answer ≡ answer_data outcome.now) }
 {
     match outcome {
-        Outcome::Proof(summary) => Ok(Ok(summary_value(alloc, summary)?)),
+        Outcome::Proof(summary) => Ok(Ok(summary_value(alloc, texts, summary)?)),
         Outcome::Reduced(summary, reductions) => {
-            Ok(Ok(reduced_value(alloc, summary, *reductions)?))
+            Ok(Ok(reduced_value(alloc, texts, summary, *reductions)?))
         }
-        Outcome::Entries { entries, sequent } => Ok(Ok(entries_value(alloc, *entries, sequent)?)),
+        Outcome::Entries { entries, sequent } => Ok(Ok(entries_value(
+            alloc, texts, *entries, sequent,
+        )?)),
         Outcome::Proves(proves) => Ok(Ok(proves_value(alloc, *proves)?)),
-        Outcome::Steps(steps) => Ok(Ok(steps_value(alloc, steps.as_slice())?)),
+        Outcome::Steps(steps) => Ok(Ok(steps_value(alloc, texts, steps.as_slice())?)),
         Outcome::Measure {
             cuts,
             nodes,
@@ -252,13 +273,18 @@ fn line_of(alloc: Global, value: &Value) -> Result<Vec<u8>, AllocError>
     Ok(line)
 }
 
-/// The line of a reply: compact JSON with its keys in the order of their bytes, and a newline.
+/// The line of a reply: compact JSON with its keys in the order of their bytes, and a newline. Texts of formulas that were printed before
+/// are taken from the table.
 #[tactic(auto, unfolding(crate::specs::Replies::line_of))]
-pub fn reply_line(alloc: Global, reply: &Reply) -> Result<Vec<u8>, AllocError>
+pub fn reply_line(
+    alloc: Global,
+    texts: &mut CanonicalTexts,
+    reply: &Reply,
+) -> Result<Vec<u8>, AllocError>
     ensures { IfOk result (λ v. v.items ≡ line_of_reply reply.now) }
 {
     let name = name_value(alloc, reply.name.as_ref())?;
-    let answer = answer_value(alloc, &reply.outcome)?;
+    let answer = answer_value(alloc, texts, &reply.outcome)?;
     let value = reply_value(alloc, answer, name, reply.n)?;
     line_of(alloc, &value)
 }

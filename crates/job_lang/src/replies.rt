@@ -6,7 +6,7 @@ use crate::texts::Utf8Text;
 use lk_rules::{RuleFault, Sequent};
 
 /// A proof in short: how many cuts and quantifier rules it has, and its end sequent.
-#[derive(Debug, Drop)]
+#[derive(Drop)]
 pub struct Summary {
     pub cuts: u64,
     pub end: Sequent,
@@ -34,7 +34,7 @@ pub enum RefutationShown {
 }
 
 /// What came of a job.
-#[derive(Debug, Drop)]
+#[derive(Drop)]
 pub enum Outcome {
     /// The job is a proof.
     Proof(Summary),
@@ -85,7 +85,7 @@ pub enum Outcome {
 }
 
 /// The reply to the job with the number `n`, counted from 1. The name stands where the line has one.
-#[derive(Debug, Drop)]
+#[derive(Drop)]
 pub struct Reply {
     pub name: Option<Name>,
     pub n: u64,

@@ -14,9 +14,10 @@ use refutations::ResStep;
 use serde_json::Value;
 use std::alloc::Global;
 use std::marker::Model;
+use text_tables::FormulaTexts;
 
 /// The steps of a refutation, each of which names a map or an atom that is well formed, where it names one.
-#[derive(Debug, Drop)]
+#[derive(Drop)]
 pub struct ResSteps {
     items: Vec<ResStep>,
 }
@@ -120,12 +121,17 @@ fn subst_step(alloc: Global, value: &Value, place: Place) -> Result<ResStep, Rea
     Ok(ResStep::Subst(step, map.into_subst()))
 }
 
-fn resolve_step(alloc: Global, value: &Value, place: Place) -> Result<ResStep, ReadError>
+fn resolve_step(
+    alloc: Global,
+    texts: &mut FormulaTexts,
+    value: &Value,
+    place: Place,
+) -> Result<ResStep, ReadError>
     ensures value { Gives (λ s. s) result (resolve_data place (view value.now)) }
     ensures formed { IfOk result IsFormedStep }
 {
     let (positive, negative) = pair_at(alloc, value, place, "resolve")?;
-    let atom = formula_at(alloc, value, place, "atom")?;
+    let atom = formula_at(alloc, texts, value, place, "atom")?;
     Ok(ResStep::Resolve {
         positive,
         negative,
@@ -135,7 +141,12 @@ fn resolve_step(alloc: Global, value: &Value, place: Place) -> Result<ResStep, R
 
 /// The members of a step, by the first of its keys that is present.
 #[tactic(auto, using(crate::proofs::Given::cause_given))]
-fn members_of_step(alloc: Global, value: &Value, index: usize) -> Result<ResStep, ReadError>
+fn members_of_step(
+    alloc: Global,
+    texts: &mut FormulaTexts,
+    value: &Value,
+    index: usize,
+) -> Result<ResStep, ReadError>
     ensures value { Gives (λ s. s) result (step_data index (view value.now)) }
     ensures formed { IfOk result IsFormedStep }
 {
@@ -147,37 +158,50 @@ fn members_of_step(alloc: Global, value: &Value, index: usize) -> Result<ResStep
         return subst_step(alloc, value, place);
     }
     if has_member(value, "resolve") {
-        return resolve_step(alloc, value, place);
+        return resolve_step(alloc, texts, value, place);
     }
     Err(field_fault(alloc, Place::Top, "steps", Some(index)))
 }
 
 #[tactic(auto, using(crate::proofs::Given::cause_given))]
-fn step_at(alloc: Global, value: &Value, index: usize) -> Result<ResStep, ReadError>
+fn step_at(
+    alloc: Global,
+    texts: &mut FormulaTexts,
+    value: &Value,
+    index: usize,
+) -> Result<ResStep, ReadError>
     ensures value { Gives (λ s. s) result (step_element index (view value.now)) }
     ensures formed { IfOk result IsFormedStep }
 {
     match value.as_object() {
-        Some(_) => members_of_step(alloc, value, index),
+        Some(_) => members_of_step(alloc, texts, value, index),
         None => Err(field_fault(alloc, Place::Top, "steps", Some(index))),
     }
 }
 
-fn steps_of(alloc: Global, values: &[Value]) -> Result<ResSteps, ReadError>
+fn steps_of(
+    alloc: Global,
+    texts: &mut FormulaTexts,
+    values: &[Value],
+) -> Result<ResSteps, ReadError>
     ensures { Gives (λ s. s) result (steps_data (map view values.now)) }
 {
     let mut items = Vec::new(alloc);
     for (index, value) in values.iter().enumerate() {
-        let step = step_at(alloc, value, index)?;
+        let step = step_at(alloc, texts, value, index)?;
         items.push(step)?;
     }
     Ok(ResSteps { items })
 }
 
 /// The steps of the refutation.
-pub fn res_steps_at(alloc: Global, value: &Value) -> Result<ResSteps, ReadError>
+pub fn res_steps_at(
+    alloc: Global,
+    texts: &mut FormulaTexts,
+    value: &Value,
+) -> Result<ResSteps, ReadError>
     ensures { Gives (λ s. s) result (steps_member (view value.now)) }
 {
     let values = list_at(alloc, value, Place::Top, "steps")?;
-    steps_of(alloc, values)
+    steps_of(alloc, texts, values)
 }

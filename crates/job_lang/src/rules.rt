@@ -13,6 +13,7 @@ use crate::reading::{ReadError, field_fault, text_at};
 use lk_rules::Rule;
 use serde_json::Value;
 use std::alloc::Global;
+use text_tables::FormulaTexts;
 
 /// The rules without what they name.
 #[derive(Clone, Copy, Debug, PartialEq, Eq)]
@@ -131,6 +132,7 @@ fn named_among(name: &str, kinds: &[RuleKind]) -> Option<RuleKind>
 // A rule of this kind with what it names.
 fn rule_of_kind(
     alloc: Global,
+    texts: &mut FormulaTexts,
     kind: RuleKind,
     value: &Value,
     place: Place,
@@ -144,7 +146,7 @@ fn rule_of_kind(
         RuleKind::Weak => return Ok(Rule::Weak),
         _ => {}
     }
-    let main = formula_at(alloc, value, place, "main")?;
+    let main = formula_at(alloc, texts, value, place, "main")?;
     match kind {
         RuleKind::Ax => Ok(Rule::Ax(main)),
         RuleKind::NegL => Ok(Rule::NegL(main)),
@@ -166,13 +168,18 @@ fn rule_of_kind(
 
 /// The members that give a step's rule, with what it names.
 #[tactic(auto, using(crate::proofs::Given::cause_given))]
-pub fn rule_of(alloc: Global, value: &Value, place: Place) -> Result<Rule, ReadError>
+pub fn rule_of(
+    alloc: Global,
+    texts: &mut FormulaTexts,
+    value: &Value,
+    place: Place,
+) -> Result<Rule, ReadError>
     ensures value { Gives (λ r. r) result (rule_data place (view value.now)) }
     ensures formed { IfOk result IsFormedRule }
 {
     let name = text_at(alloc, value, place, "rule")?;
     match RuleKind::named(name) {
-        Some(kind) => rule_of_kind(alloc, kind, value, place),
+        Some(kind) => rule_of_kind(alloc, texts, kind, value, place),
         None => Err(field_fault(alloc, place, "rule", None)),
     }
 }

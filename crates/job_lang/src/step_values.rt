@@ -13,6 +13,7 @@ use fol::{Formula, Term, Var};
 use lk_rules::{Rule, Sequent, Step};
 use serde_json::{Value, json};
 use std::alloc::{AllocError, Global};
+use text_tables::CanonicalTexts;
 use tptp_print::print_term;
 
 fn term_value(alloc: Global, term: &Term) -> Result<Value, AllocError>
@@ -49,20 +50,22 @@ fn numbers_value(alloc: Global, numbers: &[u64]) -> Result<Value, AllocError>
 
 fn bare_step(
     alloc: Global,
+    texts: &mut CanonicalTexts,
     end: &Sequent,
     premises: &[u64],
     rule: &str,
 ) -> Result<Value, AllocError>
     ensures { IfOk result (λ v. view v ≡ bare_step_data end.now premises.now rule.now) }
 {
-    let left = formulas_value(alloc, end.left())?;
+    let left = formulas_value(alloc, texts, end.left())?;
     let premises = numbers_value(alloc, premises)?;
-    let right = formulas_value(alloc, end.right())?;
+    let right = formulas_value(alloc, texts, end.right())?;
     json!(in alloc; {"left": left, "premises": premises, "right": right, "rule": rule})
 }
 
 fn main_step(
     alloc: Global,
+    texts: &mut CanonicalTexts,
     end: &Sequent,
     premises: &[u64],
     rule: &str,
@@ -71,15 +74,16 @@ fn main_step(
     requires { IsFormed main.now }
     ensures { IfOk result (λ v. view v ≡ main_step_data end.now premises.now rule.now main.now) }
 {
-    let left = formulas_value(alloc, end.left())?;
-    let main = formula_value(alloc, main)?;
+    let left = formulas_value(alloc, texts, end.left())?;
+    let main = formula_value(alloc, texts, main)?;
     let premises = numbers_value(alloc, premises)?;
-    let right = formulas_value(alloc, end.right())?;
+    let right = formulas_value(alloc, texts, end.right())?;
     json!(in alloc; {"left": left, "main": main, "premises": premises, "right": right, "rule": rule})
 }
 
 fn term_step(
     alloc: Global,
+    texts: &mut CanonicalTexts,
     end: &Sequent,
     premises: &[u64],
     rule: &str,
@@ -90,16 +94,17 @@ fn term_step(
     requires term { IsFormedTerm term.now }
     ensures { IfOk result (λ v. view v ≡ term_step_data end.now premises.now rule.now main.now term.now) }
 {
-    let left = formulas_value(alloc, end.left())?;
-    let main = formula_value(alloc, main)?;
+    let left = formulas_value(alloc, texts, end.left())?;
+    let main = formula_value(alloc, texts, main)?;
     let premises = numbers_value(alloc, premises)?;
-    let right = formulas_value(alloc, end.right())?;
+    let right = formulas_value(alloc, texts, end.right())?;
     let term = term_value(alloc, term)?;
     json!(in alloc; {"left": left, "main": main, "premises": premises, "right": right, "rule": rule, "term": term})
 }
 
 fn variable_step(
     alloc: Global,
+    texts: &mut CanonicalTexts,
     end: &Sequent,
     premises: &[u64],
     rule: &str,
@@ -110,22 +115,22 @@ fn variable_step(
     requires var { IsFormedVar var.now }
     ensures { IfOk result (λ v. view v ≡ variable_step_data end.now premises.now rule.now main.now var.now) }
 {
-    let left = formulas_value(alloc, end.left())?;
-    let main = formula_value(alloc, main)?;
+    let left = formulas_value(alloc, texts, end.left())?;
+    let main = formula_value(alloc, texts, main)?;
     let premises = numbers_value(alloc, premises)?;
-    let right = formulas_value(alloc, end.right())?;
+    let right = formulas_value(alloc, texts, end.right())?;
     let var = variable_value(alloc, var)?;
     json!(in alloc; {"left": left, "main": main, "premises": premises, "right": right, "rule": rule, "var": var})
 }
 
-fn step_value(alloc: Global, step: &Step) -> Result<Value, AllocError>
+fn step_value(alloc: Global, texts: &mut CanonicalTexts, step: &Step) -> Result<Value, AllocError>
     requires { IsFormedRule step.now.rule }
     ensures { IfOk result (λ v. view v ≡ proof_step step.now) }
 {
     let premises = step.premises.as_slice();
     let rule = RuleKind::of(&step.rule).name();
     match &step.rule {
-        Rule::TopR | Rule::BotL | Rule::Weak => bare_step(alloc, &step.end, premises, rule),
+        Rule::TopR | Rule::BotL | Rule::Weak => bare_step(alloc, texts, &step.end, premises, rule),
         Rule::Ax(main)
         | Rule::NegL(main)
         | Rule::NegR(main)
@@ -135,32 +140,40 @@ fn step_value(alloc: Global, step: &Step) -> Result<Value, AllocError>
         | Rule::OrR(main)
         | Rule::ImpL(main)
         | Rule::ImpR(main)
-        | Rule::Cut(main) => main_step(alloc, &step.end, premises, rule, main),
+        | Rule::Cut(main) => main_step(alloc, texts, &step.end, premises, rule, main),
         Rule::AllL(main, term) | Rule::ExR(main, term) => {
-            term_step(alloc, &step.end, premises, rule, main, term)
+            term_step(alloc, texts, &step.end, premises, rule, main, term)
         }
         Rule::AllR(main, var) | Rule::ExL(main, var) => {
-            variable_step(alloc, &step.end, premises, rule, main, var)
+            variable_step(alloc, texts, &step.end, premises, rule, main, var)
         }
     }
 }
 
-fn step_values(alloc: Global, steps: &[Step]) -> Result<Vec<Value>, AllocError>
+fn step_values(
+    alloc: Global,
+    texts: &mut CanonicalTexts,
+    steps: &[Step],
+) -> Result<Vec<Value>, AllocError>
     requires { All (λ s. IsFormedRule s.rule) steps.now }
     ensures { IfOk result (λ values. map view values.items ≡ map proof_step steps.now) }
 {
     let mut values = Vec::new(alloc);
     for step in steps {
-        values.push(step_value(alloc, step)?)?;
+        values.push(step_value(alloc, texts, step)?)?;
     }
     Ok(values)
 }
 
 /// The steps of a proof, each whole.
-pub fn steps_value(alloc: Global, steps: &[Step]) -> Result<Value, AllocError>
+pub fn steps_value(
+    alloc: Global,
+    texts: &mut CanonicalTexts,
+    steps: &[Step],
+) -> Result<Value, AllocError>
     requires { All (λ s. IsFormedRule s.rule) steps.now }
     ensures { IfOk result (λ v. view v ≡ steps_data steps.now) }
 {
-    let steps = Value::Array(step_values(alloc, steps)?);
+    let steps = Value::Array(step_values(alloc, texts, steps)?);
     json!(in alloc; {"steps": steps})
 }

@@ -14,9 +14,10 @@ use lk_rules::{Numbers, Sequent, Step};
 use serde_json::Value;
 use std::alloc::Global;
 use std::marker::Model;
+use text_tables::FormulaTexts;
 
 /// The steps of a proof, each of which names a rule with well-formed parts.
-#[derive(Debug, Drop)]
+#[derive(Drop)]
 pub struct Steps {
     items: Vec<Step>,
 }
@@ -74,14 +75,19 @@ fn premises_of(alloc: Global, value: &Value, place: Place) -> Result<Numbers, Re
     Ok(Numbers::from_vec(numbers))
 }
 
-fn members_of_step(alloc: Global, value: &Value, place: Place) -> Result<Step, ReadError>
+fn members_of_step(
+    alloc: Global,
+    texts: &mut FormulaTexts,
+    value: &Value,
+    place: Place,
+) -> Result<Step, ReadError>
     ensures value { Gives (λ s. s) result (step_data place (view value.now)) }
     ensures formed { IfOk result (λ s. IsFormedRule s.rule) }
 {
-    let rule = rule_of(alloc, value, place)?;
+    let rule = rule_of(alloc, texts, value, place)?;
     let premises = premises_of(alloc, value, place)?;
-    let left = side_at(alloc, value, place, "left")?;
-    let right = side_at(alloc, value, place, "right")?;
+    let left = side_at(alloc, texts, value, place, "left")?;
+    let right = side_at(alloc, texts, value, place, "right")?;
     Ok(Step {
         rule,
         premises,
@@ -90,31 +96,36 @@ fn members_of_step(alloc: Global, value: &Value, place: Place) -> Result<Step, R
 }
 
 #[tactic(auto, using(crate::proofs::Given::cause_given))]
-fn step_at(alloc: Global, value: &Value, index: usize) -> Result<Step, ReadError>
+fn step_at(
+    alloc: Global,
+    texts: &mut FormulaTexts,
+    value: &Value,
+    index: usize,
+) -> Result<Step, ReadError>
     ensures value { Gives (λ s. s) result (step_element index (view value.now)) }
     ensures formed { IfOk result (λ s. IsFormedRule s.rule) }
 {
     match value.as_object() {
-        Some(_) => members_of_step(alloc, value, Place::Step(index)),
+        Some(_) => members_of_step(alloc, texts, value, Place::Step(index)),
         None => Err(field_fault(alloc, Place::Top, "steps", Some(index))),
     }
 }
 
-fn steps_of(alloc: Global, values: &[Value]) -> Result<Steps, ReadError>
+fn steps_of(alloc: Global, texts: &mut FormulaTexts, values: &[Value]) -> Result<Steps, ReadError>
     ensures { Gives (λ s. s) result (steps_data (map view values.now)) }
 {
     let mut items = Vec::new(alloc);
     for (index, value) in values.iter().enumerate() {
-        let step = step_at(alloc, value, index)?;
+        let step = step_at(alloc, texts, value, index)?;
         items.push(step)?;
     }
     Ok(Steps { items })
 }
 
 /// The steps of the job.
-pub fn steps_at(alloc: Global, value: &Value) -> Result<Steps, ReadError>
+pub fn steps_at(alloc: Global, texts: &mut FormulaTexts, value: &Value) -> Result<Steps, ReadError>
     ensures { Gives (λ s. s) result (steps_member (view value.now)) }
 {
     let values = list_at(alloc, value, Place::Top, "steps")?;
-    steps_of(alloc, values)
+    steps_of(alloc, texts, values)
 }

@@ -10,7 +10,7 @@ ghost use Rattle.job_lang.specs.Replies.{formulas_data};
 use fol::Formula;
 use serde_json::Value;
 use std::alloc::{AllocError, Global};
-use tptp_print::print_formula;
+use text_tables::CanonicalTexts;
 
 /// A printable ASCII text as a JSON text.
 pub fn text_value(alloc: Global, text: &[u8]) -> Result<Value, AllocError>
@@ -27,23 +27,31 @@ pub fn text_value(alloc: Global, text: &[u8]) -> Result<Value, AllocError>
 }
 
 /// A formula by its canonical text.
-pub fn formula_value(alloc: Global, formula: &Formula) -> Result<Value, AllocError>
+pub fn formula_value(
+    alloc: Global,
+    texts: &mut CanonicalTexts,
+    formula: &Formula,
+) -> Result<Value, AllocError>
     requires { IsFormed formula.now }
     ensures { IfOk result (λ v. view v ≡ string (canonical formula.now)) }
 {
-    let text = print_formula(alloc, formula)?;
+    let text = texts.print(alloc, formula)?;
     text_value(alloc, text.as_bytes())
 }
 
 /// Formulas by their canonical texts, in order.
-pub fn formulas_value(alloc: Global, formulas: &[Formula]) -> Result<Value, AllocError>
+pub fn formulas_value(
+    alloc: Global,
+    texts: &mut CanonicalTexts,
+    formulas: &[Formula],
+) -> Result<Value, AllocError>
     requires { All IsFormed formulas.now }
     ensures { IfOk result (λ v. view v ≡ formulas_data formulas.now) }
 {
-    let mut texts = Vec::new(alloc);
+    let mut values = Vec::new(alloc);
     for formula in formulas {
-        let text = formula_value(alloc, formula)?;
-        texts.push(text)?;
+        let value = formula_value(alloc, texts, formula)?;
+        values.push(value)?;
     }
-    Ok(Value::Array(texts))
+    Ok(Value::Array(values))
 }

@@ -69,7 +69,7 @@ fn admit_step<R: Wait>(
 {
     let premises = pick(alloc, proofs, step.premises.as_slice())?;
     let rule = step.rule.copy()?;
-    let end = step.end.copy(alloc)?;
+    let end = step.end.copy()?;
     graph.intern(rt, alloc, pass, rule, end, &premises)
 }
 

@@ -7,8 +7,3 @@ pub mod laws;
 
 pub use admission::{AdmitFault, admit};
 pub use checking::{StepCause, first_fault};
-
-#[cfg(test)]
-mod samples;
-#[cfg(test)]
-mod tests;

@@ -8,18 +8,20 @@ ghost use Rattle.free_variables.specs.Union.{union_of};
 ghost use Rattle.substitution.specs.Image.{IsFormedMap};
 ghost use Rattle.lk_rules.specs.Formulas.{same_formulas, same_formulas_equiv, image_set, var_lists};
 ghost use Rattle.fol.specs.Formed.{IsFormed};
+ghost use Rattle.lk_rules.specs.Items.{list_fingerprint};
 ghost use Rattle.free_variables.specs.Occurrence.{is_free_in};
 
+use crate::items::Items;
 use fol::{Formula, Var};
 use free_variables::{occurs_free, push_free_vars, rising};
 use std::alloc::{AllocError, Global};
 use std::marker::Model;
 use substitution::{Subst, apply};
 
-/// A finite set of well-formed formulas, kept in rising order.
+/// A finite set of well-formed formulas, kept in rising order. Copies share the list.
 #[derive(Drop, Debug)]
 pub struct Formulas {
-    items: Vec<Formula>,
+    items: Items,
 }
 
 impl Model for Formulas {
@@ -32,9 +34,9 @@ impl Model for Formulas {
 
     ghost coded = { set.code coded_formula };
 
-    ghost view = { λ a. set.of_rising a.items.items };
+    ghost view = { λ a. set.of_rising a.items };
 
-    ghost invariant = { λ a. IsListing a.items.items };
+    ghost invariant = { λ a. IsListing a.items };
 }
 
 impl Formulas {
@@ -43,18 +45,19 @@ impl Formulas {
         ensures { result ≡ set.empty }
     {
         Formulas {
-            items: Vec::new(alloc),
+            items: Items::new(alloc),
         }
     }
 
-    /// The set of the formulas of a list, in O(n log n) comparisons and without memory.
-    pub fn from_vec(items: Vec<Formula>) -> Formulas
+    /// The set of the formulas of a list, in O(n log n) comparisons.
+    pub fn from_vec(alloc: Global, items: Vec<Formula>) -> Result<Formulas, AllocError>
         requires { All IsFormed items.items }
-        ensures { result ≡ set.adds_each set.empty items.items }
+        ensures { IfOk result (λ formulas. formulas ≡ set.adds_each set.empty items.items) }
     {
         let mut items = items;
         rising::sort_distinct(&mut items);
-        Formulas { items }
+        let items = Items::from_vec(alloc, items)?;
+        Ok(Formulas { items })
     }
 
     /// The formulas in rising order.
@@ -69,23 +72,37 @@ impl Formulas {
     pub fn has(&self, f: &Formula) -> bool
         ensures { result ≡ set.has self.now f.now }
     {
-        finite::search(&self.items, f).is_ok()
+        finite::search(self.items.as_slice(), f).is_ok()
     }
 
-    /// Adds a formula, unless the set has it.
+    /// Adds a formula, unless the set has it. The list is copied, since others may share it.
     pub fn add(&mut self, f: Formula) -> Result<(), AllocError>
         requires { IsFormed f }
         ensures ok { OnOk result (self.new ≡ set.adds self.old f) }
         ensures err { OnErr result (self.new ≡ self.old) }
     {
-        finite::add(&mut self.items, f)
+        *self = self.with(f)?;
+        Ok(())
+    }
+
+    // The set with one more formula.
+    fn with(&self, f: Formula) -> Result<Formulas, AllocError>
+        requires { IsFormed f }
+        ensures { IfOk result (λ more. more ≡ set.adds self.now f) }
+    {
+        let alloc = self.items.allocator();
+        let mut items = Vec::new(alloc);
+        rising::push_shared(&mut items, self.items.as_slice())?;
+        finite::add(&mut items, f)?;
+        let items = Items::from_vec(alloc, items)?;
+        Ok(Formulas { items })
     }
 
     /// Whether each formula of this set is in the other.
     pub fn subset(&self, other: &Formulas) -> bool
         ensures { result ≡ set.subset self.now other.now }
     {
-        finite::is_within(&self.items, &other.items)
+        finite::is_within(self.items.as_slice(), other.items.as_slice())
     }
 
     /// Whether the variable is free in a formula of the set.
@@ -101,7 +118,8 @@ impl Formulas {
     pub fn union(&self, alloc: Global, other: &Formulas) -> Result<Formulas, AllocError>
         ensures { IfOk result (λ union. union ≡ union_of self.now other.now) }
     {
-        let items = rising::merge(alloc, &self.items, &other.items)?;
+        let items = rising::merge(alloc, self.items.as_slice(), other.items.as_slice())?;
+        let items = Items::from_vec(alloc, items)?;
         Ok(Formulas { items })
     }
 
@@ -110,11 +128,11 @@ impl Formulas {
         requires { IsFormedMap (fin.get map.now) }
         ensures { IfOk result (λ image. image ≡ image_set (fin.get map.now) self.now) }
     {
-        let mut images = Vec::with_capacity(alloc, self.items.len())?;
+        let mut images = Vec::with_capacity(alloc, self.as_slice().len())?;
         for formula in self.as_slice() {
             images.push(apply(alloc, map, formula)?)?;
         }
-        Ok(Formulas::from_vec(images))
+        Formulas::from_vec(alloc, images)
     }
 
     /// Appends the free variables of the formulas, one for each occurrence. After an error some of them may stand there.
@@ -127,12 +145,18 @@ impl Formulas {
         Ok(())
     }
 
-    /// The same set, whose formulas are shared.
-    pub fn copy(&self, alloc: Global) -> Result<Formulas, AllocError>
+    /// A number in which unequal sets mostly differ.
+    pub fn fingerprint(&self) -> u64
+        ensures { result ≡ list_fingerprint (set.listing self.now) }
+    {
+        self.items.fingerprint()
+    }
+
+    /// The same set, whose list is shared.
+    pub fn copy(&self) -> Result<Formulas, AllocError>
         ensures { IfOk result (λ copy. copy ≡ self.now) }
     {
-        let mut items = Vec::with_capacity(alloc, self.items.len())?;
-        rising::push_shared(&mut items, &self.items)?;
+        let items = self.items.copy()?;
         Ok(Formulas { items })
     }
 }
@@ -147,7 +171,7 @@ impl PartialEq for Formulas {
         ensures value { result ≡ same_formulas self.now other.now }
         ensures same { IsTrue result ↔ (self.now ≡ other.now) }
     {
-        self.as_slice() == other.as_slice()
+        self.fingerprint() == other.fingerprint() && self.as_slice() == other.as_slice()
     }
 }
 

@@ -6,6 +6,7 @@
 mod auxiliary;
 mod formulas;
 mod inference;
+mod items;
 mod numbers;
 mod rule;
 mod rule_order;
@@ -18,8 +19,3 @@ pub use inference::{RuleFault, check};
 pub use numbers::Numbers;
 pub use rule::{Rule, Step};
 pub use sequent::{Sequent, Side};
-
-#[cfg(test)]
-mod samples;
-#[cfg(test)]
-mod tests;

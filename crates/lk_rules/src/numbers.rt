@@ -5,7 +5,7 @@ use std::alloc::{AllocError, Global};
 use std::marker::Model;
 
 /// A list of numbers, as those of a step's premises.
-#[derive(Drop, Debug)]
+#[derive(Drop)]
 pub struct Numbers {
     items: Vec<u64>,
 }

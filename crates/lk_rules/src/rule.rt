@@ -9,7 +9,6 @@ use std::alloc::AllocError;
 
 /// A rule with what it names: its main formula (of a cut the cut formula) and, where it instantiates a quantifier, a term or an
 /// eigenvariable.
-#[derive(Debug)]
 pub enum Rule {
     /// The axiom: the formula stands on both sides of the conclusion. No premise.
     Ax(Formula),
@@ -126,7 +125,7 @@ impl Rule {
 }
 
 /// A step of a proof that is written as a list: the rule, the numbers of the steps that are its premises, and its conclusion.
-#[derive(Drop, Debug)]
+#[derive(Drop)]
 pub struct Step {
     pub rule: Rule,
     pub premises: Numbers,

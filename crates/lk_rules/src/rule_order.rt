@@ -4,9 +4,10 @@ ghost use Rattle.std.specs.Ordering.{eq_by_cmp, as_partial_cmp};
 ghost use Rattle.std.specs.Cmp.{partial_equiv_from_equiv, partial_order_from_total};
 ghost use Rattle.std.proofs.lemmas.Cmp.{eq_by_cmp_equiv};
 ghost use Rattle.lk_rules.specs.RuleOrder.{rule_kind, formula_of, term_of, variable_of, rule_cmp, rule_total};
+ghost use Rattle.lk_rules.specs.Fingerprints.{fingerprint_with as with_formula, rule_fingerprint};
 
 use crate::rule::Rule;
-use fol::{Formula, Term, Var};
+use fol::{Formula, Term, Var, mix};
 use std::cmp::Ordering;
 
 impl Rule {
@@ -53,6 +54,13 @@ impl Rule {
         }
     }
 
+    /// A number in which unequal rules mostly differ, by the kind and the formula alone.
+    pub fn fingerprint(&self) -> u64
+        ensures { result ≡ rule_fingerprint self.now }
+    {
+        fingerprint_with(u64::from(self.kind()), self.formula())
+    }
+
     // The place of the rule's kind among the kinds.
     fn kind(&self) -> u8
         ensures { result ≡ rule_kind self.now }
@@ -76,6 +84,16 @@ impl Rule {
             Rule::Cut(_) => 15,
             Rule::Weak => 16,
         }
+    }
+}
+
+#[tactic(auto, unfolding(crate::specs::Fingerprints::fingerprint_with))]
+fn fingerprint_with(kind: u64, formula: Option<&Formula>) -> u64
+    ensures { result ≡ with_formula kind (option_copied formula.entry) }
+{
+    match formula {
+        Some(formula) => mix(kind, formula.fingerprint()),
+        None => mix(kind, 0),
     }
 }
 

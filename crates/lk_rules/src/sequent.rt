@@ -8,9 +8,10 @@ ghost use Rattle.fol.specs.declared.symbols.Var.{Var as Variable};
 ghost use Rattle.substitution.specs.Image.{IsFormedMap};
 ghost use Rattle.fol.specs.Formed.{IsFormed};
 ghost use Rattle.lk_rules.specs.Sequents.{empty as empty_sequent, side_of, adds_to, is_free_in_sequent, is_subsequent, IsSubsequent, union_sequent, image_sequent, vars_sequent, same_sequents, same_sequents_equiv};
+ghost use Rattle.lk_rules.specs.Fingerprints.{sequent_fingerprint};
 
 use crate::formulas::Formulas;
-use fol::{Formula, Var};
+use fol::{Formula, Var, mix};
 use free_variables::Vars;
 use std::alloc::{AllocError, Global};
 use substitution::Subst;
@@ -23,7 +24,7 @@ pub enum Side {
 }
 
 /// A sequent: two finite sets of well-formed formulas. It says that where all formulas on the left are true, one on the right is.
-#[derive(Drop, Debug)]
+#[derive(Drop)]
 pub struct Sequent {
     pub left: Formulas,
     pub right: Formulas,
@@ -124,12 +125,20 @@ impl Sequent {
         Ok(Vars::from_vec(list))
     }
 
-    /// The same sequent, whose formulas are shared.
-    pub fn copy(&self, alloc: Global) -> Result<Sequent, AllocError>
+    /// A number in which unequal sequents mostly differ.
+    #[tactic(auto, unfolding(crate::specs::Fingerprints::sequent_fingerprint))]
+    pub fn fingerprint(&self) -> u64
+        ensures { result ≡ sequent_fingerprint self.now }
+    {
+        mix(self.left.fingerprint(), self.right.fingerprint())
+    }
+
+    /// The same sequent, whose sides are shared: it takes no memory.
+    pub fn copy(&self) -> Result<Sequent, AllocError>
         ensures { IfOk result (λ copy. copy ≡ self.now) }
     {
-        let left = self.left.copy(alloc)?;
-        let right = self.right.copy(alloc)?;
+        let left = self.left.copy()?;
+        let right = self.right.copy()?;
         Ok(Sequent { left, right })
     }
 }

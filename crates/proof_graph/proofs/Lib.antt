@@ -3,6 +3,7 @@ pub mod NodeTies
 pub mod Agreement
 pub mod Entries
 pub mod Linked
+pub mod Counting
 pub mod Growth
 pub mod Standing
 pub mod Premises

@@ -14,7 +14,7 @@ use Rattle.lk_rules.specs.declared.sequent.Sequent.{Sequent}
 use Rattle.lk_rules.specs.RuleOrder.{rule_cmp}
 use Rattle.lk_rules.proofs.RuleTies.{rule_ties}
 use Rattle.proof_graph.specs.declared.node.Node.{Node}
-use Rattle.proof_graph.specs.Order.{sequent_cmp, node_cmp, node_total}
+use Rattle.proof_graph.specs.Order.{sequent_cmp, node_fingerprint, node_cmp, node_total}
 
 then_ties : (a b : Ordering) → ordering_then a b ≡ Equal → (a ≡ Equal) × (b ≡ Equal)
 then_ties Less b h = cc
@@ -42,7 +42,8 @@ sequent_ties s t h =
 pub node_ties : (m n : Node) → node_cmp m n ≡ Equal → m ≡ n
 node_ties m n h =
     let outer = then_ties (slice_cmp nat_cmp m.premises n.premises) _ h in
-    let inner = then_ties (rule_cmp m.rule n.rule) _ outer.1 in
+    let middle = then_ties (nat_cmp (node_fingerprint m) (node_fingerprint n)) _ outer.1 in
+    let inner = then_ties (rule_cmp m.rule n.rule) _ middle.1 in
     let numbers = list_ties nat_cmp nat_ties m.premises n.premises outer.0 in
     let rule = rule_ties m.rule n.rule inner.0 in
     let end = sequent_ties m.end n.end inner.1 in

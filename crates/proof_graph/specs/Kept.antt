@@ -8,12 +8,13 @@ use Rattle.proof_trees.specs.Trees.{Tree, node, below, IsValid}
 use Rattle.proof_graph.specs.declared.reference.RefLink.{RefLink}
 use Rattle.proof_graph.specs.Shown.{nodes, nodes_all}
 use Rattle.proof_graph.specs.References.{Reference, key_of, trees_of, numbers_of}
+use Rattle.proof_graph.specs.Counts.{AreCountsOf}
 
 abbrev pub reference_of : RefLink → Reference
 reference_of l = record { home = l.home.value; number = l.token.index; premises = l.token.value.key.premises; tree = l.tree }
 
 -- the token is of the graph's vector, and its stamp has the tree, with the tree's root as its node; the references of the premises are
--- of the same graph, with the numbers and the trees that the node and the tree say; the tree is valid
+-- of the same graph, with the numbers and the trees that the node and the tree say; the tree is valid, and the counts are its own
 pub record IsKept (l : RefLink) : Type 0 where
   pub shown : Shows l.home.value l.token
   pub tree : l.token.value.tree.value ≡ l.tree
@@ -22,6 +23,7 @@ pub record IsKept (l : RefLink) : Type 0 where
   pub numbers : numbers_of l.premises.items ≡ l.token.value.key.premises
   pub trees : trees_of l.premises.items ≡ below l.tree
   pub valid : IsValid l.tree
+  pub counts : AreCountsOf l.counts l.tree
 
 pub most_le-trees : (rs : List Reference) → most (λ (r : Reference). nodes r.tree + 1) rs ≤ nodes_all (trees_of rs) + 1
 most_le-trees [] = omega arith

@@ -2,6 +2,7 @@ pub mod Order
 pub mod Codes
 pub mod Shown
 pub mod References
+pub mod Counts
 pub mod Kept
 pub mod History
 pub mod Indexed

@@ -3,9 +3,10 @@ ghost use Rattle.std.specs.Prelude.{◌≡◌, ◌↔◌, IsTrue, IfOk, refl};
 ghost use Rattle.std.specs.Ordering.{eq_by_cmp, as_partial_cmp};
 ghost use Rattle.std.specs.Cmp.{partial_equiv_from_equiv, partial_order_from_total};
 ghost use Rattle.std.proofs.lemmas.Cmp.{eq_by_cmp_equiv};
-ghost use Rattle.proof_graph.specs.Order.{sequent_cmp, node_cmp, node_total};
+ghost use Rattle.proof_graph.specs.Order.{sequent_cmp, node_fingerprint, node_cmp, node_total};
 
 use crate::node::Node;
+use fol::mix;
 use lk_rules::Sequent;
 use std::alloc::{AllocError, Global};
 use std::cmp::Ordering;
@@ -15,6 +16,7 @@ use std::sync::Arc;
 /// A node that is shared, with an order: the key by which it is found.
 #[derive(Drop)]
 pub struct Key {
+    fingerprint: u64,
     node: Arc<Node>,
 }
 
@@ -26,7 +28,19 @@ impl Model for Key {
 
     ghost coded = { plain.the_row.coded };
 
+    ghost use Rattle.std.specs.Prelude.{◌≡◌};
+    ghost use Rattle.proof_graph.specs.Order.{node_fingerprint};
+
     ghost view = { λ k. k.node.value };
+
+    ghost invariant = { λ k. k.fingerprint ≡ node_fingerprint k.node.value };
+}
+
+#[tactic(auto, unfolding(crate::specs::Order::node_fingerprint))]
+fn fingerprint_of(node: &Node) -> u64
+    ensures { result ≡ node_fingerprint node.now }
+{
+    mix(node.rule.fingerprint(), node.end.fingerprint())
 }
 
 impl Key {
@@ -34,9 +48,9 @@ impl Key {
     pub fn new(alloc: Global, node: Node) -> Result<Key, AllocError>
         ensures { IfOk result (λ key. key ≡ node) }
     {
-        Ok(Key {
-            node: Arc::new(alloc, node)?,
-        })
+        let fingerprint = fingerprint_of(&node);
+        let node = Arc::new(alloc, node)?;
+        Ok(Key { fingerprint, node })
     }
 
     /// The node.
@@ -51,7 +65,15 @@ impl Key {
         ensures { IfOk result (λ key. key ≡ self.now) }
     {
         let node = Arc::try_clone(&self.node)?;
-        Ok(Key { node })
+        let fingerprint = self.fingerprint;
+        Ok(Key { fingerprint, node })
+    }
+
+    // A number in which keys with unequal rules or end sequents mostly differ.
+    fn fingerprint(&self) -> u64
+        ensures { result ≡ node_fingerprint self.now }
+    {
+        self.fingerprint
     }
 }
 
@@ -64,14 +86,16 @@ fn compare_ends(a: &Sequent, b: &Sequent) -> Ordering
         .then_with(|| a.right().cmp(&b.right()))
 }
 
-// Keys by the numbers of the premises, then by rule, then by end sequent: numbers are told apart soonest.
+// Keys by the numbers of the premises, then by fingerprint, and only at a tie by rule and end sequent: numbers are told apart soonest.
 fn compare_keys(a: &Key, b: &Key) -> Ordering
     ensures { result ≡ node_cmp a.now b.now }
 {
+    let prints = a.fingerprint().cmp(&b.fingerprint());
     let (a, b) = (a.node(), b.node());
     a.premises
         .as_slice()
         .cmp(&b.premises.as_slice())
+        .then(prints)
         .then_with(|| a.rule.cmp(&b.rule))
         .then_with(|| compare_ends(&a.end, &b.end))
 }

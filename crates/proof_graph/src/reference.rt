@@ -4,7 +4,9 @@ ghost use Rattle.std.specs.List.{All};
 ghost use Rattle.boxcar.specs.Table.{Shows};
 ghost use Rattle.proof_trees.specs.Trees.{node, below, count, IsValid, IsInference};
 ghost use Rattle.proof_graph.specs.References.{key_of, trees_of, numbers_of};
+ghost use Rattle.proof_graph.specs.Counts.{AreCountsOf};
 
+use crate::counts::{Counts, counts_over};
 use crate::key::Key;
 use crate::node::Node;
 use crate::tree::{Nodes, ProofTree, Stamp};
@@ -27,6 +29,7 @@ pub(crate) struct RefLink {
     home: Snapshot<Nodes>,
     token: Pushed<Stamp>,
     tree: ProofTree,
+    counts: Counts,
     premises: Vec<ProofRef>,
 }
 
@@ -73,6 +76,13 @@ impl ProofRef {
         ensures premises { length self.now.premises ≡ count (below self.now.tree) }
     {
         let _link = &self.link;
+    }
+
+    /// How many nodes the tree has, all, by cut and by quantifier rules. The reference keeps these numbers.
+    pub fn counts(&self) -> Counts
+        ensures { AreCountsOf result self.now.tree }
+    {
+        self.link.counts
     }
 
     /// The same reference once more.
@@ -155,6 +165,7 @@ pub(crate) fn make<R: Wait>(
     let trees = keep_trees(alloc, premises)?;
     let root = key.node();
     let tree = ProofTree::new(alloc, &root.rule, &root.end, trees)?;
+    let counts = counts_over(&root.rule, premises);
     let premises = keep_all(alloc, premises)?;
     let stamp = Stamp {
         key: key.keep()?,
@@ -163,7 +174,7 @@ pub(crate) fn make<R: Wait>(
     let Ok(token) = nodes.push_shown(rt, stamp) else {
         return Err(AllocError);
     };
-    link_to(alloc, nodes, key, token, tree, premises)
+    link_to(alloc, nodes, key, token, tree, counts, premises)
 }
 
 // The reference to a node whose stamp is in.
@@ -173,6 +184,7 @@ fn link_to(
     key: &Key,
     token: Pushed<Stamp>,
     tree: ProofTree,
+    counts: Counts,
     premises: Vec<ProofRef>,
 ) -> Result<ProofRef, AllocError>
     requires home { All (λ p. p.home ≡ nodes.now) premises.items }
@@ -181,6 +193,7 @@ fn link_to(
     requires valid { IsValid tree }
     requires shown { Shows nodes.now token }
     requires stamp { (token.value.key ≡ key.now) × (token.value.tree.value ≡ tree) }
+    requires counts { AreCountsOf counts tree }
     ensures home { IfOk result (λ r. r.home ≡ nodes.now) }
     ensures premises { IfOk result (λ r. r.premises ≡ key.now.premises) }
     ensures tree { IfOk result (λ r. r.tree ≡ tree) }
@@ -190,6 +203,7 @@ fn link_to(
         home: Snapshot::of(nodes),
         token,
         tree,
+        counts,
         premises,
     };
     let link = Arc::new(alloc, link)?;

@@ -13,3 +13,4 @@ pub mod AskedProofs
 pub mod Refuted
 pub mod Reduced
 pub mod Endings
+pub mod Proving

@@ -19,6 +19,3 @@ pub use command::top;
 pub use ending::Ended;
 pub use gates::{Gate, NoGate};
 pub use held::Held;
-
-#[cfg(test)]
-mod tests;

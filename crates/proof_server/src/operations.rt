@@ -14,9 +14,9 @@ ghost use Rattle.proof_subst.specs.Benches.{graph_of, IsBenchPassOf};
 ghost use Rattle.cut_elim.specs.Desks.{bench_of, IsDeskPassOf};
 ghost use Rattle.job_lang.specs.declared.replies.Outcome.{Outcome as OutcomeValue};
 ghost use Rattle.job_lang.specs.declared.replies.Outcome.TheVariants.{Entries, Proof as ProofOutcome, Reduced as ReducedOutcome};
-ghost use Rattle.proof_server.specs.Values.{Value, proof as proof_value, problem as problem_value, done};
+ghost use Rattle.proof_server.specs.Values.{Value, lacking, proof as proof_value, problem as problem_value, done};
 ghost use Rattle.proof_server.specs.Operations.{summary_of, shown as shown_of, admits, shows, measures, substitutes, eliminates, has_closure as has_closure_of, refutation_shown as refutation_shown_of, refuted, refutes_clauses, refutes, proves as proves_of};
-ghost use Rattle.proof_server.specs.Means.{Answers, IsProofGiven, IsProblemGiven, IsMeasure, Finds};
+ghost use Rattle.proof_server.specs.Means.{Answers, IsProofGiven, IsProblemGiven, IsMeasure, Refuses, Finds};
 ghost use Rattle.proof_server.specs.Given.{FitsRan};
 
 use crate::held::Held;
@@ -57,7 +57,7 @@ fn summary(graph: &Graph, alloc: Global, proof: &ProofRef) -> Result<Summary, Al
 {
     let cuts = cuts(graph, alloc, proof)?;
     let quants = quants(graph, alloc, proof)?;
-    let end = graph.get(proof).end.copy(alloc)?;
+    let end = graph.get(proof).end.copy()?;
     Ok(Summary { cuts, end, quants })
 }
 
@@ -260,7 +260,7 @@ pub fn hold(alloc: Global, problem: &Problem) -> Ran
     ensures { (g : Graph) → Answers g result (done (Entries (length problem.now.entries) problem.now.sequent) (problem_value problem.now)) }
 {
     let entries = problem.entries.as_slice().len() as u64;
-    let Ok(sequent) = problem.sequent.copy(alloc) else {
+    let Ok(sequent) = problem.sequent.copy() else {
         return Ran::Lacked;
     };
     match problem.copy(alloc) {
@@ -272,6 +272,73 @@ pub fn hold(alloc: Global, problem: &Problem) -> Ran
     }
 }
 
+// The fault of the problem's field, or want of memory, where the proof has no fault.
+fn without_problem(goal: Ran) -> Ran
+    ensures ran { (g : Graph) (value : Value) (wanted : Result Value OutcomeValue) → Refuses goal wanted → Answers g result (proves_of (Ok value) wanted) }
+    ensures fits { (g : Graph) → FitsRan g result }
+{
+    match goal {
+        Ran::Refused(outcome) => Ran::Refused(outcome),
+        Ran::Unnamed => Ran::Unnamed,
+        Ran::Lacked => Ran::Lacked,
+        Ran::Done(..) => Ran::Lacked,
+    }
+}
+
+// The fault of the problem's field, or want of memory, where that of the proof names a job that lacked it.
+fn behind_lack(goal: Result<&Problem, Ran>) -> Ran
+    ensures ran { (g : Graph) (wanted : Result Value OutcomeValue) → Finds (λ p. IsProblemGiven p.now) goal.entry wanted → Answers g result (proves_of (Ok lacking) wanted) }
+    ensures fits { (g : Graph) → FitsRan g result }
+{
+    match goal {
+        Ok(_) => Ran::Lacked,
+        Err(goal) => without_problem(goal),
+    }
+}
+
+// Lets go what was found of a problem. What stands there may be large, so this is a call of its own.
+fn let_go(_goal: Result<&Problem, Ran>) {}
+
+// The fault of the proof's field, then that of the problem's, then want of memory.
+fn without_proof(proof: Ran, goal: Result<&Problem, Ran>) -> Ran
+    ensures ran { (g : Graph) (first wanted : Result Value OutcomeValue) → Refuses proof first
+        → Finds (λ p. IsProblemGiven p.now) goal.entry wanted → Answers g result (proves_of first wanted) }
+    ensures fits { (g : Graph) → FitsRan g result }
+{
+    match proof {
+        Ran::Refused(outcome) => {
+            let_go(goal);
+            Ran::Refused(outcome)
+        }
+        Ran::Unnamed => {
+            let_go(goal);
+            Ran::Unnamed
+        }
+        Ran::Lacked => behind_lack(goal),
+        Ran::Done(outcome, held) => {
+            let_go(goal);
+            let_go(Err(Ran::Done(outcome, held)));
+            Ran::Lacked
+        }
+    }
+}
+
+// Whether a proof proves a problem, by what was found of the problem.
+fn compares(graph: &Graph, proof: &ProofRef, goal: Result<&Problem, Ran>) -> Ran
+    requires { IsOf graph.now proof.now }
+    ensures ran { (wanted : Result Value OutcomeValue) → Finds (λ p. IsProblemGiven p.now) goal.entry wanted
+        → Answers graph.now result (proves_of (Ok (proof_value proof.now.tree)) wanted) }
+    ensures fits { FitsRan graph.now result }
+{
+    match goal {
+        Ok(problem) => Ran::Done(
+            Outcome::Proves(graph.get(proof).end.subset(&problem.sequent)),
+            Held::Nothing,
+        ),
+        Err(goal) => without_problem(goal),
+    }
+}
+
 // Whether a proof proves a problem, by what was found. The field of the proof is refused first, and want of memory comes last.
 pub fn proves(graph: &Graph, proof: Result<&ProofRef, Ran>, goal: Result<&Problem, Ran>) -> Ran
     requires { IfOk proof (λ r. IsOf graph.now r.now) }
@@ -279,15 +346,9 @@ pub fn proves(graph: &Graph, proof: Result<&ProofRef, Ran>, goal: Result<&Proble
         → Finds (λ p. IsProblemGiven p.now) goal.entry wanted → Answers graph.now result (proves_of first wanted) }
     ensures fits { FitsRan graph.now result }
 {
-    match (proof, goal) {
-        (Err(Ran::Unnamed), _) => Ran::Unnamed,
-        (Err(Ran::Refused(outcome)), _) | (_, Err(Ran::Refused(outcome))) => Ran::Refused(outcome),
-        (_, Err(Ran::Unnamed)) => Ran::Unnamed,
-        (Ok(proof), Ok(problem)) => Ran::Done(
-            Outcome::Proves(graph.get(proof).end.subset(&problem.sequent)),
-            Held::Nothing,
-        ),
-        _ => Ran::Lacked,
+    match proof {
+        Ok(proof) => compares(graph, proof, goal),
+        Err(proof) => without_proof(proof, goal),
     }
 }
 

@@ -13,9 +13,10 @@ use fol::Text;
 use job_lang::{Job, JobError, Name, Op, Outcome, Reply, read_job, reply_line};
 use std::alloc::{AllocError, Global};
 use std::sync::Wait;
+use text_tables::{FormulaTexts, TextTables};
 
 /// A reply line with its newline, whether it is no error, and whether it reports want of memory.
-#[derive(Debug, Drop)]
+#[derive(Drop)]
 pub struct ReplyLine {
     pub bytes: Vec<u8>,
     pub is_ok: bool,
@@ -23,7 +24,7 @@ pub struct ReplyLine {
 }
 
 /// What a reply shows of a job: its name, what came of it, and whether it reports want of memory.
-#[derive(Debug, Drop)]
+#[derive(Drop)]
 pub struct Shown {
     pub name: Option<Name>,
     pub outcome: Outcome,
@@ -75,6 +76,7 @@ fn conclude_line<R: Wait>(
     store: &mut Store,
     rt: &R,
     alloc: Global,
+    texts: &mut FormulaTexts,
     line: &[u8],
 ) -> Result<(Option<Name>, Conclusion), AllocError>
     requires store { IsSomeStore store.old }
@@ -84,7 +86,7 @@ fn conclude_line<R: Wait>(
         → IfOk result (λ answer. IsConcluded (graph_in store.new) answer.1 (run_line (held_of earlier) line.now)) }
     ensures kept { (earlier : List Past) → IsStore store.old earlier → IsStore store.new earlier }
 {
-    match read_job(alloc, line) {
+    match read_job(alloc, texts, line) {
         Ok(Job { name, op }) => {
             let text = name_text(alloc, &name)?;
             let conclusion = run_job(store, rt, alloc, &text, &op)?;
@@ -122,6 +124,7 @@ fn answer_line<R: Wait>(
     store: &mut Store,
     rt: &R,
     alloc: Global,
+    texts: &mut FormulaTexts,
     line: &[u8],
 ) -> Result<Shown, AllocError>
     requires store { IsSomeStore store.old }
@@ -129,7 +132,7 @@ fn answer_line<R: Wait>(
     ensures { (earlier : List Past) → IsStore store.old earlier
         → IfOk result (λ shown. IsAnswered shown store.new line.now earlier) }
 {
-    let (name, conclusion) = conclude_line(store, rt, alloc, line)?;
+    let (name, conclusion) = conclude_line(store, rt, alloc, texts, line)?;
     let Conclusion {
         outcome,
         held,
@@ -148,6 +151,7 @@ fn answer<R: Wait>(
     store: &mut Store,
     rt: &R,
     alloc: Global,
+    texts: &mut FormulaTexts,
     line: Option<&[u8]>,
 ) -> Result<Shown, AllocError>
     requires store { IsSomeStore store.old }
@@ -157,7 +161,7 @@ fn answer<R: Wait>(
         → IfOk result (λ shown. IsAnswered shown store.new text earlier) }
 {
     match line {
-        Some(line) => answer_line(store, rt, alloc, line),
+        Some(line) => answer_line(store, rt, alloc, texts, line),
         None => Ok(Shown {
             name: None,
             outcome: Outcome::LineTooLong,
@@ -171,6 +175,7 @@ pub fn reply_to<R: Wait>(
     store: &mut Store,
     rt: &R,
     alloc: Global,
+    texts: &mut TextTables,
     count: u64,
     line: Option<&[u8]>,
 ) -> Result<ReplyLine, AllocError>
@@ -186,10 +191,11 @@ pub fn reply_to<R: Wait>(
         name,
         outcome,
         lacked,
-    } = answer(store, rt, alloc, line)?;
+    } = answer(store, rt, alloc, &mut texts.formulas, line)?;
     let is_ok = is_ok(&outcome);
     let bytes = reply_line(
         alloc,
+        &mut texts.canonical,
         &Reply {
             name,
             n: count + 1,

@@ -10,12 +10,15 @@ use crate::store::Store;
 use edge_io::{Sink, write_whole};
 use std::alloc::{AllocError, Global};
 use std::sync::Wait;
+use text_tables::TextTables;
 
-/// Where a session stands: how many jobs it has answered, what they hold, and whether no reply was an error.
+/// Where a session stands: how many jobs it has answered, what they hold, the texts that were read and printed, and whether no reply was
+/// an error.
 #[derive(Drop)]
 pub struct Session {
     pub count: u64,
     pub store: Store,
+    pub texts: TextTables,
     pub good: bool,
 }
 
@@ -48,6 +51,7 @@ impl Session {
         Ok(Session {
             count: 0,
             store,
+            texts: TextTables::new(alloc),
             good: true,
         })
     }
@@ -100,7 +104,14 @@ impl Session {
             (K.written sink.old) (K.written sink.new) }
         ensures faults { K.faults sink.old ≤ K.faults sink.new }
     {
-        let reply = match reply_to(&mut self.store, rt, alloc, self.count, line) {
+        let reply = match reply_to(
+            &mut self.store,
+            rt,
+            alloc,
+            &mut self.texts,
+            self.count,
+            line,
+        ) {
             Ok(reply) => reply,
             Err(_) => return Err(Stop::Memory),
         };

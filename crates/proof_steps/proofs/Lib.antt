@@ -1,4 +1,4 @@
-pub mod Sums
+pub mod Sizes
 pub mod SameTrees
 pub mod Standing
 pub mod Appending

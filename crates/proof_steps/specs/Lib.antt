@@ -1,4 +1,3 @@
-pub mod Counts
 pub mod Subtrees
 pub mod Places
 pub mod Listed

@@ -8,8 +8,3 @@ mod visiting;
 
 pub use counting::{cuts, quants, size};
 pub use step_list::{first_cut, nodes, steps};
-
-#[cfg(test)]
-mod samples;
-#[cfg(test)]
-mod tests;

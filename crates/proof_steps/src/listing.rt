@@ -157,7 +157,7 @@ fn steps_of_nodes(alloc: Global, nodes: &[Key]) -> Result<Vec<Step>, AllocError>
         let node = key.node();
         let rule = node.rule.copy()?;
         let premises = node.premises.copy(alloc)?;
-        let end = node.end.copy(alloc)?;
+        let end = node.end.copy()?;
         steps.push(Step {
             rule,
             premises,

@@ -90,7 +90,7 @@ fn key_at(
 {
     let root = graph.get(proof);
     let rule = root.rule.copy()?;
-    let end = root.end.copy(alloc)?;
+    let end = root.end.copy()?;
     let premises = Numbers::from_vec(places);
     Key::new(
         alloc,

@@ -8,8 +8,3 @@ mod tree_variables;
 
 pub use bench::{Bench, BenchPass};
 pub use tree_images::substitute;
-
-#[cfg(test)]
-mod samples;
-#[cfg(test)]
-mod tests;

@@ -12,6 +12,3 @@ pub use deciding::decide;
 pub use fault::SearchFault;
 pub use proving::search;
 pub use quantifiers::{has_quantifier, is_propositional};
-
-#[cfg(test)]
-mod tests;

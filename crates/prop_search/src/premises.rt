@@ -38,7 +38,7 @@ fn without(alloc: Global, formulas: &Formulas, left_out: &Formula) -> Result<For
             kept.push(formula.copy()?)?;
         }
     }
-    Ok(Formulas::from_vec(kept))
+    Formulas::from_vec(alloc, kept)
 }
 
 /// The atoms on the left of a sequent whose other formulas there are truth.
@@ -53,7 +53,7 @@ fn without_on_left(alloc: Global, sequent: &Sequent, main: &Formula) -> Result<S
     ensures { IfOk result (λ rest. rest ≡ record sequent.now { left = without_formula sequent.now.left main.now }) }
 {
     let left = without(alloc, &sequent.left, main)?;
-    let right = sequent.right.copy(alloc)?;
+    let right = sequent.right.copy()?;
     Ok(Sequent { left, right })
 }
 
@@ -61,7 +61,7 @@ fn without_on_left(alloc: Global, sequent: &Sequent, main: &Formula) -> Result<S
 fn without_on_right(alloc: Global, sequent: &Sequent, main: &Formula) -> Result<Sequent, AllocError>
     ensures { IfOk result (λ rest. rest ≡ record sequent.now { right = without_formula sequent.now.right main.now }) }
 {
-    let left = sequent.left.copy(alloc)?;
+    let left = sequent.left.copy()?;
     let right = without(alloc, &sequent.right, main)?;
     Ok(Sequent { left, right })
 }
@@ -84,7 +84,7 @@ fn without_main(alloc: Global, rule: &Rule, sequent: &Sequent) -> Result<Sequent
         | Rule::ImpR(main)
         | Rule::AllR(main, _)
         | Rule::ExR(main, _) => without_on_right(alloc, sequent, main),
-        Rule::Cut(_) | Rule::Weak => sequent.copy(alloc),
+        Rule::Cut(_) | Rule::Weak => sequent.copy(),
         Rule::Ax(_) | Rule::TopR | Rule::BotL => unreachable!(),
     }
 }

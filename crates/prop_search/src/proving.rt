@@ -55,7 +55,7 @@ fn prove_at<R: Wait>(
         unreachable!()
     };
     let premises = prove_premises(rt, alloc, graph, pass, &rule, sequent)?;
-    let end = sequent.copy(alloc)?;
+    let end = sequent.copy()?;
     graph.intern(rt, alloc, pass, rule, end, &premises)
 }
 

@@ -6,7 +6,7 @@ use std::alloc::{AllocError, Global};
 use std::marker::Model;
 
 /// A list of variables.
-#[derive(Drop, Debug)]
+#[derive(Drop)]
 pub struct VarList {
     items: Vec<Var>,
 }
@@ -52,7 +52,7 @@ impl VarList {
 }
 
 /// A clause: a disjunction of literals, as it was read, and its variables in the order in which each occurs first.
-#[derive(Drop, Debug)]
+#[derive(Drop)]
 pub struct Clause {
     pub matrix: Formula,
     pub vars: VarList,

@@ -51,7 +51,7 @@ fn without(alloc: Global, formulas: &Formulas, atom: &Formula) -> Result<Formula
             kept.push(formula.copy()?)?;
         }
     }
-    Ok(Formulas::from_vec(kept))
+    Formulas::from_vec(alloc, kept)
 }
 
 /// What is left of two clauses when the atom goes from the right of the first and from the left of the second.
@@ -64,12 +64,12 @@ pub fn resolvent(
     ensures { IfOk result (λ s. s ≡ resolvent_of positive.now negative.now atom.now) }
 {
     let first = Sequent {
-        left: positive.left.copy(alloc)?,
+        left: positive.left.copy()?,
         right: without(alloc, &positive.right, atom)?,
     };
     let second = Sequent {
         left: without(alloc, &negative.left, atom)?,
-        right: negative.right.copy(alloc)?,
+        right: negative.right.copy()?,
     };
     first.union(alloc, &second)
 }

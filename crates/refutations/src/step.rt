@@ -4,7 +4,7 @@ use fol::Formula;
 use substitution::Subst;
 
 /// A step of a refutation. Steps are numbered from 0, and so are the clauses.
-#[derive(Drop, Debug)]
+#[derive(Drop)]
 pub enum ResStep {
     /// The clause of this number.
     Input(u64),

@@ -41,7 +41,7 @@ fn set_of(alloc: Global, formulas: &[Formula]) -> Result<Formulas, AllocError>
     for formula in formulas {
         items.push(formula.copy()?)?;
     }
-    Ok(Formulas::from_vec(items))
+    Formulas::from_vec(alloc, items)
 }
 
 /// Closes the clauses.

@@ -22,7 +22,7 @@ pub(crate) fn extended(
     requires { IsFormed formula.now }
     ensures { IfOk result (λ s. s ≡ adds_to end.now side formula.now) }
 {
-    let mut more = end.copy(alloc)?;
+    let mut more = end.copy()?;
     more.add(side, formula.copy()?)?;
     Ok(more)
 }
@@ -43,7 +43,7 @@ pub(crate) fn leaf<R: Wait>(
     ensures grown { IsPrefix (history pass.old) (history pass.new) }
     ensures pass_stays { IsPassOf graph.now pass.new }
 {
-    let end = end.copy(alloc)?;
+    let end = end.copy()?;
     graph.intern(rt, alloc, pass, rule, end, &[])
 }
 
@@ -65,7 +65,7 @@ pub(crate) fn over_one<R: Wait>(
     ensures grown { IsPrefix (history pass.old) (history pass.new) }
     ensures pass_stays { IsPassOf graph.now pass.new }
 {
-    let end = end.copy(alloc)?;
+    let end = end.copy()?;
     let premises = [premise];
     graph.intern(rt, alloc, pass, rule, end, &premises)
 }
@@ -89,7 +89,7 @@ pub(crate) fn over_two<R: Wait>(
     ensures grown { IsPrefix (history pass.old) (history pass.new) }
     ensures pass_stays { IsPassOf graph.now pass.new }
 {
-    let end = end.copy(alloc)?;
+    let end = end.copy()?;
     let (first, second) = premises;
     let premises = [first, second];
     graph.intern(rt, alloc, pass, rule, end, &premises)

@@ -11,8 +11,3 @@ mod steps;
 
 pub use faults::ImportFault;
 pub use importing::import;
-
-#[cfg(test)]
-mod samples;
-#[cfg(test)]
-mod tests;

@@ -12,3 +12,5 @@ pub mod BindLaws
 pub mod FreeLaws
 pub mod ShapeLaws
 pub mod ClosingLaws
+pub mod Shut
+pub mod Low

@@ -4,7 +4,7 @@ ghost use Rattle.fol.specs.Formed.{IsFormed};
 ghost use Rattle.substitution.specs.Instance.{bind_term_at as bound_term_at, bind_terms_at as bound_terms_at, bind_at as bound_at, bind as bound_body, nesting, IsOpenBody};
 
 use crate::sharing::{
-    or_copy, term_with_arguments, with_arguments, with_body, with_elements, with_parts,
+    or_copy, term_with_arguments, unchanged, with_arguments, with_body, with_elements, with_parts,
 };
 use fol::{Formula, FormulaNode, Term, TermNode, Terms, TermsLink, Var};
 use std::alloc::{AllocError, Global};
@@ -22,6 +22,7 @@ pub fn bind(alloc: Global, formula: &Formula, var: &Var) -> Result<Formula, Allo
 }
 
 // `depth` is the number of quantifiers passed.
+#[tactic(auto, using(crate::proofs::Shut::shut_bind))]
 fn bind_at(
     alloc: Global,
     formula: &Formula,
@@ -31,6 +32,9 @@ fn bind_at(
     ensures value { IfOk result (λ new. unwrap_or new formula.now ≡ bound_at var.now depth formula.now) }
     ensures fits { OnOk result (depth + nesting formula.now < 2 ^ 32) }
 {
+    if !formula.has_free() {
+        return unchanged(formula, depth);
+    }
     match formula.node() {
         FormulaNode::Atom(_, terms) => {
             let terms = bind_terms_at(alloc, terms, var, depth)?;
@@ -57,9 +61,13 @@ fn bind_at(
 }
 
 #[cycle(bind_term)]
+#[tactic(auto, using(crate::proofs::Shut::shut_bind_term))]
 fn bind_term_at(alloc: Global, of: &Term, var: &Var, depth: u32) -> Result<Option<Term>, AllocError>
     ensures { IfOk result (λ new. unwrap_or new of.now ≡ bound_term_at var.now depth of.now) }
 {
+    if !of.has_free() {
+        return Ok(None);
+    }
     match of.node() {
         TermNode::Free(other) => {
             if var == other {
@@ -77,6 +85,7 @@ fn bind_term_at(alloc: Global, of: &Term, var: &Var, depth: u32) -> Result<Optio
 }
 
 #[cycle(bind_term)]
+#[tactic(auto, using(crate::proofs::Shut::shut_bind_terms))]
 fn bind_terms_at(
     alloc: Global,
     of: &Terms,
@@ -85,6 +94,9 @@ fn bind_terms_at(
 ) -> Result<Option<Terms>, AllocError>
     ensures { IfOk result (λ new. unwrap_or new of.now ≡ bound_terms_at var.now depth of.now) }
 {
+    if !of.has_free() {
+        return Ok(None);
+    }
     match of.link() {
         TermsLink::Nil => Ok(None),
         TermsLink::Cons(first, rest) => {

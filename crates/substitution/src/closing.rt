@@ -9,7 +9,7 @@ ghost use Rattle.substitution.specs.Instance.{nesting};
 ghost use Rattle.substitution.specs.Closing.{closed_over, level_from, bound_each, bound_each_term, bound_each_terms, AreBelow};
 
 use crate::sharing::{
-    or_copy, term_with_arguments, with_arguments, with_body, with_elements, with_parts,
+    or_copy, term_with_arguments, unchanged, with_arguments, with_body, with_elements, with_parts,
 };
 use fol::{Formula, FormulaNode, Term, TermNode, Terms, TermsLink, Var};
 use std::alloc::{AllocError, Global};
@@ -65,7 +65,7 @@ fn levels_of(alloc: Global, vars: &[Var]) -> Result<BTreeMap<Var, u32>, AllocErr
 }
 
 // `depth` is the number of quantifiers around, those of the variables included.
-#[tactic(auto, using(crate::proofs::ClosingLaws::below_more))]
+#[tactic(auto, using(crate::proofs::ClosingLaws::below_more, crate::proofs::Shut::shut_each))]
 fn bind_each_at(
     alloc: Global,
     formula: &Formula,
@@ -76,6 +76,9 @@ fn bind_each_at(
     ensures value { IfOk result (λ new. unwrap_or new formula.now ≡ bound_each (get var_cmp levels.now) depth formula.now) }
     ensures fits { OnOk result (depth + nesting formula.now < 2 ^ 32) }
 {
+    if !formula.has_free() {
+        return unchanged(formula, depth);
+    }
     match formula.node() {
         FormulaNode::Atom(_, terms) => {
             let terms = bind_each_terms(alloc, terms, levels, depth)?;
@@ -102,6 +105,7 @@ fn bind_each_at(
 }
 
 #[cycle(bind_each_term)]
+#[tactic(auto, using(crate::proofs::Shut::shut_each_term))]
 fn bind_each_term(
     alloc: Global,
     term: &Term,
@@ -111,6 +115,9 @@ fn bind_each_term(
     requires { AreBelow (get var_cmp levels.now) depth }
     ensures { IfOk result (λ new. unwrap_or new term.now ≡ bound_each_term (get var_cmp levels.now) depth term.now) }
 {
+    if !term.has_free() {
+        return Ok(None);
+    }
     match term.node() {
         TermNode::Free(var) => match levels.get(var) {
             Some(level) => Ok(Some(Term::bound(alloc, depth - (*level + 1))?)),
@@ -125,6 +132,7 @@ fn bind_each_term(
 }
 
 #[cycle(bind_each_term)]
+#[tactic(auto, using(crate::proofs::Shut::shut_each_terms))]
 fn bind_each_terms(
     alloc: Global,
     terms: &Terms,
@@ -134,6 +142,9 @@ fn bind_each_terms(
     requires { AreBelow (get var_cmp levels.now) depth }
     ensures { IfOk result (λ new. unwrap_or new terms.now ≡ bound_each_terms (get var_cmp levels.now) depth terms.now) }
 {
+    if !terms.has_free() {
+        return Ok(None);
+    }
     match terms.link() {
         TermsLink::Nil => Ok(None),
         TermsLink::Cons(first, rest) => {

@@ -33,9 +33,13 @@ pub fn apply_term(alloc: Global, map: &Subst, term: &Term) -> Result<Term, Alloc
     or_copy_term(changed, term)
 }
 
+#[tactic(auto, using(crate::proofs::Shut::shut_image))]
 fn image_of(alloc: Global, map: &Subst, formula: &Formula) -> Result<Option<Formula>, AllocError>
     ensures { IfOk result (λ new. unwrap_or new formula.now ≡ image (fin.get map.now) formula.now) }
 {
+    if !formula.has_free() {
+        return Ok(None);
+    }
     match formula.node() {
         FormulaNode::Atom(_, terms) => {
             let terms = image_of_terms(alloc, map, terms)?;
@@ -57,9 +61,13 @@ fn image_of(alloc: Global, map: &Subst, formula: &Formula) -> Result<Option<Form
 }
 
 #[cycle(term_image)]
+#[tactic(auto, using(crate::proofs::Shut::shut_image_term))]
 fn image_of_term(alloc: Global, map: &Subst, term: &Term) -> Result<Option<Term>, AllocError>
     ensures { IfOk result (λ new. unwrap_or new term.now ≡ image_term (fin.get map.now) term.now) }
 {
+    if !term.has_free() {
+        return Ok(None);
+    }
     match term.node() {
         TermNode::Free(var) => match map.get(var) {
             Some(term) => Ok(Some(term.copy()?)),
@@ -74,9 +82,13 @@ fn image_of_term(alloc: Global, map: &Subst, term: &Term) -> Result<Option<Term>
 }
 
 #[cycle(term_image)]
+#[tactic(auto, using(crate::proofs::Shut::shut_image_terms))]
 fn image_of_terms(alloc: Global, map: &Subst, terms: &Terms) -> Result<Option<Terms>, AllocError>
     ensures { IfOk result (λ new. unwrap_or new terms.now ≡ image_terms (fin.get map.now) terms.now) }
 {
+    if !terms.has_free() {
+        return Ok(None);
+    }
     match terms.link() {
         TermsLink::Nil => Ok(None),
         TermsLink::Cons(first, rest) => {

@@ -34,7 +34,7 @@ pub fn is_instance(body: &Formula, term: &Term, formula: &Formula) -> bool
 }
 
 // `depth` is the number of quantifiers passed. It stops at the largest `u64`, which is above every index.
-#[tactic(auto, using(crate::proofs::Depth::next_inst, crate::proofs::Depth::next_open))]
+#[tactic(auto, using(crate::proofs::Depth::next_inst, crate::proofs::Depth::next_open, crate::proofs::Low::low_inst))]
 fn instance_at(
     alloc: Global,
     formula: &Formula,
@@ -44,6 +44,9 @@ fn instance_at(
     requires { is_formed_at (depth + 1) formula.now ≡ true }
     ensures { IfOk result (λ new. unwrap_or new formula.now ≡ inst_at term.now depth formula.now) }
 {
+    if formula.dangling() <= depth {
+        return Ok(None);
+    }
     match formula.node() {
         FormulaNode::Atom(_, terms) => {
             let terms = terms_instance_at(alloc, terms, term, depth)?;
@@ -69,6 +72,7 @@ fn instance_at(
 }
 
 #[cycle(term_instance)]
+#[tactic(auto, using(crate::proofs::Low::low_inst_term))]
 fn term_instance_at(
     alloc: Global,
     of: &Term,
@@ -77,6 +81,9 @@ fn term_instance_at(
 ) -> Result<Option<Term>, AllocError>
     ensures { IfOk result (λ new. unwrap_or new of.now ≡ inst_term_at term.now depth of.now) }
 {
+    if of.dangling() <= depth {
+        return Ok(None);
+    }
     match of.node() {
         TermNode::Free(_) => Ok(None),
         TermNode::Bound(index) => {
@@ -94,6 +101,7 @@ fn term_instance_at(
 }
 
 #[cycle(term_instance)]
+#[tactic(auto, using(crate::proofs::Low::low_inst_terms))]
 fn terms_instance_at(
     alloc: Global,
     of: &Terms,
@@ -102,6 +110,9 @@ fn terms_instance_at(
 ) -> Result<Option<Terms>, AllocError>
     ensures { IfOk result (λ new. unwrap_or new of.now ≡ inst_terms_at term.now depth of.now) }
 {
+    if of.dangling() <= depth {
+        return Ok(None);
+    }
     match of.link() {
         TermsLink::Nil => Ok(None),
         TermsLink::Cons(first, rest) => {
@@ -112,11 +123,14 @@ fn terms_instance_at(
     }
 }
 
-#[tactic(auto, using(crate::proofs::Depth::next_inst, crate::proofs::Depth::next_open, crate::proofs::Ties::eq_then))]
+#[tactic(auto, using(crate::proofs::Depth::next_inst, crate::proofs::Depth::next_open, crate::proofs::Ties::eq_then, crate::proofs::Low::low_inst))]
 fn is_instance_at(body: &Formula, term: &Term, formula: &Formula, depth: u64) -> bool
     requires { is_formed_at (depth + 1) body.now ≡ true }
     ensures { result ≡ eq_by_cmp formula_cmp (inst_at term.now depth body.now) formula.now }
 {
+    if body.dangling() <= depth {
+        return body == formula;
+    }
     match (body.node(), formula.node()) {
         (FormulaNode::Atom(s, ts), FormulaNode::Atom(r, us)) => {
             s == r && are_term_instances_at(ts, term, us, depth)
@@ -136,10 +150,13 @@ fn is_instance_at(body: &Formula, term: &Term, formula: &Formula, depth: u64) ->
 }
 
 #[cycle(is_term_instance)]
-#[tactic(auto, using(crate::proofs::Ties::eq_then))]
+#[tactic(auto, using(crate::proofs::Ties::eq_then, crate::proofs::Low::low_inst_term))]
 fn is_term_instance_at(pattern: &Term, term: &Term, value: &Term, depth: u64) -> bool
     ensures { result ≡ eq_by_cmp term_cmp (inst_term_at term.now depth pattern.now) value.now }
 {
+    if pattern.dangling() <= depth {
+        return pattern == value;
+    }
     match (pattern.node(), value.node()) {
         (TermNode::Bound(i), _) if u64::from(*i) == depth => term == value,
         (TermNode::Bound(i), TermNode::Bound(j)) => i == j,
@@ -152,10 +169,13 @@ fn is_term_instance_at(pattern: &Term, term: &Term, value: &Term, depth: u64) ->
 }
 
 #[cycle(is_term_instance)]
-#[tactic(auto, using(crate::proofs::Ties::eq_then))]
+#[tactic(auto, using(crate::proofs::Ties::eq_then, crate::proofs::Low::low_inst_terms))]
 fn are_term_instances_at(patterns: &Terms, term: &Term, values: &Terms, depth: u64) -> bool
     ensures { result ≡ eq_by_cmp terms_cmp (inst_terms_at term.now depth patterns.now) values.now }
 {
+    if patterns.dangling() <= depth {
+        return patterns == values;
+    }
     match (patterns.link(), values.link()) {
         (TermsLink::Nil, TermsLink::Nil) => true,
         (TermsLink::Cons(t, ts), TermsLink::Cons(u, us)) => {

@@ -16,6 +16,3 @@ pub use closing::{close_all, close_ex};
 pub use images::{apply, apply_term};
 pub use instances::{instance, is_instance};
 pub use maps::Subst;
-
-#[cfg(test)]
-mod tests;

@@ -16,7 +16,7 @@ use std::cmp::Ordering;
 use std::marker::Model;
 
 /// A finite map from variables to terms, kept as bindings in rising order of the variables.
-#[derive(Drop, Debug)]
+#[derive(Drop)]
 pub struct Subst {
     items: Vec<(Var, Term)>,
 }

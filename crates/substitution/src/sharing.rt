@@ -1,5 +1,6 @@
 //! Results that share what did not change: `None` stands for the old value.
-ghost use Rattle.std.specs.Prelude.{◌≡◌, IfOk, unwrap_or};
+ghost use Rattle.std.specs.Prelude.{◌≡◌, ◌+◌, ◌^◌, ◌<◌, IfOk, OnOk, unwrap_or};
+ghost use Rattle.substitution.specs.Instance.{nesting};
 ghost use Rattle.substitution.specs.Sharing.{term_with_arguments as application_with, with_elements as list_with, with_arguments as atom_with, with_body as formula_with_body, with_parts as formula_with_parts};
 
 use fol::{Formula, FormulaNode, Term, TermNode, Terms, TermsLink};
@@ -32,6 +33,18 @@ pub fn or_copy(changed: Option<Formula>, formula: &Formula) -> Result<Formula, A
     match changed {
         Some(changed) => Ok(changed),
         None => formula.copy(),
+    }
+}
+
+/// A formula that is passed over inside `depth` quantifiers. With 2^32 quantifiers and nodes it is refused as want of memory.
+#[tactic(auto, using(crate::proofs::Shut::nesting_within))]
+pub fn unchanged(formula: &Formula, depth: u32) -> Result<Option<Formula>, AllocError>
+    ensures value { IfOk result (λ new. unwrap_or new formula.now ≡ formula.now) }
+    ensures fits { OnOk result (depth + nesting formula.now < 2 ^ 32) }
+{
+    match depth.checked_add(formula.size()) {
+        Some(_) => Ok(None),
+        None => Err(AllocError),
     }
 }
 

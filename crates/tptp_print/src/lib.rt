@@ -9,6 +9,3 @@ mod printing;
 mod terms;
 
 pub use printing::{print_formula, print_sequent, print_term};
-
-#[cfg(test)]
-mod tests;

@@ -18,7 +18,7 @@ pub enum Bracket {
 }
 
 /// What stands at the front in an annotation. Lengths and places are in bytes from the front.
-#[derive(Clone, Copy, Debug)]
+#[derive(Clone, Copy)]
 pub enum Piece {
     /// The text is at its end.
     End,
@@ -33,7 +33,7 @@ pub enum Piece {
 }
 
 /// What a closing bracket does in an annotation.
-#[derive(Clone, Copy, Debug)]
+#[derive(Clone, Copy)]
 pub enum Closing {
     /// It can't stand there.
     Refused,

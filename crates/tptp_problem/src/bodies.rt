@@ -20,7 +20,7 @@ pub const ENTRY_LIMITS: Limits = Limits {
 };
 
 /// How far the body of an entry has been read.
-#[derive(Drop, Debug)]
+#[derive(Drop)]
 pub struct Body {
     pub state: State,
     /// Where the body is a clause: how far that has been read.

@@ -20,6 +20,3 @@ pub use clause_list::clauses;
 pub use errors::{ProblemError, ProblemKind};
 pub use problems::{Entries, Entry, Language, Problem, Role};
 pub use reader::read_problem;
-
-#[cfg(test)]
-mod tests;

@@ -29,7 +29,7 @@ pub enum Role {
 }
 
 /// One entry of a problem. The formula is as it was read, so its variables are free.
-#[derive(Drop, Debug)]
+#[derive(Drop)]
 pub struct Entry {
     pub name: Text,
     pub language: Language,
@@ -54,7 +54,7 @@ impl Entry {
 }
 
 /// A list of entries.
-#[derive(Drop, Debug)]
+#[derive(Drop)]
 pub struct Entries {
     items: Vec<Entry>,
 }
@@ -101,7 +101,7 @@ impl Entries {
 
 /// A problem: its entries in order, and its sequent. The sequent has the universal closures of the entries that are no conjecture on the
 /// left, and on the right, where there is a conjecture, the conjunction of the closures of all of them.
-#[derive(Drop, Debug)]
+#[derive(Drop)]
 pub struct Problem {
     pub entries: Entries,
     pub sequent: Sequent,
@@ -113,7 +113,7 @@ impl Problem {
         ensures { IfOk result (λ copy. copy ≡ self.now) }
     {
         let entries = self.entries.copy(alloc)?;
-        let sequent = self.sequent.copy(alloc)?;
+        let sequent = self.sequent.copy()?;
         Ok(Problem { entries, sequent })
     }
 }

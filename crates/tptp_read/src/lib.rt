@@ -16,6 +16,3 @@ pub use errors::{StepError, TextError};
 pub use reader::{read_formula, read_term};
 pub use state::{Call, Frame, LIMITS, Limits, Mode, Outcome, Part, Side, State};
 pub use variables::Variables;
-
-#[cfg(test)]
-mod tests;

@@ -5,7 +5,7 @@ use std::collections::VecDeque;
 use tptp_tokens::{BinaryOperator, ChainOperator, Quantifier};
 
 /// The limits of a text.
-#[derive(Clone, Copy, Debug)]
+#[derive(Clone, Copy)]
 pub struct Limits {
     /// How many parentheses, negations and quantifiers may be open at once.
     pub levels: usize,
@@ -23,14 +23,14 @@ pub const LIMITS: Limits = Limits {
 };
 
 /// What a text means.
-#[derive(Drop, Debug)]
+#[derive(Drop)]
 pub enum Outcome {
     Formula(Formula),
     Term(Term),
 }
 
 /// What stands in a formula before the unit that is read.
-#[derive(Drop, Debug)]
+#[derive(Drop)]
 pub enum Part {
     First,
     /// The members of a chain, and how many operators stand behind them.
@@ -40,7 +40,7 @@ pub enum Part {
 }
 
 /// What isn't complete around a unit.
-#[derive(Drop, Debug)]
+#[derive(Drop)]
 pub enum Frame {
     /// An open parenthesis, and what stands before it in the formula around it.
     Group(Part),
@@ -49,14 +49,14 @@ pub enum Frame {
 }
 
 /// A symbol whose arguments are read: its name and the arguments so far, the last one first.
-#[derive(Drop, Debug)]
+#[derive(Drop)]
 pub struct Call {
     pub name: Text,
     pub terms: Terms,
 }
 
 /// Where a term stands that is in no other term.
-#[derive(Drop, Debug)]
+#[derive(Drop)]
 pub enum Side {
     /// At the front of a unit: an atom, or the left side of an equation.
     Lead,
@@ -67,7 +67,7 @@ pub enum Side {
 }
 
 /// What has just been read, or is wanted next.
-#[derive(Drop, Debug)]
+#[derive(Drop)]
 pub enum Mode {
     WantUnit,
     AfterUnit(Formula),
@@ -83,7 +83,7 @@ pub enum Mode {
 }
 
 /// How far a text has been read.
-#[derive(Drop, Debug)]
+#[derive(Drop)]
 pub struct State {
     pub mode: Mode,
     pub side: Side,

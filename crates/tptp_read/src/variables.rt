@@ -7,7 +7,7 @@ use std::collections::VecDeque;
 use std::marker::Model;
 
 /// The variables of a quantifier, the last one first.
-#[derive(Drop, Debug)]
+#[derive(Drop)]
 pub struct Variables {
     items: VecDeque<Var>,
 }

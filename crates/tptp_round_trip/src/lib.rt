@@ -5,6 +5,3 @@ pub mod laws;
 mod reading;
 
 pub use reading::read_back;
-
-#[cfg(test)]
-mod tests;

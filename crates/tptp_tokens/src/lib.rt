@@ -8,6 +8,3 @@ mod words;
 
 pub use front::{read_variable, scan};
 pub use tokens::{BinaryOperator, ChainOperator, Quantifier, Scan, TextFault, TextKind, Token};
-
-#[cfg(test)]
-mod tests;

@@ -27,7 +27,7 @@ pub enum BinaryOperator {
 }
 
 /// A token. A name in quotes and the same name without them are one token, and so are a numbered variable and its text.
-#[derive(Drop, Debug)]
+#[derive(Drop)]
 pub enum Token {
     /// A lower word or a name in quotes, as the name itself.
     Name(Text),
@@ -78,7 +78,7 @@ pub struct TextFault {
 }
 
 /// What stands at the front of a text. Lengths and places are in bytes from the front.
-#[derive(Drop, Debug)]
+#[derive(Drop)]
 pub enum Scan {
     /// The text is at its end.
     End,

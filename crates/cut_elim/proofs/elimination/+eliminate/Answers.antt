@@ -515,3 +515,12 @@ eliminate_other-returns-clause-grown g t c =
       | eliminate_other-else-reductions-eq0 w ↦
           subst (λ (p : BenchPass). IsPrefix (history (pass_in c.args.pass.now)) (history (pass_in p))) (sym w.pass-is) (prefix_trans _ _ _ c.in-Ok.ensures.grown w.rebuilt-whole.ensures.grown)
     ]
+
+-- the history goes on from call to call
+pub eliminate_cut-returns-in-Err-eliminate_in-2-clause-grown : goal.eliminate_cut-returns-in-Err-eliminate_in-2-clause-grown
+eliminate_cut-returns-in-Err-eliminate_in-2-clause-grown g t c =
+    prefix_trans _ _ _ (prefix_trans _ _ _ (prefix_trans _ _ _ c.eliminate_in.ensures.grown c.eliminate_in-2.ensures.grown) c.contract_over.ensures.grown) c.eliminate_in-3.ensures.grown
+
+pub eliminate_cut-returns-clause-grown : goal.eliminate_cut-returns-clause-grown
+eliminate_cut-returns-clause-grown g t c =
+    prefix_trans _ _ _ (prefix_trans _ _ _ (prefix_trans _ _ _ c.eliminate_in.ensures.grown c.eliminate_in-2.ensures.grown) c.contract_over.ensures.grown) c.eliminate_in-3.ensures.grown

@@ -11,8 +11,8 @@ use Rattle.job_lang.proofs.values.formulas_value.Goals as goal
 pub loop-formula-preserved : goal.loop-formula-preserved
 loop-formula-preserved c =
     subst (λ (texts : List Value). map view texts ≡ map shown (take (c.loop-formula.formula-index + 1) c.args.formulas.now)) (sym c.in_ok-push.ensures.items)
-    (values_more shown c.loop-formula.texts.items c.args.formulas.now c.loop-formula.formula-index c.formula-item.result c.in_ok-text.text c.loop-formula-test.true c.formula-item.is c.in_ok-text.ensures c.loop-formula.invariant)
+    (values_more shown c.loop-formula.values.items c.args.formulas.now c.loop-formula.formula-index c.formula-item.result c.in_ok-value.value c.loop-formula-test.true c.formula-item.is c.in_ok-value.ensures c.loop-formula.invariant)
 
 pub returns : goal.returns
 returns c =
-    view-Array c.loop-formula.texts ∙ ap (λ ds. array (items_of ds)) (c.loop-formula.invariant ∙ ap (map shown) (take_all c.loop-formula.formula-index c.args.formulas.now c.loop-formula-test.false))
+    view-Array c.loop-formula.values ∙ ap (λ ds. array (items_of ds)) (c.loop-formula.invariant ∙ ap (map shown) (take_all c.loop-formula.formula-index c.args.formulas.now c.loop-formula-test.false))

@@ -1,7 +1,7 @@
 -- The trees get smaller, and those of one more premise are listed.
 use Rattle.std.proofs.Common.{ap, ◌∙◌, arith}
 use Rattle.proof_graph.specs.References.{Reference}
-use Rattle.proof_steps.proofs.Sums.{premise_smaller}
+use Rattle.proof_steps.proofs.Sizes.{premise_smaller}
 use Rattle.proof_steps.proofs.Visits.{trees_next, places_next, trees_root}
 use Rattle.proof_steps.proofs.visiting.+visit.Goals as goal
 

@@ -7,7 +7,7 @@ use Rattle.lk_rules.proofs.Listings.{listing_of_list}
 use Rattle.lk_rules.proofs.formulas.Formulas.from_vec.Goals as goal
 
 pub invariant_of-result : goal.invariant_of-result
-invariant_of-result c = search (rules, listing_of_list)
+invariant_of-result c = rw c.in_ok-items.ensures (search (rules, listing_of_list))
 
 pub returns : goal.returns
-returns c = search (rules, shown_by_list formula_total formula_ties)
+returns c = rw c.in_ok-items.ensures (search (rules, shown_by_list formula_total formula_ties))

@@ -9,5 +9,5 @@ use Rattle.lk_rules.proofs.formulas.Formulas.has.Goals as goal
 
 pub returns : goal.returns
 returns c =
-    let found : c.search.result ≡ place formula_cmp c.args.f.now c.self.inside.items.items = rw c.deref.ensures.value at c.search.ensures in
-    c.is_ok.ensures.value ∙ ap is_ok found ∙ has-place formula_cmp formula_total c.args.f.now c.self.inside.items.items c.self.invariant.rises ∙ ap (λ s. set.has s c.args.f.now) c.self.view_is
+    let found : c.search.result ≡ place formula_cmp c.args.f.now c.self.inside.items = rw c.as_slice.ensures at c.search.ensures in
+    c.is_ok.ensures.value ∙ ap is_ok found ∙ has-place formula_cmp formula_total c.args.f.now c.self.inside.items c.self.invariant.rises ∙ ap (λ s. set.has s c.args.f.now) c.self.view_is

@@ -4,4 +4,4 @@ use Rattle.finite.proofs.Finite.{of_rising-empty}
 use Rattle.lk_rules.proofs.formulas.Formulas.new.Goals as goal
 
 pub returns : goal.returns
-returns c = rw c.new.ensures.items (of_rising-empty formula_cmp)
+returns c = rw c.new.ensures (of_rising-empty formula_cmp)

@@ -12,11 +12,11 @@ use Rattle.lk_rules.proofs.formulas.Formulas.union.Goals as goal
 
 pub invariant_of-result : goal.invariant_of-result
 invariant_of-result c =
-    rw (c.in_ok-items.ensures, c.deref.ensures.value, c.deref-2.ensures.value)
-    (listing_of_merge c.self.inside.items.items c.other.inside.items.items c.self.invariant c.other.invariant)
+    rw (c.in_ok-items-2.ensures, c.in_ok-items.ensures, c.as_slice.ensures, c.as_slice-2.ensures)
+    (listing_of_merge c.self.inside.items c.other.inside.items c.self.invariant c.other.invariant)
 
 pub returns : goal.returns
 returns c =
-    ap set.of_rising (c.in_ok-items.ensures ∙ λ i. sorted_merge formula_cmp true (c.deref.ensures.value i) (c.deref-2.ensures.value i))
-    ∙ shown_by_merge formula_total formula_ties c.self.inside.items.items c.other.inside.items.items c.self.invariant.rises c.other.invariant.rises
+    ap set.of_rising (c.in_ok-items-2.ensures ∙ c.in_ok-items.ensures ∙ λ i. sorted_merge formula_cmp true (c.as_slice.ensures i) (c.as_slice-2.ensures i))
+    ∙ shown_by_merge formula_total formula_ties c.self.inside.items c.other.inside.items c.self.invariant.rises c.other.invariant.rises
     ∙ λ i. union_of (c.self.view_is i) (c.other.view_is i)

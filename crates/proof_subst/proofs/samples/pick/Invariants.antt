@@ -1,8 +1,0 @@
--- The references so far are of the graph.
-use Rattle.std.specs.List.{All}
-use Rattle.proof_graph.specs.Graphs.{IsOf}
-use Rattle.proof_subst.specs.Benches.{graph_of}
-use Rattle.proof_subst.proofs.samples.pick.Given as goal
-
-abbrev pub invariant-loop-place : goal.invariant-loop-place
-invariant-loop-place l = All (IsOf (graph_of l.bench)) l.picked.items

@@ -1,0 +1,84 @@
+//! Searches for proofs of small sequents, which were followed by hand.
+ghost use Rattle.std.specs.Prelude.{IfOk};
+ghost use Rattle.search_laws.specs.Truth.{IsPropositional};
+
+use crate::samples::{assert_steps, steps_of};
+use lk_rules::Sequent;
+use proof_graph::Graph;
+use prop_search::{SearchFault, decide, is_propositional, search};
+use std::alloc::Global;
+use std::process::Abort;
+use std::test::Fail;
+
+// How many sequents the search visits, the sequent, and `valid` or an assignment under which it is false, as the left side of a sequent.
+// Of `~|/` the negation is taken first; after the disjunction it would be taken twice. Of `|/&` the left is taken first; after the right
+// the search would end with q.
+const SEARCHES: &str = "5 |/{q|p} valid
+3 |/p q/
+1 /T valid
+1 F/ valid
+1 Tp/qF p/
+1 |/| valid
+1 / /
+3 >p/q valid
+5 /{((p=>q)=>p)=>p} valid
+3 /{p|~p} valid
+2 &/q valid
+4 ~|/ q/
+4 |/& p/";
+
+// The sequent of a text.
+fn sequent_of<R: Abort>(rt: &R, alloc: Global, text: &str) -> Result<Sequent, Fail>
+    ensures { IfOk result IsPropositional }
+{
+    let text = format!(in alloc; "weak - {text}")?;
+    let steps = steps_of(alloc, text.as_str())?;
+    let step = steps.as_slice().first().ok_or("no sequent")?;
+    let sequent = step.end.copy()?;
+    assert!(rt; is_propositional(&sequent));
+    Ok(sequent)
+}
+
+// Sees that the search visits so many sequents, no fewer, and what it answers.
+fn assert_search<R: Abort>(rt: &R, alloc: Global, row: &str) -> Result<(), Fail> {
+    let (visits, rest) = row.split_once(' ').ok_or("no number")?;
+    let (text, answer) = rest.split_once(' ').ok_or("no answer")?;
+    let visits = visits.parse::<u64>()?;
+    let sequent = sequent_of(rt, alloc, text)?;
+    let short = decide(alloc, &sequent, visits.saturating_sub(1));
+    assert!(rt; matches!(short, Err(SearchFault::Budget)), "{row}");
+    match decide(alloc, &sequent, visits) {
+        Ok(()) => assert!(rt; answer == "valid", "{row}"),
+        Err(SearchFault::Falsified(atoms)) => {
+            let wanted = sequent_of(rt, alloc, answer)?;
+            assert!(rt; atoms == wanted.left, "{row}");
+        }
+        Err(_) => assert!(rt; false, "{row}"),
+    }
+    Ok(())
+}
+
+#[test]
+fn searches(rt: HostRuntime) -> Result<(), Fail> {
+    for row in SEARCHES.lines() {
+        assert_search(&rt, rt.alloc(), row)?;
+    }
+    Ok(())
+}
+
+// Refused searches put nothing into the graph: the five nodes of the proof that comes next are its first.
+#[test]
+fn refused_searches_leave_the_graph(rt: HostRuntime) -> Result<(), Fail> {
+    let alloc = rt.alloc();
+    let (graph, mut pass) = Graph::new(alloc)?;
+    let wrong = sequent_of(&rt, alloc, "|/p")?;
+    let right = sequent_of(&rt, alloc, "|/{q|p}")?;
+    let refused = search(&rt, alloc, &graph, &mut pass, &wrong, 9);
+    assert!(rt; matches!(refused, Err(SearchFault::Falsified(_))));
+    let refused = search(&rt, alloc, &graph, &mut pass, &right, 4);
+    assert!(rt; matches!(refused, Err(SearchFault::Budget)));
+    let proof = search(&rt, alloc, &graph, &mut pass, &right, 5)?;
+    assert_eq!(rt; proof.number(), 4);
+    let steps = "ax p p/pq;orR {q|p} p/{q|p} 0;ax q q/pq;orR {q|p} q/{q|p} 2;orL | |/{q|p} 1,3";
+    assert_steps(&rt, alloc, &graph, &proof, steps)
+}

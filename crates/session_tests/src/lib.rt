@@ -1,0 +1,13 @@
+//! Tests of the server in whole sessions. Without them the crate is empty.
+#![tactic(auto)]
+
+#[cfg(test)]
+mod ends;
+#[cfg(test)]
+mod lines;
+#[cfg(test)]
+mod running;
+#[cfg(test)]
+mod sessions;
+#[cfg(test)]
+mod words;

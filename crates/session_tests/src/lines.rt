@@ -1,0 +1,140 @@
+//! Lines that are longer than one would write, and proofs that are larger as trees.
+use crate::running::{JOB, expect};
+use std::alloc::{AllocError, Global};
+use std::test::Fail;
+
+const NO_JSON: &str = r#"{"kind":"json"}"#;
+
+const NO_NAME: &str = r#"{"field":"job","kind":"field"}"#;
+
+/// Lines with the errors that are replied to them, none of which has a name.
+#[derive(Drop)]
+struct Refusals {
+    input: Vec<u8>,
+    replies: String,
+    count: u64,
+}
+
+impl Refusals {
+    fn new(alloc: Global) -> Refusals {
+        Refusals {
+            input: Vec::new(alloc),
+            replies: String::new(alloc),
+            count: 0,
+        }
+    }
+
+    /// A further line, and the error that is replied to it.
+    fn add(&mut self, alloc: Global, line: &[u8], error: &str) -> Result<(), AllocError> {
+        self.count = self.count.saturating_add(1);
+        let n = self.count;
+        self.input.extend_from_slice(line)?;
+        self.input.push(b'\n')?;
+        let reply = format!(in alloc; "{{\"error\":{error},\"job\":null,\"n\":{n}}}\n")?;
+        self.replies.push_str(reply.as_str())
+    }
+}
+
+/// Each beginning of a job is no JSON, and 127 levels of nesting are read. A line that isn't UTF-8 is no JSON either.
+#[test]
+fn lines_are_cut_off_or_nested(rt: HostRuntime) -> Result<(), Fail> {
+    let alloc = rt.alloc();
+    let mut refusals = Refusals::new(alloc);
+    for end in 1..JOB.len() {
+        refusals.add(alloc, &JOB.as_bytes()[..end], NO_JSON)?;
+    }
+    for (levels, closed, error) in [
+        (127, true, NO_NAME),
+        (128, true, NO_JSON),
+        (200, false, NO_JSON),
+    ] {
+        let mut line = vec![in alloc; b'['; levels]?;
+        if closed {
+            line.extend_from_slice(&vec![in alloc; b']'; levels]?)?;
+        }
+        refusals.add(alloc, &line, error)?;
+    }
+    refusals.add(alloc, b"{\"job\":\"\xff\"}", NO_JSON)?;
+    for piece in [1, 1000] {
+        expect(
+            &rt,
+            alloc,
+            &refusals.input,
+            piece,
+            1,
+            refusals.replies.as_str(),
+        )?;
+    }
+    Ok(())
+}
+
+/// A line of more than 16 MiB is a job even where it holds blanks alone, and the session goes on after it.
+#[test]
+fn a_line_is_too_long(rt: HostRuntime) -> Result<(), Fail> {
+    let alloc = rt.alloc();
+    let mut input = vec![in alloc; b' '; 16_777_217]?;
+    input.push(b'\n')?;
+    input.extend_from_slice(JOB.as_bytes())?;
+    let replies = r#"{"error":{"kind":"line_too_long"},"job":null,"n":1}
+{"job":"a","n":2,"ok":{"cuts":0,"left":["p"],"quants":0,"right":["p"]}}
+"#;
+    expect(&rt, alloc, &input, 1_000_000_000, 1, replies)
+}
+
+/// A proof named `d` whose tree doubles with each of `count` steps behind its axiom, and then perhaps a cut of two of the last step, and how
+/// large it is.
+fn doubling(alloc: Global, count: u64, with_cut: bool) -> Result<String, AllocError> {
+    let mut lines = String::from_str(
+        alloc,
+        r#"{"job":"d","op":"lk","steps":[{"rule":"ax","main":"p","premises":[],"left":["p","p | p"],"right":["p"]}"#,
+    )?;
+    for k in 0..count {
+        let step = format!(in alloc;
+            ",{{\"rule\":\"orL\",\"main\":\"p | p\",\"premises\":[{k},{k}],\"left\":[\"p\",\"p | p\"],\"right\":[\"p\"]}}"
+        )?;
+        lines.push_str(step.as_str())?;
+    }
+    if with_cut {
+        let step = format!(in alloc;
+            ",{{\"rule\":\"cut\",\"main\":\"q\",\"premises\":[{count},{count}],\"left\":[\"p\",\"p | p\"],\"right\":[\"p\"]}}"
+        )?;
+        lines.push_str(step.as_str())?;
+    }
+    lines.push_str("]}\n{\"job\":\"m\",\"op\":\"measure\",\"proof\":\"d\"}\n")?;
+    Ok(lines)
+}
+
+/// A size ends at the largest number. A tree of 2^42 - 1 nodes, 42 of them different, has one cut, which one reduction removes with half of
+/// the tree.
+#[test]
+fn trees_are_measured_and_reduced_by_the_steps_that_differ(rt: HostRuntime) -> Result<(), Fail> {
+    let alloc = rt.alloc();
+    let cases = [
+        (
+            64,
+            false,
+            "",
+            r#"{"job":"d","n":1,"ok":{"cuts":0,"left":["p","p | p"],"quants":0,"right":["p"]}}
+{"job":"m","n":2,"ok":{"cuts":0,"nodes":65,"quants":0,"size":18446744073709551615}}
+"#,
+        ),
+        (
+            40,
+            true,
+            r#"{"job":"b","op":"cutelim","proof":"d"}
+{"job":"c","op":"measure","proof":"b"}
+"#,
+            r#"{"job":"d","n":1,"ok":{"cuts":1,"left":["p","p | p"],"quants":0,"right":["p"]}}
+{"job":"m","n":2,"ok":{"cuts":1,"nodes":42,"quants":0,"size":4398046511103}}
+{"job":"b","n":3,"ok":{"cuts":0,"left":["p","p | p"],"quants":0,"reductions":1,"right":["p"]}}
+{"job":"c","n":4,"ok":{"cuts":0,"nodes":42,"quants":0,"size":2199023255552}}
+"#,
+        ),
+    ];
+    for (count, with_cut, further, replies) in cases {
+        let mut input = doubling(alloc, count, with_cut)?;
+        input.push_str(further)?;
+        expect(&rt, alloc, input.as_bytes(), 1000, 0, replies)?;
+    }
+    Ok(())
+}

@@ -1,0 +1,55 @@
+//! The words of the command.
+use crate::running::{Failing, JOB, NONE, REPLY, run};
+use std::alloc::{AllocError, Global};
+use std::test::Fail;
+
+const USAGE: &str = "gaptd: usage: gaptd [--workers N] [--gen N]\n";
+
+/// Lines of words, each with whether they ask for a session. Jobs can't be generated yet.
+const WORDS: [(&str, bool); 13] = [
+    ("", true),
+    ("--workers 4", true),
+    ("--workers=1", true),
+    ("--workers 16 --", true),
+    ("--workers 0", false),
+    ("--workers 17", false),
+    ("--workers", false),
+    ("--gen 4", false),
+    ("--workers 4 --gen 4", false),
+    ("--gen 0", false),
+    ("--help", false),
+    ("--version", false),
+    ("serve", false),
+];
+
+/// The words of a line, which stand between spaces.
+fn words_of(alloc: Global, line: &str) -> Result<Vec<String>, AllocError> {
+    let mut words = Vec::new(alloc);
+    for word in line.split_whitespace() {
+        words.push(String::from_str(alloc, word)?)?;
+    }
+    Ok(words)
+}
+
+/// A note that can't be written changes no status.
+#[test]
+fn words_are_taken_or_refused(rt: HostRuntime) -> Result<(), Fail> {
+    let alloc = rt.alloc();
+    for (line, taken) in WORDS {
+        let (status, replies, note) = if taken {
+            (0, REPLY, "")
+        } else {
+            (2, "", USAGE)
+        };
+        let words = words_of(alloc, line)?;
+        let ran = run(&rt, alloc, &words, JOB.as_bytes(), 1000, NONE)?;
+        assert_eq!(rt; ran.status, status, "{line}");
+        assert_eq!(rt; ran.written.as_slice(), replies.as_bytes(), "{line}");
+        assert_eq!(rt; ran.notes.as_slice(), note.as_bytes(), "{line}");
+        let unnoted = Failing { note: 1, ..NONE };
+        let ran = run(&rt, alloc, &words, JOB.as_bytes(), 1000, unnoted)?;
+        assert_eq!(rt; ran.status, status, "{line}");
+        assert!(rt; ran.notes.is_empty(), "{line}");
+    }
+    Ok(())
+}
