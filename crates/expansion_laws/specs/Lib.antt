@@ -3,3 +3,4 @@ pub mod Building
 pub mod Dependency
 pub mod Helping
 pub mod Sequents
+pub mod Proofs

@@ -3,9 +3,8 @@ ghost use Rattle.std.specs.Prelude.{◌≡◌, ◌<◌, IfOk};
 ghost use Rattle.proof_graph.specs.Graphs.{IsOf};
 ghost use Rattle.proof_subst.specs.Benches.{graph_of, IsBenchPassOf};
 
-use crate::samples::{assert_steps, proof};
+use crate::samples::{assert_proof, proof};
 use cut_contract::{Steps, contract};
-use cut_elim::Desk;
 use lk_rules::Rule;
 use proof_graph::ProofRef;
 use proof_steps::first_cut;
@@ -74,13 +73,14 @@ fn assert_contraction<R: Abort + Wait, L: Ledger>(
 {
     let (_case, rest) = row.as_str().split_once(": ").ok_or("no case")?;
     let (text, contraction) = rest.split_once(" -> ").ok_or("no contraction")?;
-    let (desk, mut pass) = Desk::new(alloc)?;
-    let cut = proof(rt, alloc, &desk, &mut pass, text)?;
+    let (bench, mut pass) = Bench::new(alloc)?;
+    let graph = bench.graph();
+    let cut = proof(rt, alloc, graph, Bench::graph_pass(&mut pass), text)?;
     let mut steps = Steps::<L>::new(ledger);
-    let bench_pass = Desk::bench_pass(&mut pass);
-    let made = contracted(rt, alloc, desk.bench(), bench_pass, &cut, &mut steps)?;
+    let made = contracted(rt, alloc, &bench, &mut pass, &cut, &mut steps)?;
     steps.end();
-    assert_steps(rt, alloc, desk.bench().graph(), &made, contraction)
+    let graph_pass = Bench::graph_pass(&mut pass);
+    assert_proof(rt, alloc, graph, graph_pass, &made, contraction)
 }
 
 // The same, with a ledger of its own.

@@ -1,5 +1,5 @@
 //! Inferences by each rule, right and with each fault, worked by hand.
-use crate::samples::steps_of;
+use crate::samples::{rule, sequent};
 use lk_rules::{RuleFault, aux, check};
 use std::alloc::Global;
 use std::process::Abort;
@@ -162,8 +162,8 @@ exR S@Y /S /D -
 cut p / /p p/
 weak - / / -";
 
-/// The word for what `check` answers.
-pub fn word_of(verdict: Result<(), RuleFault>) -> &'static str {
+// The word for what `check` answers.
+fn word_of(verdict: Result<(), RuleFault>) -> &'static str {
     match verdict {
         Ok(()) => "ok",
         Err(RuleFault::Premises) => "premises",
@@ -178,18 +178,17 @@ pub fn word_of(verdict: Result<(), RuleFault>) -> &'static str {
 // Sees what is answered to the inference of a row.
 fn assert_inference<R: Abort>(rt: &R, alloc: Global, row: &str) -> Result<(), Fail> {
     let words: Vec<&str> = row.split_whitespace().collect(alloc)?;
-    let [rule, names, end, first, second, answer] = words.as_slice() else {
+    let [name, names, end, first, second, answer] = words.as_slice() else {
         return Err(Fail::from("no row"));
     };
-    let text = format!(in alloc; "weak - {first};weak - {second};{rule} {names} {end}")?;
-    let steps = steps_of(alloc, text.as_str())?;
-    let [left, right, step] = steps.as_slice() else {
-        return Err(Fail::from("no inference"));
-    };
+    let rule = rule(alloc, name, names)?;
+    let end = sequent(alloc, end)?;
+    let left = sequent(alloc, first)?;
+    let right = sequent(alloc, second)?;
     let verdict = match (*first, *second) {
-        ("-", _) => check(&step.rule, &step.end, 0, None, None),
-        (_, "-") => check(&step.rule, &step.end, 1, Some(&left.end), None),
-        _ => check(&step.rule, &step.end, 2, Some(&left.end), Some(&right.end)),
+        ("-", _) => check(&rule, &end, 0, None, None),
+        (_, "-") => check(&rule, &end, 1, Some(&left), None),
+        _ => check(&rule, &end, 2, Some(&left), Some(&right)),
     };
     assert!(rt; word_of(verdict) == *answer, "{row}");
     Ok(())
@@ -206,24 +205,21 @@ fn inferences(rt: HostRuntime) -> Result<(), Fail> {
 // Sees that the inference of a row is right, and that its premises have the auxiliary formulas.
 fn assert_auxiliary<R: Abort>(rt: &R, alloc: Global, row: &str) -> Result<(), Fail> {
     let words: Vec<&str> = row.split_whitespace().collect(alloc)?;
-    let [rule, names, end, first, second] = words.as_slice() else {
+    let [name, names, end, first, second] = words.as_slice() else {
         return Err(Fail::from("no row"));
     };
-    let text = format!(in alloc; "weak - {first};weak - {second};{rule} {names} {end}")?;
-    let steps = steps_of(alloc, text.as_str())?;
-    let [left, right, step] = steps.as_slice() else {
-        return Err(Fail::from("no inference"));
+    let rule = rule(alloc, name, names)?;
+    let end = sequent(alloc, end)?;
+    let left = sequent(alloc, first)?;
+    let right = sequent(alloc, second)?;
+    let verdict = if *second == "-" {
+        check(&rule, &end, 1, Some(&left), None)
+    } else {
+        check(&rule, &end, 2, Some(&left), Some(&right))
     };
-    if *second == "-" {
-        let verdict = check(&step.rule, &step.end, 1, Some(&left.end), None);
-        assert!(rt; verdict.is_ok(), "{row}");
-        assert!(rt; aux(alloc, &step.rule, 0)? == left.end, "{row}");
-        return Ok(());
-    }
-    let verdict = check(&step.rule, &step.end, 2, Some(&left.end), Some(&right.end));
     assert!(rt; verdict.is_ok(), "{row}");
-    assert!(rt; aux(alloc, &step.rule, 0)? == left.end, "{row}");
-    assert!(rt; aux(alloc, &step.rule, 1)? == right.end, "{row}");
+    assert!(rt; aux(alloc, &rule, 0)? == left, "{row}");
+    assert!(rt; *second == "-" || aux(alloc, &rule, 1)? == right, "{row}");
     Ok(())
 }
 

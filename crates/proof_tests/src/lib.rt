@@ -1,23 +1,16 @@
-//! Tests of the crates of proofs: what their public calls answer to small proofs, refutations and sequents.
+//! Tests of the crates of proofs: what their public calls answer to small inferences, cuts and sequents. What a session can show of them is
+//! in the files of jobs in `examples/`.
 #![tactic(auto)]
 
 #[cfg(test)]
 mod contractions;
 #[cfg(test)]
-mod eliminations;
-#[cfg(test)]
-mod imports;
-#[cfg(test)]
 mod inferences;
+#[cfg(test)]
+mod messages;
 #[cfg(test)]
 mod samples;
 #[cfg(test)]
 mod searches;
 #[cfg(test)]
 mod sharing;
-#[cfg(test)]
-mod single_cuts;
-#[cfg(test)]
-mod steps;
-#[cfg(test)]
-mod substitutions;

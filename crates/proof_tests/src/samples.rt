@@ -1,28 +1,28 @@
-//! Proofs, maps and refutations from short texts.
+//! Proofs and sequents from short texts.
 //!
 //! A proof is a list of steps with `;` between them. A step is words: the name of its rule, what the rule names, the conclusion, and where
-//! it has premises their numbers with `,` between them. A rule names `-` for nothing, or a formula, behind which `@` and a term may stand.
-//! A conclusion has `/` between its sides. A formula is a letter of `formula_text`, or its text in braces, without a blank.
+//! it has premises their numbers with `,` between them. A rule names `-` for nothing, or a formula, behind which `@` and a term or an
+//! eigenvariable may stand. A conclusion has `/` between its sides. A formula is a letter of `formula_text`, or its text in braces, without
+//! a blank.
 ghost use Rattle.std.specs.Prelude.{IfOk};
 ghost use Rattle.std.specs.List.{All};
-ghost use Rattle.refutations.specs.Clauses.{IsClauseOf};
-ghost use Rattle.proof_graph.specs.Graphs.{IsOf};
-ghost use Rattle.proof_subst.specs.Benches.{graph_of};
-ghost use Rattle.cut_elim.specs.Desks.{bench_of, IsDeskPassOf};
+ghost use Rattle.fol.specs.Formed.{IsFormed, IsFormedTerm, IsFormedVar};
+ghost use Rattle.lk_rules.specs.Rules.{IsFormedRule};
+ghost use Rattle.proof_graph.specs.Graphs.{IsOf, IsPassOf};
 
-use cut_elim::{Desk, DeskPass};
-use job_lang::{FormedMap, Job, Op, Outcome, Reply, ResSteps, Steps, read_job, reply_line};
+use fol::{Formula, Term, Var};
 use lk_check::admit;
-use proof_graph::{Graph, ProofRef};
-use proof_steps::steps;
-use proof_subst::Bench;
-use refutations::Clause;
-use std::alloc::{AllocError, Global};
+use lk_rules::{Formulas, Numbers, Rule, Sequent, Step};
+use proof_graph::{Graph, GraphPass, ProofRef};
+use std::alloc::Global;
 use std::process::Abort;
 use std::sync::Wait;
 use std::test::Fail;
-use text_tables::{CanonicalTexts, FormulaTexts};
-use tptp_problem::{clauses, read_problem};
+use tptp_read::{read_formula, read_term};
+use tptp_tokens::read_variable;
+
+// The longest text of a formula or a term, in bytes.
+const LONGEST: usize = 100;
 
 // The text of the formula that a letter stands for.
 fn formula_text(letter: char) -> &'static str {
@@ -59,156 +59,215 @@ fn formula_text(letter: char) -> &'static str {
     }
 }
 
-// Begins the next text of a list.
-fn begin(list: &mut String) -> Result<(), AllocError> {
-    if !list.is_empty() {
-        list.push_str(",")?;
+fn formula(alloc: Global, text: &str) -> Result<Formula, Fail>
+    ensures { IfOk result IsFormed }
+{
+    if text.len() > LONGEST {
+        return Err(Fail::from("a long formula"));
     }
-    list.push_str("\"")
+    Ok(read_formula(alloc, text.as_bytes())?)
 }
 
-// The formulas of a side, as the elements of a JSON list.
-fn side(alloc: Global, codes: &str) -> Result<String, AllocError> {
-    let mut list = String::new(alloc);
-    let mut is_open = false;
-    for code in codes.chars() {
-        match code {
-            '{' => {
-                begin(&mut list)?;
-                is_open = true;
+fn term(alloc: Global, text: &str) -> Result<Term, Fail>
+    ensures { IfOk result IsFormedTerm }
+{
+    if text.len() > LONGEST {
+        return Err(Fail::from("a long term"));
+    }
+    Ok(read_term(alloc, text.as_bytes())?)
+}
+
+fn variable(alloc: Global, text: &str) -> Result<Var, Fail>
+    ensures { IfOk result IsFormedVar }
+{
+    match read_variable(alloc, text.as_bytes())? {
+        Some(var) => Ok(var),
+        None => Err(Fail::from("no variable")),
+    }
+}
+
+// Adds the texts of the formulas that letters stand for to a list.
+fn push_letters(alloc: Global, list: &mut Vec<String>, letters: &str) -> Result<(), Fail> {
+    for letter in letters.chars() {
+        list.push(String::from_str(alloc, formula_text(letter))?)?;
+    }
+    Ok(())
+}
+
+// The texts of the formulas of a side, in order.
+fn texts(alloc: Global, codes: &str) -> Result<Vec<String>, Fail> {
+    let mut list = Vec::new(alloc);
+    for part in codes.split('{') {
+        match part.split_once('}') {
+            Some((text, letters)) => {
+                list.push(String::from_str(alloc, text)?)?;
+                push_letters(alloc, &mut list, letters)?;
             }
-            '}' => {
-                list.push_str("\"")?;
-                is_open = false;
-            }
-            _ if is_open => list.push(code)?,
-            _ => {
-                begin(&mut list)?;
-                list.push_str(formula_text(code))?;
-                list.push_str("\"")?;
-            }
+            None => push_letters(alloc, &mut list, part)?,
         }
     }
     Ok(list)
 }
 
-// A step as a JSON object.
-fn step(alloc: Global, text: &str) -> Result<String, Fail> {
+// The formulas of a side, in order.
+fn formulas(alloc: Global, codes: &str) -> Result<Vec<Formula>, Fail>
+    ensures { IfOk result (λ v. All IsFormed v.items) }
+{
+    let texts = texts(alloc, codes)?;
+    let mut list = Vec::new(alloc);
+    for text in &texts {
+        list.push(formula(alloc, text)?)?;
+    }
+    Ok(list)
+}
+
+/// The sequent of a text.
+pub fn sequent(alloc: Global, text: &str) -> Result<Sequent, Fail> {
+    let (left, right) = text.split_once('/').unwrap_or((text, ""));
+    let left = Formulas::from_vec(alloc, formulas(alloc, left)?)?;
+    let right = Formulas::from_vec(alloc, formulas(alloc, right)?)?;
+    Ok(Sequent { left, right })
+}
+
+// The rule that names nothing.
+fn bare_rule(name: &str) -> Result<Rule, Fail>
+    ensures { IfOk result IsFormedRule }
+{
+    match name {
+        "topR" => Ok(Rule::TopR),
+        "botL" => Ok(Rule::BotL),
+        "weak" => Ok(Rule::Weak),
+        _ => Err(Fail::from("no such rule")),
+    }
+}
+
+// The rule that names a formula alone.
+fn main_rule(name: &str, main: Formula) -> Result<Rule, Fail>
+    requires { IsFormed main }
+    ensures { IfOk result IsFormedRule }
+{
+    match name {
+        "ax" => Ok(Rule::Ax(main)),
+        "negL" => Ok(Rule::NegL(main)),
+        "negR" => Ok(Rule::NegR(main)),
+        "andL" => Ok(Rule::AndL(main)),
+        "andR" => Ok(Rule::AndR(main)),
+        "orL" => Ok(Rule::OrL(main)),
+        "orR" => Ok(Rule::OrR(main)),
+        "impL" => Ok(Rule::ImpL(main)),
+        "impR" => Ok(Rule::ImpR(main)),
+        "cut" => Ok(Rule::Cut(main)),
+        _ => Err(Fail::from("no such rule")),
+    }
+}
+
+// The rule of a quantifier, with its term or its eigenvariable.
+fn quantifier_rule(alloc: Global, name: &str, main: Formula, chosen: &str) -> Result<Rule, Fail>
+    requires { IsFormed main }
+    ensures { IfOk result IsFormedRule }
+{
+    match name {
+        "allL" => Ok(Rule::AllL(main, term(alloc, chosen)?)),
+        "allR" => Ok(Rule::AllR(main, variable(alloc, chosen)?)),
+        "exL" => Ok(Rule::ExL(main, variable(alloc, chosen)?)),
+        "exR" => Ok(Rule::ExR(main, term(alloc, chosen)?)),
+        _ => Err(Fail::from("no such rule")),
+    }
+}
+
+// The one formula of a text.
+fn main_formula(alloc: Global, codes: &str) -> Result<Formula, Fail>
+    ensures { IfOk result IsFormed }
+{
+    match formulas(alloc, codes)?.pop() {
+        Some(main) => Ok(main),
+        None => Err(Fail::from("no formula")),
+    }
+}
+
+/// The rule of a name with what it names.
+pub fn rule(alloc: Global, name: &str, names: &str) -> Result<Rule, Fail>
+    ensures { IfOk result IsFormedRule }
+{
+    if names == "-" {
+        return bare_rule(name);
+    }
+    match names.split_once('@') {
+        None => main_rule(name, main_formula(alloc, names)?),
+        Some((main, chosen)) => quantifier_rule(alloc, name, main_formula(alloc, main)?, chosen),
+    }
+}
+
+// The numbers of a text, with `,` between them.
+fn numbers(alloc: Global, text: &str) -> Result<Numbers, Fail> {
+    let mut list = Vec::new(alloc);
+    for number in text.split(',') {
+        if !number.is_empty() {
+            list.push(number.parse::<u64>()?)?;
+        }
+    }
+    Ok(Numbers::from_vec(list))
+}
+
+fn step(alloc: Global, text: &str) -> Result<Step, Fail>
+    ensures { IfOk result (λ step. IsFormedRule step.rule) }
+{
     let mut words = text.split_whitespace();
-    let rule = words.next().ok_or("no rule")?;
+    let name = words.next().ok_or("no rule")?;
     let names = words.next().ok_or("nothing named")?;
     let end = words.next().ok_or("no conclusion")?;
     let premises = words.next().unwrap_or("");
-    let (main, term) = names.split_once('@').unwrap_or((names, ""));
-    let (left, right) = end.split_once('/').unwrap_or((end, ""));
-    let main = side(alloc, main)?;
-    let left = side(alloc, left)?;
-    let right = side(alloc, right)?;
-    Ok(format!(in alloc;
-        "{{\"rule\":\"{rule}\",\"main\":{main},\"term\":\"{term}\",\"var\":\"{term}\",\"premises\":[{premises}],\"left\":[{left}],\"right\":[{right}]}}"
-    )?)
+    let rule = rule(alloc, name, names)?;
+    let premises = numbers(alloc, premises)?;
+    let end = sequent(alloc, end)?;
+    Ok(Step {
+        rule,
+        premises,
+        end,
+    })
 }
 
-// The operation of a job with these fields.
-fn op_of(alloc: Global, fields: &str) -> Result<Op, Fail> {
-    let line = format!(in alloc; "{{\"job\":\"a\",{fields}}}")?;
-    let job = read_job(alloc, &mut FormulaTexts::new(alloc), line.as_bytes())?;
-    Ok(job.op)
-}
-
-/// The steps of a text.
-pub fn steps_of(alloc: Global, text: &str) -> Result<Steps, Fail> {
-    let mut list = String::new(alloc);
-    for part in text.split(';') {
-        let step = step(alloc, part)?;
-        if !list.is_empty() {
-            list.push_str(",")?;
-        }
-        list.push_str(step.as_str())?;
-    }
-    let fields = format!(in alloc; "\"op\":\"lk\",\"steps\":[{list}]")?;
-    match op_of(alloc, fields.as_str())? {
-        Op::Lk { steps } => Ok(steps),
-        _ => Err(Fail::from("no steps")),
-    }
-}
-
-/// The map of a JSON object without its braces.
-pub fn map_of(alloc: Global, members: &str) -> Result<FormedMap, Fail> {
-    let fields = format!(in alloc; "\"op\":\"subst\",\"proof\":\"a\",\"map\":{{{members}}}")?;
-    match op_of(alloc, fields.as_str())? {
-        Op::Subst { map, .. } => Ok(map),
-        _ => Err(Fail::from("no map")),
-    }
-}
-
-/// The steps of a refutation, of a JSON list without its brackets.
-pub fn refutation_of(alloc: Global, elements: &str) -> Result<ResSteps, Fail> {
-    let fields = format!(in alloc;
-        "\"op\":\"resolution\",\"problem\":\"a\",\"steps\":[{elements}]"
-    )?;
-    match op_of(alloc, fields.as_str())? {
-        Op::Resolution { steps, .. } => Ok(steps),
-        _ => Err(Fail::from("no refutation")),
-    }
-}
-
-/// The clauses of a text, with `;` between them.
-pub fn clauses_of<R: Abort>(rt: &R, alloc: Global, text: &str) -> Result<Vec<Clause>, Fail>
-    ensures { IfOk result (λ cs. All IsClauseOf cs.items) }
+// The steps of a text.
+fn steps(alloc: Global, text: &str) -> Result<Vec<Step>, Fail>
+    ensures { IfOk result (λ v. All (λ step. IsFormedRule step.rule) v.items) }
 {
-    let mut entries = String::new(alloc);
-    for (place, clause) in text.split(';').enumerate() {
-        let entry = format!(in alloc; "cnf({place},plain,{clause}).")?;
-        entries.push_str(entry.as_str())?;
+    let mut list = Vec::new(alloc);
+    for part in text.split(';') {
+        list.push(step(alloc, part)?)?;
     }
-    assert!(rt; entries.len() < 1 << 32);
-    let problem = read_problem(alloc, entries.as_bytes())?;
-    Ok(clauses(alloc, &problem)?)
+    Ok(list)
 }
 
 /// The proof of a text.
 pub fn proof<R: Wait>(
     rt: &R,
     alloc: Global,
-    desk: &Desk,
-    pass: &mut DeskPass,
+    graph: &Graph,
+    pass: &mut GraphPass,
     text: &str,
 ) -> Result<ProofRef, Fail>
-    requires { IsDeskPassOf desk.now pass.old }
-    ensures of { IfOk result (IsOf (graph_of (bench_of desk.now))) }
-    ensures pass_stays { IsDeskPassOf desk.now pass.new }
+    requires { IsPassOf graph.now pass.old }
+    ensures of { IfOk result (IsOf graph.now) }
+    ensures pass_stays { IsPassOf graph.now pass.new }
 {
-    let list = steps_of(alloc, text)?;
-    let graph_pass = Bench::graph_pass(Desk::bench_pass(pass));
-    let proof = admit(desk.bench().graph(), rt, alloc, graph_pass, list.as_slice())?;
-    Ok(proof)
+    let list = steps(alloc, text)?;
+    Ok(admit(graph, rt, alloc, pass, list.as_slice())?)
 }
 
-// Steps as a line of JSON.
-fn line_of(alloc: Global, steps: Steps) -> Result<Vec<u8>, AllocError> {
-    let outcome = Outcome::Steps(steps);
-    let reply = Reply {
-        name: None,
-        n: 1,
-        outcome,
-    };
-    reply_line(alloc, &mut CanonicalTexts::new(alloc), &reply)
-}
-
-/// Sees that the canonical steps of a proof are those of a text.
-pub fn assert_steps<R: Abort>(
+/// Sees that a proof is that of a text: one graph has each proof once.
+pub fn assert_proof<R: Abort + Wait>(
     rt: &R,
     alloc: Global,
     graph: &Graph,
-    proof: &ProofRef,
+    pass: &mut GraphPass,
+    found: &ProofRef,
     text: &str,
 ) -> Result<(), Fail>
-    requires { IsOf graph.now proof.now }
+    requires pass_of { IsPassOf graph.now pass.old }
+    requires of { IsOf graph.now found.now }
+    ensures { IsPassOf graph.now pass.new }
 {
-    let found = line_of(alloc, Steps::from_vec(steps(graph, alloc, proof)?))?;
-    let wanted = line_of(alloc, steps_of(alloc, text)?)?;
-    let found = str::from_utf8(found.as_slice());
-    assert_eq!(rt; found, str::from_utf8(wanted.as_slice()));
+    let wanted = proof(rt, alloc, graph, pass, text)?;
+    assert!(rt; graph.same(found, &wanted), "{text}");
     Ok(())
 }

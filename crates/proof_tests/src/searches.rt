@@ -2,7 +2,7 @@
 ghost use Rattle.std.specs.Prelude.{IfOk};
 ghost use Rattle.search_laws.specs.Truth.{IsPropositional};
 
-use crate::samples::{assert_steps, steps_of};
+use crate::samples::{assert_proof, sequent};
 use lk_rules::Sequent;
 use proof_graph::Graph;
 use prop_search::{SearchFault, decide, is_propositional, search};
@@ -27,14 +27,11 @@ const SEARCHES: &str = "5 |/{q|p} valid
 4 ~|/ q/
 4 |/& p/";
 
-// The sequent of a text.
+// The sequent of a text, without quantifiers.
 fn sequent_of<R: Abort>(rt: &R, alloc: Global, text: &str) -> Result<Sequent, Fail>
     ensures { IfOk result IsPropositional }
 {
-    let text = format!(in alloc; "weak - {text}")?;
-    let steps = steps_of(alloc, text.as_str())?;
-    let step = steps.as_slice().first().ok_or("no sequent")?;
-    let sequent = step.end.copy()?;
+    let sequent = sequent(alloc, text)?;
     assert!(rt; is_propositional(&sequent));
     Ok(sequent)
 }
@@ -80,5 +77,5 @@ fn refused_searches_leave_the_graph(rt: HostRuntime) -> Result<(), Fail> {
     let proof = search(&rt, alloc, &graph, &mut pass, &right, 5)?;
     assert_eq!(rt; proof.number(), 4);
     let steps = "ax p p/pq;orR {q|p} p/{q|p} 0;ax q q/pq;orR {q|p} q/{q|p} 2;orL | |/{q|p} 1,3";
-    assert_steps(&rt, alloc, &graph, &proof, steps)
+    assert_proof(&rt, alloc, &graph, &mut pass, &proof, steps)
 }

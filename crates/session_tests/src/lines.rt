@@ -1,4 +1,4 @@
-//! Lines that are longer than one would write, and proofs that are larger as trees.
+//! Lines that are longer than one would write.
 use crate::running::{JOB, expect};
 use std::alloc::{AllocError, Global};
 use std::test::Fail;
@@ -79,62 +79,4 @@ fn a_line_is_too_long(rt: HostRuntime) -> Result<(), Fail> {
 {"job":"a","n":2,"ok":{"cuts":0,"left":["p"],"quants":0,"right":["p"]}}
 "#;
     expect(&rt, alloc, &input, 1_000_000_000, 1, replies)
-}
-
-/// A proof named `d` whose tree doubles with each of `count` steps behind its axiom, and then perhaps a cut of two of the last step, and how
-/// large it is.
-fn doubling(alloc: Global, count: u64, with_cut: bool) -> Result<String, AllocError> {
-    let mut lines = String::from_str(
-        alloc,
-        r#"{"job":"d","op":"lk","steps":[{"rule":"ax","main":"p","premises":[],"left":["p","p | p"],"right":["p"]}"#,
-    )?;
-    for k in 0..count {
-        let step = format!(in alloc;
-            ",{{\"rule\":\"orL\",\"main\":\"p | p\",\"premises\":[{k},{k}],\"left\":[\"p\",\"p | p\"],\"right\":[\"p\"]}}"
-        )?;
-        lines.push_str(step.as_str())?;
-    }
-    if with_cut {
-        let step = format!(in alloc;
-            ",{{\"rule\":\"cut\",\"main\":\"q\",\"premises\":[{count},{count}],\"left\":[\"p\",\"p | p\"],\"right\":[\"p\"]}}"
-        )?;
-        lines.push_str(step.as_str())?;
-    }
-    lines.push_str("]}\n{\"job\":\"m\",\"op\":\"measure\",\"proof\":\"d\"}\n")?;
-    Ok(lines)
-}
-
-/// A size ends at the largest number. A tree of 2^42 - 1 nodes, 42 of them different, has one cut, which one reduction removes with half of
-/// the tree.
-#[test]
-fn trees_are_measured_and_reduced_by_the_steps_that_differ(rt: HostRuntime) -> Result<(), Fail> {
-    let alloc = rt.alloc();
-    let cases = [
-        (
-            64,
-            false,
-            "",
-            r#"{"job":"d","n":1,"ok":{"cuts":0,"left":["p","p | p"],"quants":0,"right":["p"]}}
-{"job":"m","n":2,"ok":{"cuts":0,"nodes":65,"quants":0,"size":18446744073709551615}}
-"#,
-        ),
-        (
-            40,
-            true,
-            r#"{"job":"b","op":"cutelim","proof":"d"}
-{"job":"c","op":"measure","proof":"b"}
-"#,
-            r#"{"job":"d","n":1,"ok":{"cuts":1,"left":["p","p | p"],"quants":0,"right":["p"]}}
-{"job":"m","n":2,"ok":{"cuts":1,"nodes":42,"quants":0,"size":4398046511103}}
-{"job":"b","n":3,"ok":{"cuts":0,"left":["p","p | p"],"quants":0,"reductions":1,"right":["p"]}}
-{"job":"c","n":4,"ok":{"cuts":0,"nodes":42,"quants":0,"size":2199023255552}}
-"#,
-        ),
-    ];
-    for (count, with_cut, further, replies) in cases {
-        let mut input = doubling(alloc, count, with_cut)?;
-        input.push_str(further)?;
-        expect(&rt, alloc, input.as_bytes(), 1000, 0, replies)?;
-    }
-    Ok(())
 }

@@ -1,18 +1,11 @@
-//! Tests of lines, formulas, substitutions, problems and command lines, against answers that were worked out by hand.
+//! Tests of lines, sets, substitutions and command lines, against answers that were worked out by hand. What a session can show of texts is in
+//! the files of jobs in `examples/`.
 #![tactic(auto)]
 
 #[cfg(test)]
 mod commands;
 #[cfg(test)]
-mod formulas;
-#[cfg(test)]
-mod limits;
-#[cfg(test)]
 mod lines;
-#[cfg(test)]
-mod problems;
-#[cfg(test)]
-mod reading;
 #[cfg(test)]
 mod samples;
 #[cfg(test)]

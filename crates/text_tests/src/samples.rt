@@ -6,7 +6,7 @@ use fol::{Formula, Term, Text, Var, well_formed, well_formed_term};
 use std::alloc::{AllocError, Global};
 use tptp_print::{print_formula, print_term};
 use tptp_read::{TextError, read_formula, read_term};
-use tptp_tokens::{TextKind, read_variable};
+use tptp_tokens::read_variable;
 
 // The longest text of a test, in bytes.
 const LONGEST: usize = 1000000;
@@ -88,45 +88,6 @@ pub fn shown_variables(alloc: Global, vars: &[Var]) -> Result<Vec<u8>, AllocErro
     let mut out = Vec::new(alloc);
     for var in vars {
         push_variable(alloc, &mut out, var)?;
-    }
-    Ok(out)
-}
-
-/// The name of a fault.
-pub fn kind_word(kind: TextKind) -> &'static str {
-    match kind {
-        TextKind::Token => "token",
-        TextKind::Expected => "expected",
-        TextKind::Deep => "deep",
-        TextKind::DefinedWord => "defined_word",
-        TextKind::Number => "number",
-        TextKind::Distinct => "distinct",
-        TextKind::OpenQuote => "open_quote",
-        TextKind::OpenComment => "open_comment",
-    }
-}
-
-/// The name of a fault and its place.
-pub fn shown_fault(alloc: Global, word: &str, at: u64) -> Result<Vec<u8>, AllocError> {
-    Vec::from_slice(alloc, format!(in alloc; "{word} {at}")?.as_bytes())
-}
-
-/// `front`, so many times `piece`, `middle`, and as often `closing`.
-pub fn repeated(
-    alloc: Global,
-    count: u32,
-    front: &str,
-    piece: &str,
-    middle: &str,
-    closing: &str,
-) -> Result<Vec<u8>, AllocError> {
-    let mut out = Vec::from_slice(alloc, front.as_bytes())?;
-    for _ in 0..count {
-        out.extend_from_slice(piece.as_bytes())?;
-    }
-    out.extend_from_slice(middle.as_bytes())?;
-    for _ in 0..count {
-        out.extend_from_slice(closing.as_bytes())?;
     }
     Ok(out)
 }

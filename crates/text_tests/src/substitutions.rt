@@ -1,9 +1,8 @@
 //! Instances, closures and images.
 use crate::samples::{
-    formula_of, push_variable, shown, shown_term, shown_variables, term_of, variable_of,
-    variables_of,
+    formula_of, push_variable, shown, shown_term, term_of, variable_of, variables_of,
 };
-use fol::{Formula, FormulaNode, Text};
+use fol::{Formula, FormulaNode, Term, Text};
 use free_variables::Vars;
 use std::alloc::{AllocError, Global};
 use std::test::Fail;
@@ -183,50 +182,49 @@ fn images(rt: HostRuntime) -> Result<(), Fail> {
     Ok(())
 }
 
-// Each binding of a map, a space before it.
+// The variables of a map, each with its image.
 fn shown_map(alloc: Global, map: &Subst) -> Result<Vec<u8>, AllocError> {
     let mut out = Vec::new(alloc);
-    for (var, term) in map.as_slice() {
+    for var in map.vars(alloc)?.as_slice() {
+        let image = apply_term(alloc, map, &Term::free(alloc, var.copy()?)?)?;
         push_variable(alloc, &mut out, var)?;
         out.push(b'=')?;
-        out.extend_from_slice(shown_term(alloc, term)?.as_bytes())?;
+        out.extend_from_slice(shown_term(alloc, &image)?.as_bytes())?;
     }
     Ok(out)
 }
 
-// A map, its variables, the map restricted to some variables, and the image of a term.
-fn map_facts(alloc: Global, map: &Subst, list: &str) -> Result<Vec<u8>, TextError> {
+// A map that is restricted to some variables.
+fn restricted(alloc: Global, map: &Subst, list: &str) -> Result<Subst, TextError> {
     let some = Vars::from_vec(variables_of(alloc, list)?);
-    let term = apply_term(alloc, map, &term_of(alloc, b"f(X,Y)")?)?;
-    let mut out = shown_map(alloc, &map.copy(alloc)?)?;
-    out.extend_from_slice(b"; ")?;
-    out.extend_from_slice(shown_variables(alloc, map.vars(alloc)?.as_slice())?.as_slice())?;
-    out.extend_from_slice(b"; ")?;
-    out.extend_from_slice(shown_map(alloc, &map.restrict(alloc, &some)?)?.as_slice())?;
-    out.extend_from_slice(b"; ")?;
-    out.extend_from_slice(shown_term(alloc, &term)?.as_bytes())?;
-    Ok(out)
+    Ok(map.restrict(alloc, &some)?)
 }
 
-static MAPS: &[(&str, &str, &str, &str)] = &[
-    ("", "", "X", "; ; ; f(X,Y)"),
-    ("Y X", "X f(Y)", "X Z", "X=f(Y) Y=X; X Y; X=f(Y); f(f(Y),X)"),
-    ("X V1 X", "a V1 b", "X V1", "X=b V1=V1; X V1; X=b; f(b,Y)"),
-    ("X Y", "Y X", "V0", "X=Y Y=X; X Y; ; f(Y,X)"),
+static MAPS: &[(&str, &str, &str, &str, &str)] = &[
+    ("", "", "X", "", ""),
+    ("Y X", "X f(Y)", "X Z", "X=f(Y) Y=X", "X=f(Y)"),
+    ("X V1 X", "a V1 b", "X V1", "X=b V1=V1", "X=b"),
+    ("X Y", "Y X", "V0", "X=Y Y=X", ""),
     (
         "V10 V2 Z",
         "a b c",
         "V10 V2",
-        "Z=c V2=b V10=a; Z V2 V10; V2=b V10=a; f(X,Y)",
+        "Z=c V2=b V10=a",
+        "V2=b V10=a",
     ),
 ];
 
 #[test]
 fn maps(rt: HostRuntime) -> Result<(), Fail> {
-    for &(vars, terms, list, expected) in MAPS {
-        let map = map_of(rt.alloc(), vars, terms)?;
-        let found = map_facts(rt.alloc(), &map, list)?;
-        assert!(rt; found.as_slice() == expected.as_bytes(), "at {expected}");
+    let alloc = rt.alloc();
+    for &(vars, terms, list, whole, part) in MAPS {
+        let map = map_of(alloc, vars, terms)?;
+        let all = shown_map(alloc, &map.copy(alloc)?)?;
+        let some = shown_map(alloc, &restricted(alloc, &map, list)?)?;
+        assert!(rt;
+            all.as_slice() == whole.as_bytes() && some.as_slice() == part.as_bytes(),
+            "at {whole}"
+        );
     }
     Ok(())
 }

@@ -1,0 +1,16 @@
+pub mod Members
+pub mod Proofs
+pub mod Bound
+pub mod Holding
+pub mod Outside
+pub mod RuleParts
+pub mod Above
+pub mod Leaves
+pub mod OnePremise
+pub mod TwoPremises
+pub mod Moved
+pub mod Descent
+pub mod Interpolated
+pub mod Unrolled
+pub mod Examples
+pub mod MoreExamples

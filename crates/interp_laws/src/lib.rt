@@ -1,0 +1,4 @@
+//! Interpolation of proofs without cuts, after Maehara (1960), and the laws of it.
+#![tactic(auto)]
+
+pub mod laws;
