@@ -16,7 +16,7 @@ use Rattle.search_laws.proofs.Searched.{Fits}
 -- the first formula of a list that passes a test
 
 -- it passes
-found_passes : (p : Formula → Bool) (fs : List Formula) (f : Formula) → find p fs ≡ Some f → p f ≡ true
+pub found_passes : (p : Formula → Bool) (fs : List Formula) (f : Formula) → find p fs ≡ Some f → p f ≡ true
 found_passes p [] f e = cc
 found_passes p (g ∷ gs) f e =
     elim (p g) as (λ b. p g ≡ b → cond b (Some g) (find p gs) ≡ Some f → p f ≡ true) [
@@ -25,7 +25,7 @@ found_passes p (g ∷ gs) f e =
     ] refl e
 
 -- it is in the list
-found_among : (p : Formula → Bool) (fs : List Formula) (f : Formula) → find p fs ≡ Some f → among fs f ≡ true
+pub found_among : (p : Formula → Bool) (fs : List Formula) (f : Formula) → find p fs ≡ Some f → among fs f ≡ true
 found_among p [] f e = cc
 found_among p (g ∷ gs) f e =
     elim (p g) as (λ b. cond b (Some g) (find p gs) ≡ Some f → among (g ∷ gs) f ≡ true) [
@@ -34,7 +34,7 @@ found_among p (g ∷ gs) f e =
     ] e
 
 -- where none is found, each formula fails
-none_found : (p : Formula → Bool) (fs : List Formula) → find p fs ≡ None → (f : Formula) → among fs f ≡ true → p f ≡ false
+pub none_found : (p : Formula → Bool) (fs : List Formula) → find p fs ≡ None → (f : Formula) → among fs f ≡ true → p f ≡ false
 none_found p [] e f m = cc
 none_found p (g ∷ gs) e f m =
     elim (p g) as (λ b. p g ≡ b → cond b (Some g) (find p gs) ≡ None → p f ≡ false) [

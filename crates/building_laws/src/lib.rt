@@ -1,0 +1,4 @@
+//! Proofs built from expansion proofs, after Miller (1987), and the laws of them.
+#![tactic(auto)]
+
+pub mod laws;
