@@ -1,10 +1,12 @@
 -- What a reader of annotations reads is an annotation.
-use Rattle.std.proofs.Common.{◌≡◌, ℕ, zero, suc, ◌+◌, ◌-◌, ◌≤◌, ◌==◌, Bool, true, false, ◌&&◌, ◌||◌, if◌then◌else◌, List, [], ◌∷◌, length, drop, Result, Ok, Err, refl, sym, ◌∙◌, ap, subst, arith}
+use Rattle.std.proofs.Common.{◌≡◌, ℕ, suc, ◌+◌, ◌-◌, ◌<◌, ◌≤◌, ◌==◌, Bool, true, false, ◌&&◌, ◌||◌, if◌then◌else◌, List, [], ◌∷◌, length, drop, length-drop, Result, Ok, Err, refl, sym, ◌∙◌, ap, subst, arith}
 use Rattle.fol.specs.Formed.{is_printable}
 use Rattle.tptp_tokens.specs.declared.tokens.TextKind.TheVariants.{Token as NoToken, Expected}
 use Rattle.tptp_tokens.specs.declared.tokens.Scan.{Scan}
 use Rattle.tptp_tokens.specs.declared.tokens.Scan.TheVariants.{End, Blank, Found, Wrong}
 use Rattle.tptp_tokens.specs.Lexer.{scanned, IsSized, begins}
+use Rattle.tptp_read.specs.Turns.{on, answer, by_turn, Leads, here, behind}
+use Rattle.tptp_read.proofs.TurnLaw.{MatchTurn, leads_on, whole_turn, answers, says_by}
 use Rattle.tptp_problem.specs.declared.errors.Fault.{Fault}
 use Rattle.tptp_problem.specs.declared.errors.ProblemKind.{ProblemKind}
 use Rattle.tptp_problem.specs.declared.errors.ProblemKind.TheVariants.{Text}
@@ -15,11 +17,10 @@ use Rattle.tptp_problem.specs.declared.annotations.Closing.TheVariants.{Refused,
 use Rattle.tptp_problem.specs.declared.annotations.Piece.{Piece}
 use Rattle.tptp_problem.specs.declared.annotations.Piece.TheVariants.{End as EndOfText, Separator, Passed, Opens, Closes, Wrong as WrongPiece}
 use Rattle.tptp_problem.specs.Readers.{fault}
-use Rattle.tptp_problem.specs.AnnotationReader.{closing, outer_of, annotation_from}
+use Rattle.tptp_problem.specs.Pieces.{is_separator, quotes_closed, in_quotes, comment_piece, byte_piece, piece_of, IsSizedPiece}
+use Rattle.tptp_problem.specs.AnnotationReader.{closing, outer_of, Inner, inside, at_closing, at_piece, annotation_turn, annotation_from, annotation_at}
 use Rattle.tptp_problem.specs.AnnotationTexts.{ArePieces, no_piece, separator, plain, group, IsAnnotation, IsAnnotationFront, outside, opened, FitsNot, other_open, none_open, no_piece_before, IsAnnotationFault, at_end, at_bracket, at_bytes}
 use Rattle.tptp_problem.proofs.Sizes.{scanned_sized}
-use Rattle.tptp_problem.proofs.AnnotationReading.{annotation_separator, annotation_passed, annotation_opens, annotation_refused, annotation_ended, annotation_inside, annotation_wrong}
-use Rattle.tptp_problem.specs.Pieces.{is_separator, quotes_closed, in_quotes, comment_piece, byte_piece, piece_of, IsSizedPiece}
 
 -- sizes of pieces
 chosen : (m : ℕ) (b : Bool) (x y : Piece) → (b ≡ true → IsSizedPiece x m) → (b ≡ false → IsSizedPiece y m) → IsSizedPiece (if b then x else y) m
@@ -55,40 +56,39 @@ piece_sized (b ∷ bs) =
     chosen (suc (length bs)) (is_separator b) Separator _ (λ is. omega arith) (λ is. chosen (suc (length bs)) (b == 34 || b == 39) (in_quotes b false 1 bs) _ (λ is. quotes_sized bs b false 1 (suc (length bs)) (omega arith))
     (λ is. chosen (suc (length bs)) (b == 37 || b == 47 && begins 42 bs) (comment_piece (scanned (b ∷ bs))) (byte_piece b) (λ is. comment_sized (scanned (b ∷ bs)) (length bs) (scanned_sized (b ∷ bs))) (λ is. byte_sized b (suc (length bs)) (omega arith))))
 
-sized_at : (p : Piece) (bs : List ℕ) → piece_of bs ≡ p → IsSizedPiece p (length bs)
-sized_at p bs is = subst (λ (q : Piece). IsSizedPiece q (length bs)) is (piece_sized bs)
+end_piece : piece_of [] ≡ EndOfText
+unfolding piece_of
+end_piece = refl
 
--- a bracket that fits
-fits : (o : Bracket) (outer : List Bracket) (some : Bool) → closing o (o ∷ outer) some ≡ Inside
-fits Round outer some = refl
-fits Square outer some = refl
+no_bytes : (cs : List ℕ) → piece_of cs ≡ EndOfText → cs ≡ []
+no_bytes [] is = refl
+no_bytes (c ∷ cs) is = let size : suc (length cs) ≡ 0 = subst (λ (p : Piece). IsSizedPiece p (suc (length cs))) is (piece_sized (c ∷ cs)) in absurd (omega arith)
 
--- pieces are read
-or_true : (b : Bool) → (b || true) ≡ true
-or_true true = refl
-or_true false = refl
+abbrev AnnotationResult : Type 0
+AnnotationResult = Result (List ℕ) Fault
 
-pub pieces_read : (bs : List ℕ) (some : Bool) (cs : List ℕ) → ArePieces bs some cs → (inner : List Bracket) (before : Bool) → annotation_from inner before 0 bs ≡ annotation_from inner (before || some) 0 cs
-pieces_read bs some cs (no_piece ds) inner true = refl
-pieces_read bs some cs (no_piece ds) inner false = refl
-pieces_read bs some cs (separator ds es more is rest) inner before = annotation_separator inner before ds is (sized_at Separator ds is) ∙ pieces_read (drop 1 ds) more es rest inner before
-pieces_read bs some cs (plain n ds es more is rest) inner before =
-    let size : IsSizedPiece (Passed n) (length ds) = sized_at (Passed n) ds is in
-    annotation_passed inner before n ds is size.0 size.1 ∙ (pieces_read (drop n ds) more es rest inner true ∙ ap (λ (b : Bool). annotation_from inner b 0 es) (sym (or_true before)))
-pieces_read bs some cs (group o ds es zs more last is within shut rest) inner before =
-    annotation_opens inner before o ds is (sized_at (Opens o) ds is)
-    ∙ (pieces_read (drop 1 ds) more es within (o ∷ inner) true
-    ∙ (annotation_inside (o ∷ inner) true o es shut (sized_at (Closes o) es shut) (fits o inner true)
-    ∙ (pieces_read (drop 1 es) last zs rest inner true ∙ ap (λ (b : Bool). annotation_from inner b 0 zs) (sym (or_true before)))))
+-- each turn takes a byte at least
+closing_smaller : (c : Closing) (inner : List Bracket) (some : Bool) (bs : List ℕ) (d : Inner) → 1 ≤ length bs → at_closing c inner some bs ≡ on d → length d.rest < length bs
+closing_smaller Refused inner some bs d size is = cc
+closing_smaller Ended inner some bs d size is = cc
+closing_smaller Inside inner some bs d size is = let same : inside (outer_of inner) some (drop 1 bs) ≡ d = cc in subst (λ (e : Inner). length e.rest < length bs) same (omega (arith, length-drop 1 bs))
 
-pub annotation_complete : (bs rest : List ℕ) → IsAnnotation bs rest → annotation_from [] false 0 bs ≡ Ok rest
-annotation_complete bs rest is =
-    pieces_read bs true is.closing is.pieces [] false ∙ (annotation_ended [] true Round is.closing is.closes (sized_at (Closes Round) is.closing is.closes) refl ∙ ap (λ (cs : List ℕ). Ok cs) (sym is.behind))
+piece_smaller : (p : Piece) (inner : List Bracket) (some : Bool) (bs : List ℕ) (d : Inner) → IsSizedPiece p (length bs) → at_piece p inner some bs ≡ on d → length d.rest < length bs
+piece_smaller EndOfText inner some bs d size is = cc
+piece_smaller Separator inner some bs d size is = let same : inside inner some (drop 1 bs) ≡ d = cc in subst (λ (e : Inner). length e.rest < length bs) same (omega (arith, size, length-drop 1 bs))
+piece_smaller (Passed n) inner some bs d size is = let same : inside inner true (drop n bs) ≡ d = cc in subst (λ (e : Inner). length e.rest < length bs) same (omega (arith, size.0, size.1, length-drop n bs))
+piece_smaller (Opens o) inner some bs d size is = let same : inside (o ∷ inner) true (drop 1 bs) ≡ d = cc in subst (λ (e : Inner). length e.rest < length bs) same (omega (arith, size, length-drop 1 bs))
+piece_smaller (Closes o) inner some bs d size is = closing_smaller (closing o inner some) inner some bs d size is
+piece_smaller (WrongPiece n e) inner some bs d size is = cc
 
-front_read : (bs : List ℕ) (inner : List Bracket) (some : Bool) (cs : List ℕ) → IsAnnotationFront bs inner some cs → annotation_from [] false 0 bs ≡ annotation_from inner some 0 cs
-front_read bs inner some cs (outside more ds pieces) = pieces_read bs more ds pieces [] false
-front_read bs inner some cs (opened o outer before more ds es front is pieces) =
-    front_read bs outer before ds front ∙ (annotation_opens outer before o ds is (sized_at (Opens o) ds is) ∙ pieces_read (drop 1 ds) more es pieces (o ∷ outer) true)
+pub smaller : (c d : Inner) → annotation_turn c ≡ on d → length d.rest < length c.rest
+smaller c d is = piece_smaller (piece_of c.rest) c.open_ones c.some c.rest d (piece_sized c.rest) is
+
+abbrev pub reading : Inner → AnnotationResult
+reading c = annotation_from c.open_ones c.some c.rest
+
+pub turns : (c : Inner) → reading c ≡ by_turn reading (annotation_turn c)
+turns c = whole_turn annotation_turn (Err (fault 0 (Text Expected))) (λ e. length e.rest) smaller c
 
 -- a bracket that doesn't fit is refused
 refuses : (o : Bracket) (inner : List Bracket) (some : Bool) → FitsNot o inner some → closing o inner some ≡ Refused
@@ -110,11 +110,6 @@ no_fit Round [] true is = cc
 no_fit Round [] false is = no_piece_before
 no_fit Square [] some is = none_open some refl
 
-pub annotation_blamed : (bs : List ℕ) (n : ℕ) (k : ProblemKind) → IsAnnotationFault bs n k → annotation_from [] false 0 bs ≡ Err (fault n k)
-annotation_blamed bs n k (at_end inner some front) = front_read bs inner some [] front
-annotation_blamed bs n k (at_bracket inner some cs o front is apart) = front_read bs inner some cs front ∙ annotation_refused inner some o cs is (sized_at (Closes o) cs is) (refuses o inner some apart)
-annotation_blamed bs n k (at_bytes inner some cs m e front is) = front_read bs inner some cs front ∙ annotation_wrong inner some m e cs is
-
 -- what is read is pieces
 pieces_more : (bs cs ds : List ℕ) (some more : Bool) → ArePieces bs some cs → ArePieces cs more ds → ArePieces bs (some || more) ds
 pieces_more bs cs ds some more (no_piece es) rest = rest
@@ -126,51 +121,19 @@ front_more : (bs : List ℕ) (inner : List Bracket) (some more : Bool) (cs ds : 
 front_more bs inner some more cs ds (outside before es pieces) rest = outside (before || more) ds (pieces_more bs es ds before more pieces rest)
 front_more bs inner some more cs ds (opened o outer before last es zs front is pieces) rest = opened o outer before (last || more) es ds front is (pieces_more (drop 1 es) zs ds last more pieces rest)
 
--- what an annotation does at its front
-abbrev at_closing : Closing → List Bracket → Bool → ℕ → List ℕ → Result (List ℕ) Fault
-at_closing Refused inner some b bs = Err (fault (length (b ∷ bs)) (Text Expected))
-at_closing Ended inner some b bs = Ok bs
-at_closing Inside inner some b bs = annotation_from (outer_of inner) some 0 bs
-
-abbrev at_piece : List Bracket → Bool → ℕ → List ℕ → Piece → Result (List ℕ) Fault
-at_piece inner some b bs EndOfText = Err (fault 0 (Text Expected))
-at_piece inner some b bs Separator = annotation_from inner some 0 bs
-at_piece inner some b bs (Passed n) = annotation_from inner true (n - 1) bs
-at_piece inner some b bs (Opens o) = annotation_from (o ∷ inner) true 0 bs
-at_piece inner some b bs (Closes o) = at_closing (closing o inner some) inner some b bs
-at_piece inner some b bs (WrongPiece n e) = Err (fault (length (b ∷ bs) - n) (Text e))
-
-closing_same : (c : Closing) (inner : List Bracket) (some : Bool) (b : ℕ) (bs : List ℕ) → elim c [ Refused ↦ Err (fault (length (b ∷ bs)) (Text Expected)) | Ended ↦ Ok bs | Inside ↦ annotation_from (outer_of inner) some 0 bs ] ≡ at_closing c inner some b bs
-closing_same Refused inner some b bs = refl
-closing_same Ended inner some b bs = refl
-closing_same Inside inner some b bs = refl
-
-at_first : (inner : List Bracket) (some : Bool) (b : ℕ) (bs : List ℕ) (p : Piece) → piece_of (b ∷ bs) ≡ p → annotation_from inner some 0 (b ∷ bs) ≡ at_piece inner some b bs p
-at_first inner some b bs EndOfText is = rw (is, annotation_from) refl
-at_first inner some b bs Separator is = rw (is, annotation_from) refl
-at_first inner some b bs (Passed n) is = rw (is, annotation_from) refl
-at_first inner some b bs (Opens o) is = rw (is, annotation_from) refl
-at_first inner some b bs (Closes o) is = rw (is, annotation_from) (closing_same (closing o inner some) inner some b bs)
-at_first inner some b bs (WrongPiece n e) is = rw (is, annotation_from) refl
+or_true : (b : Bool) → (b || true) ≡ true
+or_true true = refl
+or_true false = refl
 
 or_false : (b : Bool) → (b || false) ≡ b
 or_false true = refl
 or_false false = refl
 
-drop_more : (n b : ℕ) (bs : List ℕ) → 1 ≤ n → drop n (b ∷ bs) ≡ drop (n - 1) bs
-drop_more zero b bs some = absurd (omega arith)
-drop_more (suc n) b bs some = let count : n ≡ suc n - 1 = omega arith in ap (λ (k : ℕ). drop k bs) count
-
--- how the front grows
 module _ (whole : List ℕ) where
-  behind_separator : (inner : List Bracket) (some : Bool) (cs : List ℕ) → IsAnnotationFront whole inner some cs → piece_of cs ≡ Separator → IsAnnotationFront whole inner some (drop 1 cs)
-  behind_separator inner some cs front is =
-      subst (λ (b : Bool). IsAnnotationFront whole inner b (drop 1 cs)) (or_false some) (front_more whole inner some false cs (drop 1 cs) front (separator cs (drop 1 cs) false is (no_piece (drop 1 cs))))
+  abbrev Front : Inner → Type 0
+  Front c = IsAnnotationFront whole c.open_ones c.some c.rest
 
-  behind_plain : (inner : List Bracket) (some : Bool) (n : ℕ) (cs : List ℕ) → IsAnnotationFront whole inner some cs → piece_of cs ≡ Passed n → IsAnnotationFront whole inner true (drop n cs)
-  behind_plain inner some n cs front is =
-      subst (λ (b : Bool). IsAnnotationFront whole inner b (drop n cs)) (or_true some) (front_more whole inner some true cs (drop n cs) front (plain n cs (drop n cs) false is (no_piece (drop n cs))))
-
+  -- how the front grows
   same_bracket : (o p : Bracket) (outer : List Bracket) (some : Bool) → closing o (p ∷ outer) some ≡ Inside → o ≡ p
   same_bracket Round Round outer some is = refl
   same_bracket Round Square outer some is = cc
@@ -182,47 +145,80 @@ module _ (whole : List ℕ) where
   none_inside Round false is = cc
   none_inside Square some is = cc
 
-  behind_closing : (inner : List Bracket) (some : Bool) (o : Bracket) (cs : List ℕ) → IsAnnotationFront whole inner some cs → piece_of cs ≡ Closes o → closing o inner some ≡ Inside → IsAnnotationFront whole (outer_of inner) some (drop 1 cs)
-  behind_closing inner some o cs (outside before es pieces) is does = absurd (none_inside o before does)
-  behind_closing inner some o cs (opened p outer before more ds es front at pieces) is does =
+  behind_inside : (inner : List Bracket) (some : Bool) (o : Bracket) (cs : List ℕ) → IsAnnotationFront whole inner some cs → piece_of cs ≡ Closes o → closing o inner some ≡ Inside → IsAnnotationFront whole (outer_of inner) some (drop 1 cs)
+  behind_inside inner some o cs (outside before es pieces) is does = absurd (none_inside o before does)
+  behind_inside inner some o cs (opened p outer before more ds es front at pieces) is does =
       let shut : piece_of es ≡ Closes p = is ∙ ap (λ (q : Bracket). Closes q) (same_bracket o p outer true does) in
       subst (λ (b : Bool). IsAnnotationFront whole outer b (drop 1 es)) (or_true before) (front_more whole outer before true ds (drop 1 es) front (group p ds es (drop 1 es) more false at pieces shut (no_piece (drop 1 es))))
 
-  last_one : (inner : List Bracket) (some : Bool) (o : Bracket) (cs : List ℕ) → IsAnnotationFront whole inner some cs → piece_of cs ≡ Closes o → closing o inner some ≡ Ended → IsAnnotation whole (drop 1 cs)
-  last_one inner some Round cs (outside true es pieces) is does = record { closing = es; pieces = pieces; closes = is; behind = refl }
-  last_one inner some Round cs (outside false es pieces) is does = cc
-  last_one inner some Square cs (outside before es pieces) is does = cc
-  last_one inner some Round cs (opened Round outer before more ds es front at pieces) is does = cc
-  last_one inner some Round cs (opened Square outer before more ds es front at pieces) is does = cc
-  last_one inner some Square cs (opened Round outer before more ds es front at pieces) is does = cc
-  last_one inner some Square cs (opened Square outer before more ds es front at pieces) is does = cc
+  ended : (inner : List Bracket) (some : Bool) (o : Bracket) (cs : List ℕ) → IsAnnotationFront whole inner some cs → piece_of cs ≡ Closes o → closing o inner some ≡ Ended → IsAnnotation whole (drop 1 cs)
+  ended inner some Round cs (outside true es pieces) is does = record { closing = es; pieces = pieces; closes = is; behind = refl }
+  ended inner some Round cs (outside false es pieces) is does = cc
+  ended inner some Square cs (outside before es pieces) is does = cc
+  ended inner some Round cs (opened Round outer before more ds es front at pieces) is does = cc
+  ended inner some Round cs (opened Square outer before more ds es front at pieces) is does = cc
+  ended inner some Square cs (opened Round outer before more ds es front at pieces) is does = cc
+  ended inner some Square cs (opened Square outer before more ds es front at pieces) is does = cc
 
-  -- what an answer says of the whole annotation
-  abbrev Says : Result (List ℕ) Fault → Type 0
-  Says (Ok rest) = IsAnnotation whole rest
-  Says (Err e) = IsAnnotationFault whole e.left e.kind
+  -- what an answer says of the annotation; and what a turn does
+  abbrev pub SaysAnnotation : AnnotationResult → Type 0
+  SaysAnnotation (Ok rest) = IsAnnotation whole rest
+  SaysAnnotation (Err e) = IsAnnotationFault whole e.left e.kind
 
-  reads : (bs : List ℕ) (k : ℕ) (inner : List Bracket) (some : Bool) → IsAnnotationFront whole inner some (drop k bs) → Says (annotation_from inner some k bs)
-  reads [] zero inner some front = at_end inner some front
-  reads [] (suc k) inner some front = at_end inner some front
-  reads (b ∷ bs) (suc k) inner some front = reads bs k inner some front
-  reads (b ∷ bs) zero inner some front =
-      subst Says (sym (at_first inner some b bs (piece_of (b ∷ bs)) refl))
-      (elim (piece_of (b ∷ bs)) as (λ (p : Piece). piece_of (b ∷ bs) ≡ p → Says (at_piece inner some b bs p)) [
-        | EndOfText ↦ λ is. let size : suc (length bs) ≡ 0 = sized_at EndOfText (b ∷ bs) is in absurd (omega arith)
-        | Separator ↦ λ is. reads bs 0 inner some (behind_separator inner some (b ∷ bs) front is)
-        | Passed n ↦ λ is. reads bs (n - 1) inner true (subst (λ (cs : List ℕ). IsAnnotationFront whole inner true cs) (drop_more n b bs (sized_at (Passed n) (b ∷ bs) is).0) (behind_plain inner some n (b ∷ bs) front is))
-        | Opens o ↦ λ is. reads bs 0 (o ∷ inner) true (opened o inner some false (b ∷ bs) bs front is (no_piece bs))
-        | Closes o ↦ λ is. elim (closing o inner some) as (λ (c : Closing). closing o inner some ≡ c → Says (at_closing c inner some b bs)) [
-          | Refused ↦ λ does. at_bracket inner some (b ∷ bs) o front is (no_fit o inner some does)
-          | Ended ↦ λ does. last_one inner some o (b ∷ bs) front is does
-          | Inside ↦ λ does. reads bs 0 (outer_of inner) some (behind_closing inner some o (b ∷ bs) front is does)
-        ] refl
-        | WrongPiece n e ↦ λ is. at_bytes inner some (b ∷ bs) n e front is
-      ] refl)
+  turned : (p : Piece) (inner : List Bracket) (some : Bool) (cs : List ℕ) → IsAnnotationFront whole inner some cs → piece_of cs ≡ p → MatchTurn (at_piece p inner some cs) Front SaysAnnotation
+  turned EndOfText inner some cs front is = at_end inner some (subst (IsAnnotationFront whole inner some) (no_bytes cs is) front)
+  turned Separator inner some cs front is =
+      subst (λ (b : Bool). IsAnnotationFront whole inner b (drop 1 cs)) (or_false some) (front_more whole inner some false cs (drop 1 cs) front (separator cs (drop 1 cs) false is (no_piece (drop 1 cs))))
+  turned (Passed n) inner some cs front is =
+      subst (λ (b : Bool). IsAnnotationFront whole inner b (drop n cs)) (or_true some) (front_more whole inner some true cs (drop n cs) front (plain n cs (drop n cs) false is (no_piece (drop n cs))))
+  turned (Opens o) inner some cs front is = opened o inner some false cs (drop 1 cs) front is (no_piece (drop 1 cs))
+  turned (Closes o) inner some cs front is =
+      elim (closing o inner some) as (λ (c : Closing). closing o inner some ≡ c → MatchTurn (at_closing c inner some cs) Front SaysAnnotation) [
+        | Refused ↦ λ does. at_bracket inner some cs o front is (no_fit o inner some does)
+        | Ended ↦ λ does. ended inner some o cs front is does
+        | Inside ↦ λ does. behind_inside inner some o cs front is does
+      ] refl
+  turned (WrongPiece n e) inner some cs front is = at_bytes inner some cs n e front is
 
-pub annotation_sound : (bs rest : List ℕ) → annotation_from [] false 0 bs ≡ Ok rest → IsAnnotation bs rest
-annotation_sound bs rest is = subst (Says bs) is (reads bs bs 0 [] false (outside false bs (no_piece bs)))
+  pub annotation_says : SaysAnnotation (annotation_at whole)
+  unfolding annotation_at
+  annotation_says =
+      says_by annotation_turn reading turns (λ c. length c.rest) smaller Front SaysAnnotation (λ c front. turned (piece_of c.rest) c.open_ones c.some c.rest front refl) (inside [] false whole) (outside false whole (no_piece whole))
 
-pub annotation_fails : (bs : List ℕ) (e : Fault) → annotation_from [] false 0 bs ≡ Err e → IsAnnotationFault bs e.left e.kind
-annotation_fails bs e is = subst (Says bs) is (reads bs bs 0 [] false (outside false bs (no_piece bs)))
+-- pieces are read
+pieces_lead : (bs : List ℕ) (some : Bool) (cs : List ℕ) → ArePieces bs some cs → (inner : List Bracket) (before : Bool) → Leads annotation_turn (inside inner before bs) (inside inner (before || some) cs)
+pieces_lead bs some cs (no_piece ds) inner before = subst (λ (b : Bool). Leads annotation_turn (inside inner before ds) (inside inner b ds)) (sym (or_false before)) (here (inside inner before ds))
+pieces_lead bs some cs (separator ds es more is rest) inner before =
+    behind (inside inner before ds) (inside inner before (drop 1 ds)) (inside inner (before || more) es) (ap (λ (p : Piece). at_piece p inner before ds) is) (pieces_lead (drop 1 ds) more es rest inner before)
+pieces_lead bs some cs (plain n ds es more is rest) inner before =
+    subst (λ (b : Bool). Leads annotation_turn (inside inner before ds) (inside inner b es)) (sym (or_true before))
+    (behind (inside inner before ds) (inside inner true (drop n ds)) (inside inner true es) (ap (λ (p : Piece). at_piece p inner before ds) is) (pieces_lead (drop n ds) more es rest inner true))
+pieces_lead bs some cs (group o ds es zs more last is within shut rest) inner before =
+    subst (λ (b : Bool). Leads annotation_turn (inside inner before ds) (inside inner b zs)) (sym (or_true before))
+    (behind (inside inner before ds) (inside (o ∷ inner) true (drop 1 ds)) (inside inner true zs) (ap (λ (p : Piece). at_piece p inner before ds) is)
+    (leads_on annotation_turn (inside (o ∷ inner) true (drop 1 ds)) (inside (o ∷ inner) true es) (inside inner true zs) (pieces_lead (drop 1 ds) more es within (o ∷ inner) true)
+    (behind (inside (o ∷ inner) true es) (inside inner true (drop 1 es)) (inside inner true zs) (ap (λ (p : Piece). at_piece p (o ∷ inner) true es) shut ∙ ap (λ (c : Closing). at_closing c (o ∷ inner) true es) (fits o inner true)) (pieces_lead (drop 1 es) last zs rest inner true))))
+  where
+    fits : (o : Bracket) (outer : List Bracket) (some : Bool) → closing o (o ∷ outer) some ≡ Inside
+    fits Round outer some = refl
+    fits Square outer some = refl
+
+front_lead : (bs : List ℕ) (inner : List Bracket) (some : Bool) (cs : List ℕ) → IsAnnotationFront bs inner some cs → Leads annotation_turn (inside [] false bs) (inside inner some cs)
+front_lead bs inner some cs (outside more ds pieces) = pieces_lead bs more ds pieces [] false
+front_lead bs inner some cs (opened o outer before more ds es front is pieces) =
+    leads_on annotation_turn (inside [] false bs) (inside outer before ds) (inside (o ∷ outer) true es) (front_lead bs outer before ds front)
+    (behind (inside outer before ds) (inside (o ∷ outer) true (drop 1 ds)) (inside (o ∷ outer) true es) (ap (λ (p : Piece). at_piece p outer before ds) is) (pieces_lead (drop 1 ds) more es pieces (o ∷ outer) true))
+
+answered_there : (bs : List ℕ) (inner : List Bracket) (some : Bool) (cs : List ℕ) (r : AnnotationResult) → IsAnnotationFront bs inner some cs → annotation_turn (inside inner some cs) ≡ answer r → annotation_at bs ≡ r
+unfolding annotation_at
+answered_there bs inner some cs r front is = answers annotation_turn reading turns (inside [] false bs) r (record { place = inside inner some cs; leads = front_lead bs inner some cs front; given = is })
+
+pub annotation_complete : (bs rest : List ℕ) → IsAnnotation bs rest → annotation_at bs ≡ Ok rest
+annotation_complete bs rest is =
+    answered_there bs [] true is.closing (Ok rest) (outside true is.closing is.pieces) (ap (λ (p : Piece). at_piece p [] true is.closing) is.closes ∙ ap (λ (cs : List ℕ). answer (Ok cs)) (sym is.behind))
+
+pub annotation_blamed : (bs : List ℕ) (n : ℕ) (k : ProblemKind) → IsAnnotationFault bs n k → annotation_at bs ≡ Err (fault n k)
+annotation_blamed bs n k (at_end inner some front) = answered_there bs inner some [] (Err (fault 0 (Text Expected))) front (ap (λ (p : Piece). at_piece p inner some []) end_piece)
+annotation_blamed bs n k (at_bracket inner some cs o front is apart) =
+    answered_there bs inner some cs (Err (fault (length cs) (Text Expected))) front (ap (λ (p : Piece). at_piece p inner some cs) is ∙ ap (λ (c : Closing). at_closing c inner some cs) (refuses o inner some apart))
+annotation_blamed bs n k (at_bytes inner some cs m e front is) = answered_there bs inner some cs (Err (fault (length cs - m) (Text e))) front (ap (λ (p : Piece). at_piece p inner some cs) is)

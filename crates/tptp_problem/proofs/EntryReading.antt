@@ -1,26 +1,26 @@
 -- How a reader of entries goes on.
-use Rattle.std.proofs.Common.{◌≡◌, ℕ, ◌+◌, ◌≤◌, Bool, true, false, ◌||◌, if◌then◌else◌, List, [], ◌∷◌, ◌++◌, length, Ok, Err, refl, sym, ◌∙◌, ap, subst, arith}
+use Rattle.std.proofs.Common.{◌≡◌, ℕ, ◌+◌, ◌≤◌, Bool, true, false, ◌||◌, if◌then◌else◌, List, [], ◌∷◌, ◌++◌, length, Ok, Err, refl, sym, ◌∙◌, ap, arith}
 use Rattle.std.specs.Ordering.{eq_by_cmp}
 use Rattle.std.specs.List.{list_any}
 use Rattle.std.specs.BTreeSet.{BTreeSet, contains}
 use Rattle.std_collections.specs.BTreeMap.{is_at}
 use Rattle.fol.specs.Order.{text_cmp}
 use Rattle.fol.specs.Syntax.{Formula}
-use Rattle.tptp_problem.specs.declared.errors.ReadError.{ReadError}
-use Rattle.tptp_problem.specs.declared.errors.ReadError.TheVariants.{Memory as ReadMemory, Fault as ReadFault}
+use Rattle.tptp_read.specs.Turns.{by_turn}
+use Rattle.tptp_problem.specs.declared.errors.Fault.{Fault}
 use Rattle.tptp_problem.specs.declared.problems.Entry.{Entry}
-use Rattle.tptp_problem.specs.Readers.{Gives, passed}
+use Rattle.tptp_problem.specs.Readers.{passed}
 use Rattle.tptp_problem.specs.Closures.{closure_of, is_conjecture, conjectures}
-use Rattle.tptp_problem.specs.EntryReader.{entry_at, entry_behind, HasEntries, no_entry, one_more, EntriesRead, counted}
+use Rattle.tptp_problem.specs.EntryReader.{entry_at, entry_behind, one_more, counted, entries_from}
 use Rattle.tptp_problem.specs.Words.{is_named}
+use Rattle.tptp_problem.proofs.EntryLaws.{EntryResult}
+use Rattle.tptp_problem.proofs.ProblemLaws.{turns, turn_is}
 
--- names that are known to be those of the entries before
-pub entry_known : (has : List ℕ → Bool) (n : ℕ) (es : List Entry) (bs cs : List ℕ) → ((x : List ℕ) → has x ≡ is_named es x) → n ≡ length (conjectures es) → bs ≡ cs → entry_at has n bs ≡ entry_behind es cs
-entry_known has n es bs cs named number same = λ i. entry_at (λ x. named x i) (number i) (same i)
-
--- one more entry is read
-pub entry_read : (text rest front behind : List ℕ) (has : List ℕ → Bool) (n : ℕ) (es : List Entry) (e : Entry) → HasEntries text es rest → ((x : List ℕ) → has x ≡ is_named es x) → n ≡ length (conjectures es) → front ≡ passed 0 rest → entry_at has n front ≡ Ok (e, behind) → HasEntries text (es ++ e ∷ []) behind
-entry_read text rest front behind has n es e before named number at made = one_more es e rest behind before (sym (entry_known has n es front (passed 0 rest) named number at) ∙ made)
+-- what is known of the entries before
+pub record Known (text rest : List ℕ) (names : BTreeSet (List ℕ)) (n : ℕ) (es : List Entry) : Type 0 where
+  pub whole : entries_from es rest ≡ entries_from [] text
+  pub named : (x : List ℕ) → contains text_cmp names x ≡ is_named es x
+  pub counted : n ≡ length (conjectures es)
 
 or_false : (b c : Bool) → (if b then true else c) ≡ (c || (b || false))
 or_false true true = refl
@@ -52,28 +52,28 @@ pub counted_more : (es : List Entry) (e : Entry) → length (conjectures (es ++ 
 counted_more [] e = first (is_conjecture e.role) (closure_of e.formula)
 counted_more (d ∷ es) e = counts (is_conjecture d.role) (is_conjecture e.role) (closure_of d.formula) (closure_of e.formula) (conjectures es) (conjectures (es ++ e ∷ [])) (counted_more es e)
 
--- a fault of one more entry
-pub entry_fails : (text rest front : List ℕ) (has : List ℕ → Bool) (n : ℕ) (es : List Entry) {X : Type 0} (view : X → List Entry) {Y : Type 0} (look : Y → Entry × List ℕ) (e : ReadError) → HasEntries text es rest → ((x : List ℕ) → has x ≡ is_named es x) → n ≡ length (conjectures es) → front ≡ passed 0 rest → 1 ≤ length front → Gives look (Err e) (entry_at has n front) → EntriesRead view text (Err e)
-entry_fails text rest front has n es view look ReadMemory before named number at some made = tt
-entry_fails text rest front has n es view look (ReadFault e) before named number at some made =
-    record { entries = es; rest = rest; has = before; more = omega (arith, ap length at); stops = sym (entry_known has n es front (passed 0 rest) named number at) ∙ made }
-
--- what is known of the entries before
-pub record Known (text rest : List ℕ) (names : BTreeSet (List ℕ)) (n : ℕ) (es : List Entry) : Type 0 where
-  pub has : HasEntries text es rest
-  pub named : (x : List ℕ) → contains text_cmp names x ≡ is_named es x
-  pub counted : n ≡ length (conjectures es)
-
 pub entries_none : (text : List ℕ) (es : List Entry) (names : BTreeSet (List ℕ)) → es ≡ [] → names.keys ≡ [] → Known text text names 0 es
 entries_none text es names none empty = record {
-  has = subst (λ (ds : List Entry). HasEntries text ds text) (sym none) no_entry;
+  whole = ap (λ (ds : List Entry). entries_from ds text) none;
   named = λ x. ap (λ (ks : List (List ℕ)). list_any (is_at (text_cmp x)) ks) empty ∙ ap (λ (ds : List Entry). is_named ds x) (sym none);
   counted = ap (λ (ds : List Entry). length (conjectures ds)) (sym none);
 }
 
-pub entry_more : (text rest front behind : List ℕ) (names names' : BTreeSet (List ℕ)) (n n' : ℕ) (es es' : List Entry) (e : Entry) → Known text rest names n es → front ≡ passed 0 rest → entry_at (contains text_cmp names) n front ≡ Ok (e, behind) → ((x : List ℕ) → contains text_cmp names' x ≡ (if eq_by_cmp text_cmp e.name x then true else contains text_cmp names x)) → n' ≡ counted e.role n → es' ≡ es ++ e ∷ [] → Known text behind names' n' es'
-entry_more text rest front behind names names' n n' es es' e known at made named number grown = record {
-  has = subst (λ (ds : List Entry). HasEntries text ds behind) (sym grown) (entry_read text rest front behind (contains text_cmp names) n es e known.has known.named known.counted at made);
-  named = λ x. named x ∙ (ap (λ (b : Bool). if eq_by_cmp text_cmp e.name x then true else b) (known.named x) ∙ (sym (named_more es e x) ∙ ap (λ (ds : List Entry). is_named ds x) (sym grown)));
-  counted = number ∙ (ap (λ (m : ℕ). counted e.role m) known.counted ∙ (sym (counted_more es e) ∙ ap (λ (ds : List Entry). length (conjectures ds)) (sym grown)));
-}
+module _ (text rest front : List ℕ) (names : BTreeSet (List ℕ)) (n : ℕ) (es : List Entry) (known : Known text rest names n es) (at : front ≡ passed 0 rest) where
+  entry_known : entry_at (contains text_cmp names) n front ≡ entry_behind es (passed 0 rest)
+  entry_known = λ i. entry_at (λ x. known.named x i) (known.counted i) (at i)
+
+  entry_made : (r : EntryResult) → 1 ≤ length front → entry_at (contains text_cmp names) n front ≡ r → entries_from [] text ≡ by_turn (λ c. entries_from c.0 c.1) (one_more es r)
+  entry_made r some made =
+      let bytes : 1 ≤ length (passed 0 rest) = omega (arith, ap length at) in sym known.whole ∙ (turns (es, rest) ∙ ap (by_turn (λ c. entries_from c.0 c.1)) (turn_is es rest r bytes (sym entry_known ∙ made)))
+
+  -- one more entry, and a fault of one more
+  pub entry_more : (behind : List ℕ) (names' : BTreeSet (List ℕ)) (n' : ℕ) (es' : List Entry) (e : Entry) → 1 ≤ length front → entry_at (contains text_cmp names) n front ≡ Ok (e, behind) → ((x : List ℕ) → contains text_cmp names' x ≡ (if eq_by_cmp text_cmp e.name x then true else contains text_cmp names x)) → n' ≡ counted e.role n → es' ≡ es ++ e ∷ [] → Known text behind names' n' es'
+  entry_more behind names' n' es' e some made named number grown = record {
+    whole = ap (λ (ds : List Entry). entries_from ds behind) grown ∙ sym (entry_made (Ok (e, behind)) some made);
+    named = λ x. named x ∙ (ap (λ (b : Bool). if eq_by_cmp text_cmp e.name x then true else b) (known.named x) ∙ (sym (named_more es e x) ∙ ap (λ (ds : List Entry). is_named ds x) (sym grown)));
+    counted = number ∙ (ap (λ (m : ℕ). counted e.role m) known.counted ∙ (sym (counted_more es e) ∙ ap (λ (ds : List Entry). length (conjectures ds)) (sym grown)));
+  }
+
+  pub entry_stops : (e : Fault) → 1 ≤ length front → entry_at (contains text_cmp names) n front ≡ Err e → entries_from [] text ≡ Err e
+  entry_stops e some made = entry_made (Err e) some made

@@ -1,171 +1,170 @@
--- What the reader of problems answers.
-use Rattle.std.proofs.Common.{◌≡◌, ℕ, ◌+◌, ◌-◌, ◌≤◌, List, [], ◌∷◌, ◌++◌, length, Result, Ok, Err, IfOk, refl, sym, ◌∙◌, ap, subst, arith}
-use Rattle.tptp_tokens.specs.declared.tokens.TextKind.TheVariants.{Expected}
+-- What the reading of a problem gives is what the grammar says of the text.
+use Rattle.std.proofs.Common.{◌≡◌, ◌↔◌, ℕ, suc, ◌-◌, ◌<◌, ◌≤◌, Bool, true, false, ◌==◌, if◌then◌else◌, List, [], ◌∷◌, ◌++◌, length, Result, Ok, Err, IfOk, refl, sym, ◌∙◌, ap, subst, arith}
+use Rattle.std.proofs.lemmas.Bool.Decides.{nat_tests}
+use Rattle.std.specs.List.{All}
+use Rattle.tptp_read.specs.Turns.{Turn, on, answer, by_turn, Leads, here}
+use Rattle.tptp_read.proofs.TurnLaw.{MatchTurn, leads_one, whole_turn, answers, says_by}
 use Rattle.tptp_problem.specs.declared.errors.Fault.{Fault}
 use Rattle.tptp_problem.specs.declared.errors.ProblemKind.{ProblemKind}
-use Rattle.tptp_problem.specs.declared.errors.ProblemKind.TheVariants.{Text}
+use Rattle.tptp_problem.specs.declared.errors.ReadError.{ReadError}
 use Rattle.tptp_problem.specs.declared.errors.ProblemError.{ProblemError}
 use Rattle.tptp_problem.specs.declared.errors.ProblemError.TheVariants.{At, Memory as NoMemory}
 use Rattle.tptp_problem.specs.declared.problems.Entry.{Entry}
 use Rattle.tptp_problem.specs.declared.problems.Problem.{Problem}
-use Rattle.tptp_problem.specs.Readers.{fault, passed}
-use Rattle.tptp_problem.specs.Tokens.{no_blank}
-use Rattle.tptp_problem.specs.Closures.{problem_sequent}
-use Rattle.tptp_problem.specs.EntryReader.{entry_behind, HasEntries, no_entry, one_more, AreEntries, FailsAt, ProblemRead}
-use Rattle.tptp_problem.specs.EntryTexts.{at_word, start, Fails, no_word, end_of_text}
+use Rattle.tptp_problem.specs.Tokens.{Blanks}
+use Rattle.tptp_problem.specs.Readers.{Gives, fault, passed}
+use Rattle.tptp_problem.specs.EntryReader.{entry_behind, one_more, entries_turn, entries_from}
 use Rattle.tptp_problem.specs.Problems.{BeginsWith, nothing, entry, IsProblemText, IsProblemFault, GivesProblem, IfFault}
-use Rattle.tptp_problem.proofs.FrontLaws.{at_end_of, end_at}
-use Rattle.tptp_problem.proofs.Bounds.{fault_bound}
-use Rattle.tptp_problem.proofs.EntryLaws.{Stops, entry_sound, entry_fails, entry_passed}
-use Rattle.tptp_problem.proofs.EntryComplete.{entry_complete, entry_blamed}
+use Rattle.tptp_problem.specs.ProblemClauses.{IsReadEntry, IsReadProblem}
+use Rattle.tptp_problem.specs.Closures.{AreFormedEntries}
+use Rattle.tptp_problem.specs.Reading.{problem_from, problem_reading}
+use Rattle.tptp_problem.proofs.Passing.{nothing_left, passed_blanks, passed_end}
+use Rattle.tptp_problem.proofs.TokenLaws.{no_number, some_number}
+use Rattle.tptp_problem.proofs.EntryLaws.{EntryResult, Stops, SaysEntry, entry_passed, entry_says, entry_complete, entry_blamed}
+use Rattle.tptp_problem.proofs.ReadEntries.{begins_read, read_formed}
 
-begins_of : (text rest : List ℕ) (es : List Entry) → HasEntries text es rest → BeginsWith text es rest
-begins_of text rest es no_entry = nothing
-begins_of text rest es (one_more ds e bs cs before is) = entry ds e bs cs (begins_of text bs ds before) (entry_sound ds bs e cs (sym (entry_passed ds bs) ∙ is))
+abbrev EntriesResult : Type 0
+EntriesResult = Result (List Entry) Fault
 
-no_bytes : (cs : List ℕ) → 1 ≤ length cs → cs ≡ [] → ⊥
-no_bytes cs some is = let none : length cs ≡ 0 = ap length is in absurd (omega arith)
+entry_is : (es : List Entry) (bs : List ℕ) → SaysEntry es bs (entry_behind es (passed 0 bs))
+entry_is es bs = subst (SaysEntry es bs) (sym (entry_passed es bs)) (entry_says es bs)
 
-pub problem_text : (text : List ℕ) (r : Result Problem ProblemError) → ProblemRead text r → IfOk r (λ p. IsProblemText text p)
-problem_text text (Ok p) (entries, sequent) = record { rest = entries.rest; begins = begins_of text entries.rest p.entries entries.has; ends = at_end_of entries.rest entries.ends; sequent = sequent }
-problem_text text (Err e) is = tt
+-- one more entry takes a byte at least
+abbrev entry_turn : List Entry → Bool → EntryResult → Turn (List Entry × List ℕ) EntriesResult
+entry_turn es b r = if b then answer (Ok es) else one_more es r
 
-pub problem_fault : (text : List ℕ) (r : Result Problem ProblemError) → ProblemRead text r → IfFault r (λ at k. IsProblemFault text at k)
-problem_fault text (Ok p) is = tt
-problem_fault text (Err NoMemory) is = tt
-problem_fault text (Err (At at k)) (e, (fails, (place, kind))) =
-    let stops : Stops fails.entries fails.rest e = entry_fails fails.entries fails.rest e (sym (entry_passed fails.entries fails.rest) ∙ fails.stops) in
-    record {
-      earlier = fails.entries;
-      rest = fails.rest;
-      begins = begins_of text fails.rest fails.entries fails.has;
-      more = λ blanks. no_bytes (passed 0 fails.rest) fails.more (end_at fails.rest blanks);
-      place = stops.place;
-      bytes = stops.bytes;
-      reaches = stops.reaches;
-      left = e.left;
-      fails = subst (λ (z : ProblemKind). Fails fails.entries stops.place stops.bytes e.left z) (sym kind) stops.fails;
-      at_left = omega (arith, fault_bound text fails.rest stops.bytes fails.entries stops.place e.left e.kind (begins_of text fails.rest fails.entries fails.has) stops.reaches stops.fails);
-    }
+more_smaller : (es : List Entry) (bs : List ℕ) (b : Bool) (r : EntryResult) (d : List Entry × List ℕ) → SaysEntry es bs r → entry_turn es b r ≡ on d → length d.1 < length bs
+more_smaller es bs true r d says is = cc
+more_smaller es bs false (Ok x) d says is = let same : (es ++ x.0 ∷ [], x.1) ≡ d = cc in subst (λ (c : List Entry × List ℕ). length c.1 < length bs) same says.1
+more_smaller es bs false (Err f) d says is = cc
 
--- entries from others on: what has been read, and what is left
-data More : List Entry → List ℕ → List Entry → List ℕ → Type 0 where
-  stop : (es : List Entry) (bs : List ℕ) → More es bs es bs
-  go : (es fs : List Entry) (e : Entry) (bs cs ds : List ℕ) → entry_behind es (passed 0 bs) ≡ Ok (e, cs) → More (es ++ e ∷ []) cs fs ds → More es bs fs ds
+smaller : (c d : List Entry × List ℕ) → entries_turn c ≡ on d → length d.1 < length c.1
+smaller c d is = more_smaller c.0 c.1 (length (passed 0 c.1) == 0) (entry_behind c.0 (passed 0 c.1)) d (entry_is c.0 c.1) is
 
-more_one : (es fs : List Entry) (e : Entry) (bs cs ds : List ℕ) → More es bs fs ds → entry_behind fs (passed 0 ds) ≡ Ok (e, cs) → More es bs (fs ++ e ∷ []) cs
-more_one es fs e bs cs ds (stop gs xs) is = go gs (gs ++ e ∷ []) e xs cs cs is (stop (gs ++ e ∷ []) cs)
-more_one es fs e bs cs ds (go gs hs d xs ys zs made rest) is = go gs (hs ++ e ∷ []) d xs ys cs made (more_one (gs ++ d ∷ []) hs e ys cs zs rest is)
+abbrev reading : List Entry × List ℕ → EntriesResult
+reading c = entries_from c.0 c.1
 
-all_more : (text rest : List ℕ) (es : List Entry) → HasEntries text es rest → More [] text es rest
-all_more text rest es no_entry = stop [] text
-all_more text rest es (one_more ds e bs cs before is) = more_one [] ds e text cs bs (all_more text bs ds before) is
+pub turns : (c : List Entry × List ℕ) → reading c ≡ by_turn reading (entries_turn c)
+turns c = whole_turn entries_turn (Ok []) (λ d. length d.1) smaller c
 
--- no further entry is read
-abbrev IsLast : List Entry → List ℕ → Type 0
-IsLast es bs = (e : Entry) (cs : List ℕ) → entry_behind es (passed 0 bs) ≡ Ok (e, cs) → ⊥
+-- entries are read one by one
+pub no_more : (es : List Entry) (bs : List ℕ) → passed 0 bs ≡ [] → entries_turn (es, bs) ≡ answer (Ok es)
+no_more es bs none = ap (λ (cs : List ℕ). entry_turn es (length cs == 0) (entry_behind es cs)) none
 
--- two readings that go as far as they can are one
-record Same (es fs : List Entry) (bs cs : List ℕ) : Type 0 where
-  entries : es ≡ fs
-  rest : bs ≡ cs
+pub turn_is : (es : List Entry) (bs : List ℕ) (r : EntryResult) → 1 ≤ length (passed 0 bs) → entry_behind es (passed 0 bs) ≡ r → entries_turn (es, bs) ≡ one_more es r
+turn_is es bs r some is = (λ i. entry_turn es (a_number (length (passed 0 bs)) some i) (is i))
+  where
+    a_number : (n : ℕ) → 1 ≤ n → (n == 0) ≡ false
+    a_number n h = grind (arith, nat_tests)
 
-one_value : (x y : Entry × List ℕ) → (let whole : Result (Entry × List ℕ) Fault = Ok x in whole ≡ Ok y) → x ≡ y
-one_value x y is = cc
+module _ (text : List ℕ) where
+  -- what an answer says of the entries
+  record Ended (es : List Entry) : Type 0 where
+    rest : List ℕ
+    begins : BeginsWith text es rest
+    ends : Blanks rest []
 
-one_run : (es fs gs : List Entry) (bs cs ds : List ℕ) → More es bs fs cs → More es bs gs ds → IsLast fs cs → IsLast gs ds → Same fs gs cs ds
-one_run es fs gs bs cs ds (stop hs xs) (stop hs' xs') last last' = record { entries = refl; rest = refl }
-one_run es fs gs bs cs ds (stop hs xs) (go hs' is e xs' ys zs made rest) last last' = absurd (last e ys made)
-one_run es fs gs bs cs ds (go hs is e xs ys zs made rest) (stop hs' xs') last last' = absurd (last' e ys made)
-one_run es fs gs bs cs ds (go hs is e xs ys zs made rest) (go hs' is' e' xs' ys' zs' made' rest') last last' =
-    let same : (e', ys') ≡ (e, ys) = one_value (e', ys') (e, ys) (sym made' ∙ made) in
-    let moved : More (hs ++ e ∷ []) ys is' zs' = subst (λ (x : Entry × List ℕ). More (hs ++ x.0 ∷ []) x.1 is' zs') same rest' in
-    one_run (hs ++ e ∷ []) is is' ys zs zs' rest moved last last'
+  record Stopped (f : Fault) : Type 0 where
+    earlier : List Entry
+    rest : List ℕ
+    begins : BeginsWith text earlier rest
+    more : Blanks rest [] → ⊥
+    stops : Stops earlier rest f
+    within : f.left ≤ length text
 
--- at the end of a text no entry is read
-end_last : (es : List Entry) (bs : List ℕ) → passed 0 bs ≡ [] → IsLast es bs
-end_last es bs none e cs is =
-    let stops : entry_behind es [] ≡ Err (fault 0 (Text Expected)) = entry_blamed es [] at_word [] 0 (Text Expected) start (no_word [] 0 (Text Expected) (end_of_text (no_blank []))) in
-    let made : entry_behind es [] ≡ Ok (e, cs) = sym (ap (λ (xs : List ℕ). entry_behind es xs) none) ∙ is in
-    cc
+  abbrev SaysEntries : EntriesResult → Type 0
+  SaysEntries (Ok es) = Ended es
+  SaysEntries (Err f) = Stopped f
 
-fault_last : (es : List Entry) (bs : List ℕ) (f : Fault) → entry_behind es (passed 0 bs) ≡ Err f → IsLast es bs
-fault_last es bs f stops e cs is = cc
+  abbrev Begun : List Entry × List ℕ → Type 0
+  Begun c = BeginsWith text c.0 c.1 × (length c.1 ≤ length text)
 
--- readings of a text
-has_of : (text rest : List ℕ) (es : List Entry) → BeginsWith text es rest → HasEntries text es rest
-has_of text rest es nothing = no_entry
-has_of text rest es (entry ds e bs cs before is) = one_more ds e bs cs (has_of text bs ds before) (entry_passed ds bs ∙ entry_complete ds bs e cs is)
+  turned : (es : List Entry) (bs : List ℕ) (b : Bool) (r : EntryResult) → (length (passed 0 bs) == 0) ≡ b → SaysEntry es bs r → Begun (es, bs) → MatchTurn (entry_turn es b r) Begun SaysEntries
+  turned es bs true r none says (begins, within) =
+      record { rest = bs; begins = begins; ends = subst (Blanks bs) (nothing_left (passed 0 bs) (no_number (length (passed 0 bs)) none)) (passed_blanks bs) }
+  turned es bs false (Ok x) some says (begins, within) = let shorter : suc (length x.1) ≤ length bs = says.1 in (entry es x.0 bs x.1 begins says.0, omega arith)
+  turned es bs false (Err f) some says (begins, within) =
+      let left : f.left ≤ length bs = says.bound in
+      record { earlier = es; rest = bs; begins = begins; more = λ blanks. no_bytes blanks; stops = says; within = omega arith }
+    where
+      no_bytes : Blanks bs [] → ⊥
+      no_bytes blanks = let none : length (passed 0 bs) ≡ 0 = ap length (passed_end bs blanks) in absurd (omega (arith, some_number (length (passed 0 bs)) some))
 
-record Ends (text : List ℕ) (es : List Entry) (rest : List ℕ) : Type 0 where
-  run : More [] text es rest
-  none : passed 0 rest ≡ []
+  entries_say : SaysEntries (entries_from [] text)
+  entries_say =
+      says_by entries_turn reading turns (λ c. length c.1) smaller Begun SaysEntries
+      (λ c begun. turned c.0 c.1 (length (passed 0 c.1) == 0) (entry_behind c.0 (passed 0 c.1)) refl (entry_is c.0 c.1) begun) ([], text) (nothing, omega arith)
 
-record Faults (text : List ℕ) (es : List Entry) (rest : List ℕ) (f : Fault) : Type 0 where
-  run : More [] text es rest
-  stops : entry_behind es (passed 0 rest) ≡ Err f
-  more : passed 0 rest ≡ [] → ⊥
+  begins_lead : (es : List Entry) (rest : List ℕ) → BeginsWith text es rest → Leads entries_turn ([], text) (es, rest)
+  begins_lead es rest nothing = here ([], text)
+  begins_lead es rest (entry ds e bs cs before is) =
+      let made = entry_passed ds bs ∙ entry_complete ds bs e cs is in
+      let shorter : suc (length cs) ≤ length (passed 0 bs) = (subst (SaysEntry ds (passed 0 bs)) made (entry_says ds (passed 0 bs))).1 in
+      leads_one entries_turn ([], text) (ds, bs) (ds ++ e ∷ [], cs) (begins_lead ds bs before) (turn_is ds bs (Ok (e, cs)) (omega arith) made)
 
-text_ends : (text : List ℕ) (p : Problem) (is : IsProblemText text p) → Ends text p.entries is.rest
-text_ends text p is = record { run = all_more text is.rest p.entries (has_of text is.rest p.entries is.begins); none = end_at is.rest is.ends }
+  there : (es : List Entry) (rest : List ℕ) (r : EntriesResult) → BeginsWith text es rest → entries_turn (es, rest) ≡ answer r → entries_from [] text ≡ r
+  there es rest r begins is = answers entries_turn reading turns ([], text) r (record { place = (es, rest); leads = begins_lead es rest begins; given = is })
 
-read_ends : (text : List ℕ) (es : List Entry) (is : AreEntries text es) → Ends text es is.rest
-read_ends text es is = record { run = all_more text is.rest es is.has; none = is.ends }
+  -- the entries of an answer can be read
+  pub all_read : {X : Type 0} (view : X → List Entry) (r : Result X ReadError) → Gives view r (entries_from [] text) → IfOk r (λ v. All IsReadEntry (view v))
+  all_read view (Ok v) given = let ended : Ended (view v) = subst SaysEntries given entries_say in begins_read text ended.rest (view v) ended.begins
+  all_read view (Err e) given = tt
 
-fault_faults : (text : List ℕ) (at : ℕ) (k : ProblemKind) (is : IsProblemFault text at k) → Faults text is.earlier is.rest (fault is.left k)
-fault_faults text at k is = record {
-  run = all_more text is.rest is.earlier (has_of text is.rest is.earlier is.begins);
-  stops = entry_passed is.earlier is.rest ∙ entry_blamed is.earlier is.rest is.place is.bytes is.left k is.reaches is.fails;
-  more = λ none. is.more (at_end_of is.rest none);
-}
+  pub all_formed : {X : Type 0} (view : X → List Entry) (r : Result X ReadError) → Gives view r (entries_from [] text) → IfOk r (λ v. AreFormedEntries (view v))
+  all_formed view (Ok v) given = read_formed (view v) (all_read view (Ok v) given)
+  all_formed view (Err e) given = tt
 
-read_faults : (text : List ℕ) (f : Fault) (is : FailsAt text f) → Faults text is.entries is.rest f
-read_faults text f is = record { run = all_more text is.rest is.entries is.has; stops = is.stops; more = no_bytes (passed 0 is.rest) is.more }
+  -- what the grammar says of an answer
+  abbrev pub SaysProblem : Result Problem (ℕ × ProblemKind) → Type 0
+  SaysProblem (Ok p) = IsProblemText text p
+  SaysProblem (Err (at, k)) = IsProblemFault text at k
 
-same_ends : (text : List ℕ) (es fs : List Entry) (bs cs : List ℕ) → Ends text es bs → Ends text fs cs → es ≡ fs
-same_ends text es fs bs cs a b = (one_run [] es fs text bs cs a.run b.run (end_last es bs a.none) (end_last fs cs b.none)).entries
+  problem_says : (r : EntriesResult) → SaysEntries r → SaysProblem (problem_from text r)
+  problem_says (Ok es) e = record { rest = e.rest; begins = e.begins; ends = e.ends; sequent = refl }
+  problem_says (Err f) s =
+      let within : f.left ≤ length text = s.within in
+      record { earlier = s.earlier; rest = s.rest; begins = s.begins; more = s.more; place = s.stops.place; bytes = s.stops.bytes; reaches = s.stops.reaches; left = f.left; fails = s.stops.fails; at_left = omega arith }
 
-no_both : (text : List ℕ) (es fs : List Entry) (bs cs : List ℕ) (f : Fault) → Ends text es bs → Faults text fs cs f → ⊥
-no_both text es fs bs cs f a b =
-    let same : Same es fs bs cs = one_run [] es fs text bs cs a.run b.run (end_last es bs a.none) (fault_last fs cs f b.stops) in
-    b.more (ap (λ (xs : List ℕ). passed 0 xs) (sym same.rest) ∙ a.none)
+  problem_tells : (r : Result Problem (ℕ × ProblemKind)) → SaysProblem r → problem_reading text ≡ r
+  unfolding problem_reading
+  problem_tells (Ok p) is = ap (problem_from text) (there p.entries is.rest (Ok p.entries) is.begins (no_more p.entries is.rest (passed_end is.rest is.ends))) ∙ (λ i. Ok (record { entries = p.entries; sequent = sym is.sequent i }))
+  problem_tells (Err (at, k)) is =
+      let stops = entry_passed is.earlier is.rest ∙ entry_blamed is.earlier is.rest is.place is.bytes is.left k is.reaches is.fails in
+      let some : 1 ≤ length (passed 0 is.rest) = some_bytes (passed 0 is.rest) refl in
+      let place : length text - is.left ≡ at = omega (arith, is.at_left) in
+      ap (problem_from text) (there is.earlier is.rest (Err (fault is.left k)) is.begins (turn_is is.earlier is.rest (Err (fault is.left k)) some stops)) ∙ (λ i. Err (place i, k))
+    where
+      some_bytes : (cs : List ℕ) → passed 0 is.rest ≡ cs → 1 ≤ length cs
+      some_bytes [] none = absurd (is.more (subst (Blanks is.rest) none (passed_blanks is.rest)))
+      some_bytes (c ∷ cs) some = omega arith
 
-one_error : (f g : Fault) → (let whole : Result (Entry × List ℕ) Fault = Err f in whole ≡ Err g) → f ≡ g
-one_error f g is = cc
+  pub exact_problem : (r : Result Problem (ℕ × ProblemKind)) → (problem_reading text ≡ r) ↔ SaysProblem r
+  unfolding problem_reading
+  exact_problem r = (λ is. subst SaysProblem is (problem_says (entries_from [] text) entries_say), problem_tells r)
 
-same_faults : (text : List ℕ) (es fs : List Entry) (bs cs : List ℕ) (f g : Fault) → Faults text es bs f → Faults text fs cs g → f ≡ g
-same_faults text es fs bs cs f g a b =
-    let same : Same es fs bs cs = one_run [] es fs text bs cs a.run b.run (fault_last es bs f a.stops) (fault_last fs cs g b.stops) in
-    one_error f g (sym a.stops ∙ ((λ i. entry_behind (same.entries i) (passed 0 (same.rest i))) ∙ b.stops))
+  -- What a call answers that gives the reading.
+  pub is_text : (r : Result Problem ProblemError) → GivesProblem r (problem_reading text) → IfOk r (λ p. IsProblemText text p)
+  is_text (Ok p) given = (exact_problem (Ok p)).0 given
+  is_text (Err e) given = tt
 
-same_problem : (p q : Problem) → p.entries ≡ q.entries → p.sequent ≡ problem_sequent p.entries → q.sequent ≡ problem_sequent q.entries → p ≡ q
-same_problem p q entries left right =
-    let sequents : p.sequent ≡ q.sequent = left ∙ (ap problem_sequent entries ∙ sym right) in λ i. record { entries = entries i; sequent = sequents i }
+  pub is_fault : (r : Result Problem ProblemError) → GivesProblem r (problem_reading text) → IfFault r (λ at k. IsProblemFault text at k)
+  is_fault (Ok p) given = tt
+  is_fault (Err NoMemory) given = tt
+  is_fault (Err (At at k)) given = (exact_problem (Err (at, k))).0 given
 
-left_of : (at left n : ℕ) → at + left ≡ n → at ≡ n - left
-left_of at left n is = omega arith
+  pub only_text : (r : Result Problem ProblemError) → GivesProblem r (problem_reading text) → (p : Problem) → IsProblemText text p → GivesProblem r (Ok p)
+  only_text r given p is = subst (GivesProblem r) ((exact_problem (Ok p)).1 is) given
 
--- a text that has a reading is read, and one that has a first fault is refused with it
-pub problem_only : (text : List ℕ) (r : Result Problem ProblemError) → ProblemRead text r → (p : Problem) → IsProblemText text p → GivesProblem r (Ok p)
-problem_only text (Ok q) (entries, sequent) p is =
-    ap (λ (z : Problem). Ok z) (same_problem p q (same_ends text p.entries q.entries is.rest entries.rest (text_ends text p is) (read_ends text q.entries entries)) is.sequent sequent)
-problem_only text (Err NoMemory) read p is = tt
-problem_only text (Err (At at k)) (f, (fails, (place, kind))) p is = absurd (no_both text p.entries fails.entries is.rest fails.rest f (text_ends text p is) (read_faults text f fails))
+  pub first_fault : (r : Result Problem ProblemError) → GivesProblem r (problem_reading text) → (at : ℕ) (k : ProblemKind) → IsProblemFault text at k → GivesProblem r (Err (at, k))
+  first_fault r given at k is = subst (GivesProblem r) ((exact_problem (Err (at, k))).1 is) given
 
-pub problem_first : (text : List ℕ) (r : Result Problem ProblemError) → ProblemRead text r → (at : ℕ) (k : ProblemKind) → IsProblemFault text at k → GivesProblem r (Err (at, k))
-problem_first text (Ok q) (entries, sequent) at k is = absurd (no_both text q.entries is.earlier entries.rest is.rest (fault is.left k) (read_ends text q.entries entries) (fault_faults text at k is))
-problem_first text (Err NoMemory) read at k is = tt
-problem_first text (Err (At at' k')) (f, (fails, (place, kind))) at k is =
-    let same : fault is.left k ≡ f = same_faults text is.earlier fails.entries is.rest fails.rest (fault is.left k) f (fault_faults text at k is) (read_faults text f fails) in
-    let places : at ≡ at' = left_of at is.left (length text) is.at_left ∙ (ap (λ (g : Fault). length text - g.left) same ∙ sym place) in
-    let kinds : k ≡ k' = ap (λ (g : Fault). g.kind) same ∙ sym kind in
-    λ i. Err (places i, kinds i)
+  pub one_text : (p q : Problem) → IsProblemText text p → IsProblemText text q → p ≡ q
+  one_text p q a b = let first : problem_reading text ≡ Ok p = (exact_problem (Ok p)).1 a in let second : problem_reading text ≡ Ok q = (exact_problem (Ok q)).1 b in cc
 
--- at most one reading and one first fault
-pub one_problem : (text : List ℕ) (p q : Problem) → IsProblemText text p → IsProblemText text q → p ≡ q
-one_problem text p q a b = same_problem p q (same_ends text p.entries q.entries a.rest b.rest (text_ends text p a) (text_ends text q b)) a.sequent b.sequent
+  pub one_fault : (at at' : ℕ) (k k' : ProblemKind) → IsProblemFault text at k → IsProblemFault text at' k' → (at ≡ at') × (k ≡ k')
+  one_fault at at' k k' a b =
+      let first : problem_reading text ≡ Err (at, k) = (exact_problem (Err (at, k))).1 a in let second : problem_reading text ≡ Err (at', k') = (exact_problem (Err (at', k'))).1 b in let same : (at, k) ≡ (at', k') = cc in
+      (ap (λ (x : ℕ × ProblemKind). x.0) same, ap (λ (x : ℕ × ProblemKind). x.1) same)
 
-pub one_problem_fault : (text : List ℕ) (at at' : ℕ) (k k' : ProblemKind) → IsProblemFault text at k → IsProblemFault text at' k' → (at ≡ at') × (k ≡ k')
-one_problem_fault text at at' k k' a b =
-    let same : fault a.left k ≡ fault b.left k' = same_faults text a.earlier b.earlier a.rest b.rest (fault a.left k) (fault b.left k') (fault_faults text at k a) (fault_faults text at' k' b) in
-    (left_of at a.left (length text) a.at_left ∙ (ap (λ (g : Fault). length text - g.left) same ∙ sym (left_of at' b.left (length text) b.at_left)), ap (λ (g : Fault). g.kind) same)
+  pub is_read : (p : Problem) → IsProblemText text p → IsReadProblem p
+  is_read p is = record { entries = begins_read text is.rest p.entries is.begins }

@@ -2,6 +2,7 @@
 use Rattle.std.proofs.Common.{◌≡◌, ℕ, suc, ◌+◌, ◌-◌, ◌≤◌, Bool, true, false, ◌==◌, ◌&&◌, ◌||◌, if◌then◌else◌, List, [], ◌∷◌, ◌++◌, length, take, Option, Some, None, codes, refl, arith}
 use Rattle.std.specs.Char.{is_ascii_uppercase, is_ascii_lowercase, is_ascii_digit}
 use Rattle.std.specs.Str.{bytes_eq}
+use Rattle.std.proofs.lemmas.Bool.{and_parts}
 use Rattle.fol.specs.Formed.{is_printable, is_word_byte}
 use Rattle.fol.specs.Numbered.{number_of_text}
 use Rattle.tptp_tokens.specs.declared.tokens.Quantifier.TheVariants.{All}
@@ -60,16 +61,12 @@ tilde_sized bs =
     chosen (suc (length bs)) (begins 124 bs) (Found (Binary Nor) 2) (if begins 38 bs then Found (Binary Nand) 2 else Found Negation 1) (λ is. (omega arith, omega (arith, begins_fits 124 bs is)))
     (λ is. chosen (suc (length bs)) (begins 38 bs) (Found (Binary Nand) 2) (Found Negation 1) (λ is. (omega arith, omega (arith, begins_fits 38 bs is))) (λ is. (omega arith, omega arith)))
 
-right_true : (a b : Bool) → (a && b) ≡ true → b ≡ true
-right_true true b p = p
-right_true false b p = cc
-
 less_sized : (bs : List ℕ) → IsSized (less bs) (suc (length bs))
 less_sized [] = omega arith
 less_sized (b ∷ bs) =
     chosen (suc (suc (length bs))) (b == 61) (if begins 62 bs then Found (Binary Equivalent) 3 else Found (Binary ImpliedBy) 2) (if b == 126 && begins 62 bs then Found (Binary Different) 3 else Wrong 0 NoToken)
     (λ is. chosen (suc (suc (length bs))) (begins 62 bs) (Found (Binary Equivalent) 3) (Found (Binary ImpliedBy) 2) (λ on. (omega arith, omega (arith, begins_fits 62 bs on))) (λ off. (omega arith, omega arith)))
-    (λ is. chosen (suc (suc (length bs))) (b == 126 && begins 62 bs) (Found (Binary Different) 3) (Wrong 0 NoToken) (λ on. (omega arith, omega (arith, begins_fits 62 bs (right_true (b == 126) (begins 62 bs) on)))) (λ off. omega arith))
+    (λ is. chosen (suc (suc (length bs))) (b == 126 && begins 62 bs) (Found (Binary Different) 3) (Wrong 0 NoToken) (λ on. (omega arith, omega (arith, begins_fits 62 bs (and_parts (b == 126) (begins 62 bs) on).1))) (λ off. omega arith))
 
 slash_sized : (bs : List ℕ) → IsSized (slash bs) (suc (length bs))
 slash_sized [] = omega arith

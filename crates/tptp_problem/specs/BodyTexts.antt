@@ -1,5 +1,5 @@
 -- The bodies of entries, as relations on tokens and bytes.
-use Rattle.std.specs.Prelude.{◌≡◌, ◌⊎◌, ℕ, ◌-◌, List, [], ◌∷◌, ◌++◌, length}
+use Rattle.std.specs.Prelude.{◌≡◌, ℕ, ◌-◌, List, [], ◌∷◌, ◌++◌, length}
 use Rattle.fol.specs.Syntax.{Formula}
 use Rattle.tptp_tokens.specs.declared.tokens.Token.{Token}
 use Rattle.tptp_tokens.specs.declared.tokens.Token.TheVariants.{Close, Comma}
@@ -10,7 +10,7 @@ use Rattle.tptp_tokens.specs.Lexer.{scanned}
 use Rattle.tptp_read.specs.declared.state.Limits.{Limits}
 use Rattle.tptp_read.specs.declared.state.Outcome.TheVariants.{Formula as FormulaRead}
 use Rattle.tptp_read.specs.Grammar.{formulas, Reads}
-use Rattle.tptp_read.specs.Texts.{IsNoComma}
+use Rattle.tptp_read.specs.Reader.{IsFrontIn, IsAnyFrontIn, IsCleanIn, IsNoComma}
 use Rattle.tptp_problem.specs.declared.errors.ProblemKind.{ProblemKind}
 use Rattle.tptp_problem.specs.declared.errors.ProblemKind.TheVariants.{Text, Clause as NoClause}
 use Rattle.tptp_problem.specs.declared.problems.Language.{Language}
@@ -27,17 +27,15 @@ abbrev pub IsBody : Language → Limits → List Token → Formula → Type 0
 IsBody Fof lim ts f = Reads lim formulas ts (FormulaRead f)
 IsBody Cnf lim ts f = IsClause lim lim.levels ts f []
 
--- the tokens begin a body within the limits; and within any
+-- the tokens begin a body within the limits; and within any; and they begin one within those of an entry, but for a comma
 abbrev pub IsBodyFront : Language → Limits → List Token → Type 0
-IsBodyFront l lim ts = (more : List Token) × ((f : Formula) × IsBody l lim (ts ++ more) f)
+IsBodyFront l lim ts = IsFrontIn (IsBody l) lim ts
 
 abbrev pub IsAnyBodyFront : Language → List Token → Type 0
-IsAnyBodyFront l ts = (lim : Limits) × IsBodyFront l lim ts
+IsAnyBodyFront l ts = IsAnyFrontIn (IsBody l) ts
 
--- The tokens begin a body within the limits; or they do so without their last token, a comma. (Behind the last variable that a
--- quantifier may have a comma is no fault, though nothing within the limits can follow it.)
 abbrev pub IsCleanBody : Language → List Token → Type 0
-IsCleanBody l ts = IsBodyFront l entry_limits ts ⊎ ((front : List Token) × ((ts ≡ front ++ Comma ∷ []) × IsBodyFront l entry_limits front))
+IsCleanBody l ts = IsCleanIn (IsBody l) entry_limits ts
 
 -- a `,` or a `)` ends a body
 pub data IsEnd : Token → Type 0 where

@@ -1,19 +1,15 @@
 -- What the code computes of one entry, and of a list of them.
-use Rattle.std.specs.Prelude.{◌≡◌, ℕ, ◌+◌, ◌-◌, ◌≤◌, Bool, true, false, if◌then◌else◌, List, [], ◌∷◌, ◌++◌, length, Result, Ok, Err}
-use Rattle.tptp_read.specs.Machine.{◌>>=◌}
+use Rattle.std.specs.Prelude.{ℕ, suc, ◌+◌, Bool, true, false, ◌==◌, if◌then◌else◌, List, [], ◌∷◌, ◌++◌, length, Result, Ok, Err}
+use Rattle.tptp_read.specs.Reader.{◌>>=◌}
+use Rattle.tptp_read.specs.Turns.{Turn, on, answer, run}
 use Rattle.tptp_problem.specs.declared.errors.Fault.{Fault}
-use Rattle.tptp_problem.specs.declared.errors.ReadError.{ReadError}
-use Rattle.tptp_problem.specs.declared.errors.ReadError.TheVariants.{Memory as ReadMemory, Fault as ReadFault}
-use Rattle.tptp_problem.specs.declared.errors.ProblemError.{ProblemError}
-use Rattle.tptp_problem.specs.declared.errors.ProblemError.TheVariants.{At, Memory as NoMemory}
-use Rattle.tptp_problem.specs.declared.problems.Problem.{Problem}
 use Rattle.tptp_problem.specs.declared.problems.Role.{Role}
 use Rattle.tptp_problem.specs.declared.problems.Entry.{Entry}
 use Rattle.tptp_problem.specs.declared.tokens.Mark.TheVariants.{Open, Comma, Dot}
 use Rattle.tptp_problem.specs.Readers.{passed, mark_at, word_at, name_at, role_at}
 use Rattle.tptp_problem.specs.BodyReader.{body_at}
 use Rattle.tptp_problem.specs.AnnotationReader.{annotation_at}
-use Rattle.tptp_problem.specs.Closures.{is_conjecture, conjectures, problem_sequent}
+use Rattle.tptp_problem.specs.Closures.{is_conjecture, conjectures}
 use Rattle.tptp_problem.specs.Words.{is_named}
 
 -- what stands between a body and the `.`, behind the `,` or the `)` that ends the body
@@ -39,37 +35,17 @@ entry_at has n bs =
 abbrev pub entry_behind : List Entry → List ℕ → Result (Entry × List ℕ) Fault
 entry_behind es bs = entry_at (is_named es) (length (conjectures es)) bs
 
--- the text begins with these entries, and bs are left
-pub data HasEntries (text : List ℕ) : List Entry → List ℕ → Type 0 where
-  no_entry : HasEntries text [] text
-  one_more : (es : List Entry) (e : Entry) (bs cs : List ℕ) → HasEntries text es bs → entry_behind es (passed 0 bs) ≡ Ok (e, cs) → HasEntries text (es ++ e ∷ []) cs
-
--- the text is these entries
-pub record AreEntries (text : List ℕ) (es : List Entry) : Type 0 where
-  pub rest : List ℕ
-  pub has : HasEntries text es rest
-  pub ends : passed 0 rest ≡ []
-
--- the text begins with entries behind which a fault comes
-pub record FailsAt (text : List ℕ) (e : Fault) : Type 0 where
-  pub entries : List Entry
-  pub rest : List ℕ
-  pub has : HasEntries text entries rest
-  pub more : 1 ≤ length (passed 0 rest)
-  pub stops : entry_behind entries (passed 0 rest) ≡ Err e
-
--- what reading the entries of a text answers, seen by view
-abbrev pub EntriesRead : {X : Type 0} → (X → List Entry) → List ℕ → Result X ReadError → Type 0
-EntriesRead view text (Ok x) = AreEntries text (view x)
-EntriesRead view text (Err ReadMemory) = Unit {0}
-EntriesRead view text (Err (ReadFault e)) = FailsAt text e
-
 -- the number of conjectures, with one more where the entry is one
 abbrev pub counted : Role → ℕ → ℕ
 counted r n = if is_conjecture r then n + 1 else n
 
--- what reading a whole text answers: the entries and their sequent, or where a fault is
-abbrev pub ProblemRead : List ℕ → Result Problem ProblemError → Type 0
-ProblemRead text (Ok p) = AreEntries text p.entries × (p.sequent ≡ problem_sequent p.entries)
-ProblemRead text (Err NoMemory) = Unit {0}
-ProblemRead text (Err (At at kind)) = (e : Fault) × (FailsAt text e × ((at ≡ length text - e.left) × (kind ≡ e.kind)))
+-- These entries and those that the bytes behind them are, or the first fault. Each turn takes a byte at least.
+abbrev pub one_more : List Entry → Result (Entry × List ℕ) Fault → Turn (List Entry × List ℕ) (Result (List Entry) Fault)
+one_more es (Ok x) = on (es ++ x.0 ∷ [], x.1)
+one_more es (Err f) = answer (Err f)
+
+abbrev pub entries_turn : List Entry × List ℕ → Turn (List Entry × List ℕ) (Result (List Entry) Fault)
+entries_turn c = if length (passed 0 c.1) == 0 then answer (Ok c.0) else one_more c.0 (entry_behind c.0 (passed 0 c.1))
+
+abbrev pub entries_from : List Entry → List ℕ → Result (List Entry) Fault
+entries_from es bs = run entries_turn (Ok []) (suc (length bs)) (es, bs)

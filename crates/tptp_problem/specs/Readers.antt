@@ -1,12 +1,14 @@
 -- What the code computes at the front of the bytes that are left of a text: each reader answers a value and the bytes behind it, or the
 -- first fault.
 use Rattle.std.specs.Prelude.{◌≡◌, ℕ, zero, suc, ◌-◌, Bool, ◌==◌, if◌then◌else◌, nat_le, List, [], ◌∷◌, length, take, drop, Result, Ok, Err}
+use Rattle.tptp_tokens.specs.declared.tokens.Token.{Token}
 use Rattle.tptp_tokens.specs.declared.tokens.Token.TheVariants.{Name}
 use Rattle.tptp_tokens.specs.declared.tokens.TextKind.TheVariants.{Expected, Deep}
 use Rattle.tptp_tokens.specs.declared.tokens.Scan.{Scan}
 use Rattle.tptp_tokens.specs.declared.tokens.Scan.TheVariants.{End, Blank, Found, Wrong}
 use Rattle.tptp_tokens.specs.Lexer.{scanned}
-use Rattle.tptp_read.specs.Machine.{◌>>=◌}
+use Rattle.tptp_read.specs.Reader.{◌>>=◌}
+use Rattle.tptp_read.specs.Turns.{Look, token, ends, bad}
 use Rattle.tptp_problem.specs.declared.errors.Fault.{Fault}
 use Rattle.tptp_problem.specs.declared.errors.ReadError.{ReadError}
 use Rattle.tptp_problem.specs.declared.errors.ReadError.TheVariants.{Memory as ReadMemory, Fault as ReadFault}
@@ -29,6 +31,10 @@ Gives view (Err (ReadFault e)) computed = computed ≡ Err e
 abbrev pub fault : ℕ → ProblemKind → Fault
 fault n k = record { left = n; kind = k }
 
+abbrev pub placed : {A : Type 0} → ℕ → Result A ProblemKind → Result A Fault
+placed n (Ok x) = Ok x
+placed n (Err k) = Err (fault n k)
+
 -- the bytes behind k bytes and the white space and comments behind these
 abbrev pub passed : ℕ → List ℕ → List ℕ
 passed k [] = []
@@ -41,30 +47,43 @@ passed zero (b ∷ bs) =
       | Wrong n e ↦ b ∷ bs
     ]
 
+-- what stands at the front, behind white space and comments; a place is the number of bytes from there on
+abbrev pub look_from : List ℕ → Scan → Look (List ℕ)
+look_from front (Found t n) = token (length front) t (drop n front)
+look_from front (Wrong n e) = bad (length front - n) e
+look_from front s = ends (length front)
+
+abbrev pub look : List ℕ → Look (List ℕ)
+look bs = look_from (passed 0 bs) (scanned (passed 0 bs))
+
 -- where another token is wanted than what stands at the front of n bytes
 abbrev pub unwanted : Scan → ℕ → Fault
 unwanted (Wrong k e) n = fault (n - k) (Text e)
 unwanted s n = fault n (Text Expected)
 
-abbrev pub mark_from : Mark → List ℕ → Scan → Result (List ℕ) Fault
-mark_from m front (Found t n) = if is_mark m t then Ok (drop n front) else Err (fault (length front) (Text Expected))
-mark_from m front s = Err (unwanted s (length front))
+-- what a token gives, how many bytes were left before it, and the bytes behind it
+abbrev pub by_look : {A : Type 0} → (Token → Result A ProblemKind) → Look (List ℕ) → Result (A × ℕ × List ℕ) Fault
+by_look gives (token n t rest) = placed n (gives t) >>= λ a. Ok (a, n, rest)
+by_look gives (ends n) = Err (fault n (Text Expected))
+by_look gives (bad n e) = Err (fault n (Text e))
 
--- a mark with white space and comments before it
+abbrev pub token_at : {A : Type 0} → (Token → Result A ProblemKind) → List ℕ → Result (A × ℕ × List ℕ) Fault
+token_at gives bs = by_look gives (look bs)
+
+-- a mark
+abbrev pub mark_token : Mark → Token → Result Token ProblemKind
+mark_token m t = if is_mark m t then Ok t else Err (Text Expected)
+
 unfoldable pub mark_at : Mark → List ℕ → Result (List ℕ) Fault
-mark_at m bs = mark_from m (passed 0 bs) (scanned (passed 0 bs))
+mark_at m bs = token_at (mark_token m) bs >>= λ x. Ok x.2
 
-abbrev pub placed : {A : Type 0} → ℕ → Result A ProblemKind → Result A Fault
-placed n (Ok x) = Ok x
-placed n (Err k) = Err (fault n k)
-
--- the word at the front of an entry: its language, how many bytes were left before it, and the bytes behind it
-abbrev pub word_from : List ℕ → Scan → Result (Language × ℕ × List ℕ) Fault
-word_from front (Found (Name x) n) = placed (length front) (language_named x) >>= λ l. Ok (l, length front, drop n front)
-word_from front s = Err (unwanted s (length front))
+-- the word at the front of an entry: its language
+abbrev pub name_token : {A : Type 0} → (List ℕ → Result A ProblemKind) → Token → Result A ProblemKind
+name_token named (Name x) = named x
+name_token named t = Err (Text Expected)
 
 unfoldable pub word_at : List ℕ → Result (Language × ℕ × List ℕ) Fault
-word_at bs = word_from (passed 0 bs) (scanned (passed 0 bs))
+word_at bs = token_at (name_token language_named) bs
 
 -- the name of an entry: a name or digits, and its length
 abbrev pub name_from : List ℕ → Scan → Result (List ℕ × ℕ) Fault
@@ -80,13 +99,12 @@ unfoldable pub name_at : (List ℕ → Bool) → List ℕ → Result (List ℕ �
 name_at has bs = name_from (passed 0 bs) (scanned (passed 0 bs)) >>= new_name has (passed 0 bs)
 
 -- the role, where n conjectures stand before; `word` bytes were left before the entry's word
+abbrev pub role_of_name : Language → List ℕ → Result Role ProblemKind
+role_of_name l x = has_role l (role_named x)
+
 abbrev pub within_conjectures : ℕ → ℕ → Role → Result Role Fault
 within_conjectures n word Conjecture = if nat_le MOST_CONJECTURES n then Err (fault word (Text Deep)) else Ok Conjecture
 within_conjectures n word r = Ok r
 
-abbrev pub role_from : Language → ℕ → ℕ → List ℕ → Scan → Result (Role × List ℕ) Fault
-role_from l n word front (Found (Name x) k) = placed (length front) (has_role l (role_named x)) >>= λ r. within_conjectures n word r >>= λ q. Ok (q, drop k front)
-role_from l n word front s = Err (unwanted s (length front))
-
 unfoldable pub role_at : Language → ℕ → ℕ → List ℕ → Result (Role × List ℕ) Fault
-role_at l n word bs = role_from l n word (passed 0 bs) (scanned (passed 0 bs))
+role_at l n word bs = token_at (name_token (role_of_name l)) bs >>= λ x. within_conjectures n word x.0 >>= λ r. Ok (r, x.2)

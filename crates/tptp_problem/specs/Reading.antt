@@ -1,19 +1,11 @@
 -- The reading of a text as a function: the problem that the text is, or its first fault.
-use Rattle.std.specs.Prelude.{ℕ, zero, suc, ◌-◌, ◌==◌, if◌then◌else◌, List, [], ◌∷◌, ◌++◌, length, Result, Ok, Err}
-use Rattle.tptp_read.specs.Machine.{◌>>=◌}
+use Rattle.std.specs.Prelude.{ℕ, ◌-◌, List, [], length, Result, Ok, Err}
 use Rattle.tptp_problem.specs.declared.errors.Fault.{Fault}
 use Rattle.tptp_problem.specs.declared.errors.ProblemKind.{ProblemKind}
 use Rattle.tptp_problem.specs.declared.problems.Entry.{Entry}
 use Rattle.tptp_problem.specs.declared.problems.Problem.{Problem}
-use Rattle.tptp_problem.specs.Readers.{passed}
 use Rattle.tptp_problem.specs.Closures.{problem_sequent}
-use Rattle.tptp_problem.specs.EntryReader.{entry_behind}
-
--- These entries and those that the bytes behind them are, or the first fault. The number is more than that of the bytes, so it never
--- runs out: an entry takes at least one byte.
-abbrev pub entries_from : ℕ → List Entry → List ℕ → Result (List Entry) Fault
-entries_from zero es bs = Ok es
-entries_from (suc n) es bs = if length (passed 0 bs) == 0 then Ok es else (entry_behind es (passed 0 bs) >>= λ read. entries_from n (es ++ read.0 ∷ []) read.1)
+use Rattle.tptp_problem.specs.EntryReader.{entries_from}
 
 -- the problem of these entries, or the place of the fault, counted from the start of the text
 abbrev pub problem_from : List ℕ → Result (List Entry) Fault → Result Problem (ℕ × ProblemKind)
@@ -22,4 +14,4 @@ problem_from text (Err e) = Err (length text - e.left, e.kind)
 
 -- The laws of readings say that this is the one function of which `IsProblemText` and `IsProblemFault` hold.
 unfoldable pub problem_reading : List ℕ → Result Problem (ℕ × ProblemKind)
-problem_reading text = problem_from text (entries_from (suc (length text)) [] text)
+problem_reading text = problem_from text (entries_from [] text)

@@ -140,7 +140,7 @@ fn close(inner: &mut VecDeque<Bracket>, bracket: Bracket, some: bool) -> Closing
 }
 
 /// The bytes behind the `)` that ends an annotation, which is passed over.
-#[tactic(auto, unfolding(crate::specs::AnnotationReader::annotation_at), using(crate::proofs::AnnotationReading::annotation_separator, crate::proofs::AnnotationReading::annotation_passed, crate::proofs::AnnotationReading::annotation_opens, crate::proofs::AnnotationReading::annotation_refused, crate::proofs::AnnotationReading::annotation_ended, crate::proofs::AnnotationReading::annotation_inside, crate::proofs::AnnotationReading::annotation_wrong, crate::proofs::AnnotationReading::annotation_end))]
+#[tactic(auto, unfolding(crate::specs::AnnotationReader::annotation_at), using(crate::proofs::Loops::annotation_separator, crate::proofs::Loops::annotation_passed, crate::proofs::Loops::annotation_opens, crate::proofs::Loops::annotation_refused, crate::proofs::Loops::annotation_ended, crate::proofs::Loops::annotation_inside, crate::proofs::Loops::annotation_wrong))]
 pub fn read_annotation(alloc: Global, bytes: &[u8]) -> Result<&[u8], ReadError>
     ensures value { Gives (λ x. x.now) result (annotation_at bytes.now) }
     ensures bound { IfOk result (λ x. length x.now ≤ length bytes.now) }

@@ -6,11 +6,11 @@ ghost use Rattle.tptp_problem.specs.BodyReader.{body_meaning, body_start, unexpe
 use crate::clause_places::{ClausePlace, next_place};
 use crate::errors::{ProblemKind, ReadError};
 use crate::problems::Language;
-use crate::tokens::fault;
+use crate::tokens::{fault, next_token};
 use fol::Formula;
 use std::alloc::Global;
 use tptp_read::{Limits, Outcome, State, StepError};
-use tptp_tokens::{Scan, TextKind, Token, scan};
+use tptp_tokens::{Scan, TextKind, Token};
 
 /// The limits inside an entry, whose own parenthesis is a level.
 pub const ENTRY_LIMITS: Limits = Limits {
@@ -148,31 +148,33 @@ fn finished(
 }
 
 // The same from a state on.
-#[tactic(auto, using(crate::proofs::BodyReading::body_blank, crate::proofs::BodyReading::body_go_on, crate::proofs::BodyReading::body_stop, crate::proofs::BodyReading::body_end, crate::proofs::BodyReading::body_wrong, crate::proofs::BodyReading::body_missing))]
+#[tactic(auto, using(crate::proofs::Loops::body_go_on, crate::proofs::Loops::body_stop, crate::proofs::Loops::body_end, crate::proofs::Loops::body_wrong, crate::proofs::Loops::body_missing, crate::proofs::Loops::body_blank))]
 fn body_of(alloc: Global, body: Body, bytes: &[u8]) -> Result<(Formula, bool, &[u8]), ReadError>
-    ensures value { Gives (λ x. (x.0, x.1, x.2.now)) result (body_from (body_meaning body) 0 bytes.now) }
+    ensures value { Gives (λ x. (x.0, x.1, x.2.now)) result (body_from (body_meaning body) bytes.now) }
     ensures bound { IfOk result (λ x. length x.2.now ≤ length bytes.now) }
 {
     let mut body = body;
     let mut rest = bytes;
     loop {
-        match scan(alloc, rest)? {
-            Scan::End => return Err(fault(0, unexpected(body.place))),
-            Scan::Blank(length) => rest = rest.split_at(length).1,
-            Scan::Wrong(place, kind) => {
-                return Err(fault(rest.len() - place, ProblemKind::Text(kind)));
-            }
+        let (found, front) = next_token(alloc, rest)?;
+        match found {
             Scan::Found(token, length) => {
                 if body.ends_before(&token) {
-                    return finished(alloc, body, is_a_comma(&token), length, rest);
+                    return finished(alloc, body, is_a_comma(&token), length, front);
                 }
-                match body.step(alloc, token, rest.len()) {
+                match body.step(alloc, token, front.len()) {
                     Ok(next) => {
                         body = next;
-                        rest = rest.split_at(length).1;
+                        rest = front.split_at(length).1;
                     }
                     Err(error) => return Err(error),
                 }
+            }
+            Scan::Wrong(place, kind) => {
+                return Err(fault(front.len() - place, ProblemKind::Text(kind)));
+            }
+            Scan::End | Scan::Blank(_) => {
+                return Err(fault(front.len(), unexpected(body.place)));
             }
         }
     }

@@ -1,5 +1,5 @@
 //! Reading of whole problems.
-ghost use Rattle.std.specs.Prelude.{◌≡◌, ◌<◌, ◌^◌, ℕ, List, true, length, Ok, Err, IfOk, OnOk, if◌then◌else◌};
+ghost use Rattle.std.specs.Prelude.{◌≡◌, ◌<◌, ◌^◌, ℕ, List, [], true, length, Ok, Err, IfOk, OnOk, if◌then◌else◌};
 ghost use Rattle.std.specs.List.{All};
 ghost use Rattle.std.specs.BTreeSet.{contains};
 ghost use Rattle.std.specs.Ordering.{eq_by_cmp};
@@ -9,7 +9,8 @@ ghost use Rattle.tptp_problem.specs.ProblemClauses.{IsReadEntry, IsReadProblem};
 ghost use Rattle.tptp_problem.specs.Problems.{IsProblemText, IsProblemFault, GivesProblem, IfFault};
 ghost use Rattle.tptp_problem.specs.declared.errors.ProblemKind.{ProblemKind as Kind};
 ghost use Rattle.tptp_problem.specs.declared.problems.Problem.{Problem as ProblemMeaning};
-ghost use Rattle.tptp_problem.specs.EntryReader.{EntriesRead, ProblemRead, counted};
+ghost use Rattle.tptp_problem.specs.Readers.{Gives};
+ghost use Rattle.tptp_problem.specs.EntryReader.{counted, entries_from};
 ghost use Rattle.tptp_problem.specs.Reading.{problem_reading};
 
 use crate::entries::read_entry;
@@ -48,8 +49,9 @@ pub fn read_problem(alloc: Global, text: &[u8]) -> Result<Problem, ProblemError>
 }
 
 // The problem that the text is, by its entries.
+#[tactic(auto, unfolding(crate::specs::Reading::problem_reading))]
 fn problem_of(alloc: Global, text: &[u8]) -> Result<Problem, ProblemError>
-    ensures value { ProblemRead text.now result }
+    ensures value { GivesProblem result (problem_reading text.now) }
     ensures formed { IfOk result (λ p. AreFormedEntries p.entries) }
     ensures read { IfOk result (λ p. All IsReadEntry p.entries) }
 {
@@ -87,7 +89,7 @@ fn note_entry(
 
 // The entries that the text is, which are well formed.
 fn formed_entries(alloc: Global, text: &[u8]) -> Result<Vec<Entry>, ReadError>
-    ensures value { EntriesRead (λ v. v.items) text.now result }
+    ensures value { Gives (λ v. v.items) result (entries_from [] text.now) }
     ensures formed { IfOk result (λ v. AreFormedEntries v.items) }
     ensures read { IfOk result (λ v. All IsReadEntry v.items) }
 {
@@ -95,8 +97,9 @@ fn formed_entries(alloc: Global, text: &[u8]) -> Result<Vec<Entry>, ReadError>
 }
 
 // The entries that the text is.
+#[tactic(auto, using(crate::proofs::EntryReading::entry_stops))]
 fn read_entries(alloc: Global, text: &[u8]) -> Result<Vec<Entry>, ReadError>
-    ensures { EntriesRead (λ v. v.items) text.now result }
+    ensures { Gives (λ v. v.items) result (entries_from [] text.now) }
 {
     let mut entries: Vec<Entry> = Vec::new(alloc);
     let mut names: BTreeSet<Text> = BTreeSet::new(alloc);

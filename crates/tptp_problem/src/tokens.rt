@@ -3,7 +3,7 @@ ghost use Rattle.std.specs.Prelude.{◌≡◌, ◌≤◌, length, IfOk};
 ghost use Rattle.tptp_tokens.specs.Formed.{IsFormedScan};
 ghost use Rattle.tptp_tokens.specs.Lexer.{scanned, IsSized};
 ghost use Rattle.tptp_problem.specs.declared.errors.ReadError.TheVariants.{Fault as ReadFault};
-ghost use Rattle.tptp_problem.specs.Readers.{Gives, passed, unwanted as unwanted_scan, fault as fault_at, mark_at, mark_from};
+ghost use Rattle.tptp_problem.specs.Readers.{Gives, passed, unwanted as unwanted_scan, fault as fault_at, mark_at};
 ghost use Rattle.tptp_problem.specs.Words.{is_mark as is_mark_token};
 
 use crate::errors::{Fault, ProblemKind, ReadError};

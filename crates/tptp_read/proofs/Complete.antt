@@ -1,5 +1,5 @@
 -- What the grammar has is read by the machine.
-use Rattle.std.proofs.Common.{◌≡◌, ℕ, suc, ◌+◌, ◌≤◌, Bool, if◌then◌else◌, List, [], ◌∷◌, length, Result, Ok, Err, refl, ◌∙◌, ap, arith}
+use Rattle.std.proofs.Common.{◌≡◌, ℕ, suc, ◌+◌, ◌≤◌, Bool, if◌then◌else◌, List, [], ◌∷◌, length, Option, Some, None, Result, Ok, Err, refl, ◌∙◌, ap, arith}
 use Rattle.std.proofs.lemmas.Bool.{le-leb}
 use Rattle.fol.specs.declared.symbols.Sym.{Sym}
 use Rattle.fol.specs.declared.symbols.Var.{Var}
@@ -25,7 +25,9 @@ use Rattle.tptp_read.specs.declared.state.Side.TheVariants.{Lead, Right, Whole}
 use Rattle.tptp_read.specs.declared.state.Mode.TheVariants.{WantUnit, AfterUnit, WantTerm, AfterName, AfterTerm, WantSquare, WantVariable, AfterVariable}
 use Rattle.tptp_read.specs.Meaning.{chained_by, equation, application, quantified}
 use Rattle.tptp_read.specs.Grammar.{IsTerm, variable, constant, applied, IsArguments, last_argument, argument, IsVariables, next_variable, IsBehindVariable, all_variables, more_variables, IsUnit, truth_value, predicate, equality, negation, group, quantifier, IsQuantified, body, IsFormula, alone, binary, chain, IsMembers, last_member, member, Sort, formulas, terms, Reads}
-use Rattle.tptp_read.specs.Machine.{Reading, at, in_term, start, Limit, levels, operators, variables, limited, depth, turned_onto, with_term, closed, completed, bound_by, checked, ◌>>=◌, read_tokens}
+use Rattle.tptp_read.specs.Reader.{Limit, levels, operators, variables, limited, bound_by, checked, or_expected, ◌>>=◌}
+use Rattle.tptp_read.specs.Machine.{Reading, at, in_term, start, depth, turned_onto, with_term, closed, settled, settled_frames, completed, meant, ending, after, read_tokens}
+use Rattle.tptp_read.proofs.ReaderLaw.{then_ok}
 
 -- what may stand behind a term and behind a unit
 abbrev pub BehindTerm : List Token → Type 0
@@ -62,8 +64,8 @@ module _ (lim : Limits) where
   reads r ts = read_tokens lim r ts
 
   -- a limit that is kept
-  pub within : (x : Limit) (n : ℕ) (r : Reading) (ts : List Token) → n ≤ bound_by lim x → (checked lim (limited x n r) >>= λ (s : Reading). reads s ts) ≡ reads r ts
-  within x n r ts fits = ap (λ (b : Bool). (if b then Ok r else Err Deep) >>= λ (s : Reading). reads s ts) (le-leb n (bound_by lim x) fits)
+  pub within : (x : Limit) (n : ℕ) (r : Reading) (ts : List Token) → n ≤ bound_by lim x → ((checked lim (limited x n r) >>= λ (s : Reading). after lim s ts) >>= ending) ≡ reads r ts
+  within x n r ts fits = ap (λ (b : Bool). ((if b then Ok r else Err Deep) >>= λ (s : Reading). after lim s ts) >>= ending) (le-leb n (bound_by lim x) fits)
 
   -- terms
   pub name_ends : (x : List ℕ) (s : Side) (cs : List Call) (p : Part) (k : List Frame) (us : List Token) → BehindTerm us → reads (in_term (AfterName x) s cs p k) us ≡ reads (in_term (AfterTerm (application x nil)) s cs p k) us
@@ -121,31 +123,24 @@ module _ (lim : Limits) where
   quantifier_ends q vs f p k [] = refl
   quantifier_ends q vs f p k (t ∷ us) = refl
 
+  settled_same : (k : List Frame) (f : Formula) → IsSettled k → (settled k f ≡ f) × (settled_frames k ≡ k)
+  settled_same [] f s = (refl, refl)
+  settled_same (Group p ∷ k) f s = (refl, refl)
+  settled_same (Negated ∷ k) f s = absurd s
+  settled_same (Quantified q vs ∷ k) f s = absurd s
+
   joins : (b : BinaryOperator) (f : Formula) (k : List Frame) (us : List Token) → IsSettled k → reads (at (AfterUnit f) First k) (Binary b ∷ us) ≡ reads (at WantUnit (Joined b f) k) us
-  joins b f [] us s = refl
-  joins b f (Group p ∷ k) us s = refl
-  joins b f (Negated ∷ k) us s = absurd s
-  joins b f (Quantified q vs ∷ k) us s = absurd s
+  joins b f k us s = let (unit, rest) = settled_same k f s in λ i. reads (at WantUnit (Joined b (unit i)) (rest i)) us
 
   chains : (c : ChainOperator) (f : Formula) (k : List Frame) (us : List Token) → IsSettled k → 1 ≤ lim.operators → reads (at (AfterUnit f) First k) (Chain c ∷ us) ≡ reads (at WantUnit (Chained c f 1) k) us
-  chains c f [] us s fits = within operators 1 (at WantUnit (Chained c f 1) []) us fits
-  chains c f (Group p ∷ k) us s fits = within operators 1 (at WantUnit (Chained c f 1) (Group p ∷ k)) us fits
-  chains c f (Negated ∷ k) us s fits = absurd s
-  chains c f (Quantified q vs ∷ k) us s fits = absurd s
+  chains c f k us s fits = let (unit, rest) = settled_same k f s in within operators 1 (at WantUnit (Chained c (settled k f) 1) (settled_frames k)) us fits ∙ (λ i. reads (at WantUnit (Chained c (unit i) 1) (rest i)) us)
 
   chains_on : (c : ChainOperator) (e f : Formula) (n : ℕ) (k : List Frame) (us : List Token) → IsSettled k → suc n ≤ lim.operators → reads (at (AfterUnit f) (Chained c e n) k) (Chain c ∷ us) ≡ reads (at WantUnit (Chained c (chained_by c e f) (suc n)) k) us
-  chains_on And e f n [] us s fits = within operators (suc n) (at WantUnit (Chained And (chained_by And e f) (suc n)) []) us fits
-  chains_on Or e f n [] us s fits = within operators (suc n) (at WantUnit (Chained Or (chained_by Or e f) (suc n)) []) us fits
-  chains_on And e f n (Group p ∷ k) us s fits = within operators (suc n) (at WantUnit (Chained And (chained_by And e f) (suc n)) (Group p ∷ k)) us fits
-  chains_on Or e f n (Group p ∷ k) us s fits = within operators (suc n) (at WantUnit (Chained Or (chained_by Or e f) (suc n)) (Group p ∷ k)) us fits
-  chains_on c e f n (Negated ∷ k) us s fits = absurd s
-  chains_on c e f n (Quantified q vs ∷ k) us s fits = absurd s
+  chains_on And e f n k us s fits = let (unit, rest) = settled_same k f s in within operators (suc n) (at WantUnit (Chained And (chained_by And e (settled k f)) (suc n)) (settled_frames k)) us fits ∙ (λ i. reads (at WantUnit (Chained And (chained_by And e (unit i)) (suc n)) (rest i)) us)
+  chains_on Or e f n k us s fits = let (unit, rest) = settled_same k f s in within operators (suc n) (at WantUnit (Chained Or (chained_by Or e (settled k f)) (suc n)) (settled_frames k)) us fits ∙ (λ i. reads (at WantUnit (Chained Or (chained_by Or e (unit i)) (suc n)) (rest i)) us)
 
   pub group_ends : (p : Part) (k : List Frame) (us : List Token) (q : Part) (g : Formula) → reads (at (AfterUnit g) q (Group p ∷ k)) (Close ∷ us) ≡ reads (at (AfterUnit (completed q g)) p k) us
-  group_ends p k us First g = refl
-  group_ends p k us (Chained And e n) g = refl
-  group_ends p k us (Chained Or e n) g = refl
-  group_ends p k us (Joined b e) g = refl
+  group_ends p k us q g = refl
 
   members_fit : (c : ChainOperator) (l n : ℕ) (f g : Formula) (ts us : List Token) → IsMembers lim c l n f ts g us → n ≤ lim.operators
   members_fit c l n f g ts us (last_member c' l' n' f' g' ts' us' fits u) = fits
@@ -192,8 +187,18 @@ module _ (lim : Limits) where
         ∙ members_read c' l' (suc n') (chained_by c' f' g') h' us' vs' rest behind k s fits Z ends)
 
   -- what the grammar has is read
-  pub complete : (sort : Sort) (ts : List Token) (w : Outcome) → Reads lim sort ts w → read_tokens lim (start sort) ts ≡ Ok w
-  complete formulas ts (FormulaRead f) d = formula_read lim.levels ts [] f d tt [] tt (omega arith) (λ (h : Formula). Ok (FormulaRead h)) (λ p g. refl)
-  complete formulas ts (TermRead x) d = absurd d
-  complete terms ts (FormulaRead f) d = absurd d
-  complete terms ts (TermRead x) d = term_read lim.levels ts [] x d tt Whole [] First [] (omega arith)
+  pub whole_read : (sort : Sort) (ts : List Token) (w : Outcome) → Reads lim sort ts w → reads (start sort) ts ≡ Ok w
+  whole_read formulas ts (FormulaRead f) d = formula_read lim.levels ts [] f d tt [] tt (omega arith) (λ (h : Formula). Ok (FormulaRead h)) (λ p g. refl)
+  whole_read formulas ts (TermRead x) d = absurd d
+  whole_read terms ts (FormulaRead f) d = absurd d
+  whole_read terms ts (TermRead x) d = term_read lim.levels ts [] x d tt Whole [] First [] (omega arith)
+
+  meant_by : (o : Option Outcome) (w : Outcome) → or_expected o ≡ Ok w → o ≡ Some w
+  meant_by None w e = cc
+  meant_by (Some v) w e = cc
+
+  pub reads_to : (r : Reading) (ts : List Token) (w : Outcome) → reads r ts ≡ Ok w → (s : Reading) × ((after lim r ts ≡ Ok s) × (meant s ≡ Some w))
+  reads_to r ts w e = let (s, (leads, is)) = then_ok (after lim r ts) ending w e in (s, (leads, meant_by (meant s) w is))
+
+  pub complete : (sort : Sort) (ts : List Token) (w : Outcome) → Reads lim sort ts w → (s : Reading) × ((after lim (start sort) ts ≡ Ok s) × (meant s ≡ Some w))
+  complete sort ts w d = reads_to (start sort) ts w (whole_read sort ts w d)

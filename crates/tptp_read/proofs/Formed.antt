@@ -1,6 +1,7 @@
 -- What the grammar reads of well-formed tokens is well formed.
-use Rattle.std.proofs.Common.{◌≡◌, ℕ, suc, ◌+◌, ◌*◌, ◌^◌, ◌<◌, ◌≤◌, Bool, true, false, ◌==◌, ◌&&◌, max, List, [], ◌∷◌, length, Result, Ok, Err, IfOk, refl, ap, arith}
+use Rattle.std.proofs.Common.{◌≡◌, ℕ, suc, ◌+◌, ◌*◌, ◌^◌, ◌<◌, ◌≤◌, Bool, true, false, ◌==◌, ◌&&◌, max, List, [], ◌∷◌, length, refl, ap, arith}
 use Rattle.std.proofs.Math.Nat.{suc-mul}
+use Rattle.std.proofs.lemmas.Bool.{and_from}
 use Rattle.std.proofs.lemmas.Bool.Decides.{nat_tests}
 use Rattle.fol.specs.declared.symbols.Var.{Var}
 use Rattle.fol.specs.Syntax.{Term, app, Terms, nil, cons, Formula, atom, top, bot, not, and, or, imp, all, ex}
@@ -18,35 +19,21 @@ use Rattle.tptp_tokens.specs.declared.tokens.Token.TheVariants.{Equality, Chain,
 use Rattle.tptp_tokens.specs.Formed.{AreFormedTokens}
 use Rattle.tptp_tokens.specs.Stream.{ends}
 use Rattle.tptp_tokens.proofs.FormedTokens.{tokens_formed}
-use Rattle.tptp_read.specs.declared.errors.TextError.{TextError}
 use Rattle.tptp_read.specs.declared.state.Limits.{Limits}
 use Rattle.tptp_read.specs.declared.state.TheConstants.{LIMITS}
 use Rattle.tptp_read.specs.Meaning.{chained_by, joined_by, truth, equation, equality_sym, application, quantified, quantified_by}
 use Rattle.tptp_read.specs.Grammar.{IsTerm, variable, constant, applied, IsArguments, last_argument, argument, IsVariables, next_variable, IsBehindVariable, all_variables, more_variables, IsUnit, truth_value, predicate, equality, negation, group, quantifier, IsQuantified, body, IsFormula, alone, binary, chain, IsMembers, last_member, member}
 use Rattle.tptp_read.specs.Texts.{IsFormulaText, IsTermText}
 
--- tests joined
-both_true : (a b : Bool) → a ≡ true → b ≡ true → (a && b) ≡ true
-both_true true b p q = q
-both_true false b p q = cc
-
-left_true : (a b : Bool) → (a && b) ≡ true → a ≡ true
-left_true true b p = refl
-left_true false b p = cc
-
-right_true : (a b : Bool) → (a && b) ≡ true → b ≡ true
-right_true true b p = p
-right_true false b p = cc
-
 same_number : (n : ℕ) → (n == n) ≡ true
 same_number n = grind (arith, nat_tests)
 
 -- a symbol whose arity is the number of its arguments
 symbol_formed : (x : List ℕ) (xs : Terms) → is_name x ≡ true → are_formed_terms_at 0 xs ≡ true → is_formed_term_at 0 (application x xs) ≡ true
-symbol_formed x xs p q = both_true (is_name x && count_terms xs == count_terms xs) (are_formed_terms_at 0 xs) (both_true (is_name x) (count_terms xs == count_terms xs) p (same_number (count_terms xs))) q
+symbol_formed x xs p q = and_from (is_name x && count_terms xs == count_terms xs) (are_formed_terms_at 0 xs) (and_from (is_name x) (count_terms xs == count_terms xs) p (same_number (count_terms xs))) q
 
 pair_formed : (s t : Term) → is_formed_term_at 0 s ≡ true → is_formed_term_at 0 t ≡ true → is_formed_at 0 (atom equality_sym (cons s (cons t nil))) ≡ true
-pair_formed s t p q = both_true (is_formed_term_at 0 s) (is_formed_term_at 0 t && true) p (both_true (is_formed_term_at 0 t) true q refl)
+pair_formed s t p q = and_from (is_formed_term_at 0 s) (is_formed_term_at 0 t && true) p (and_from (is_formed_term_at 0 t) true q refl)
 
 -- binding keeps the number of quantifiers inside one another
 nesting_bound : (v : Var) (f : Formula) (k : ℕ) → nesting (bind_at v k f) ≡ nesting f
@@ -75,19 +62,19 @@ and_sound : (n : ℕ) (f g : Formula) → IsSound n f → IsSound n g → IsSoun
 and_sound n f g h i =
     let a : nesting f ≤ n = h.nested in
     let b : nesting g ≤ n = i.nested in
-    record { formed = both_true (is_formed_at 0 f) (is_formed_at 0 g) h.formed i.formed; nested = omega arith }
+    record { formed = and_from (is_formed_at 0 f) (is_formed_at 0 g) h.formed i.formed; nested = omega arith }
 
 or_sound : (n : ℕ) (f g : Formula) → IsSound n f → IsSound n g → IsSound n (or f g)
 or_sound n f g h i =
     let a : nesting f ≤ n = h.nested in
     let b : nesting g ≤ n = i.nested in
-    record { formed = both_true (is_formed_at 0 f) (is_formed_at 0 g) h.formed i.formed; nested = omega arith }
+    record { formed = and_from (is_formed_at 0 f) (is_formed_at 0 g) h.formed i.formed; nested = omega arith }
 
 imp_sound : (n : ℕ) (f g : Formula) → IsSound n f → IsSound n g → IsSound n (imp f g)
 imp_sound n f g h i =
     let a : nesting f ≤ n = h.nested in
     let b : nesting g ≤ n = i.nested in
-    record { formed = both_true (is_formed_at 0 f) (is_formed_at 0 g) h.formed i.formed; nested = omega arith }
+    record { formed = and_from (is_formed_at 0 f) (is_formed_at 0 g) h.formed i.formed; nested = omega arith }
 
 chained_sound : (c : ChainOperator) (n : ℕ) (f g : Formula) → IsSound n f → IsSound n g → IsSound n (chained_by c f g)
 chained_sound And n f g h i = and_sound n f g h i
@@ -133,11 +120,11 @@ module _ (lim : Limits) where
     term_formed l ts us x (applied l' ts' us' n xs args) p = let rest = arguments_formed l' ts' us' xs args p.1.1 in (symbol_formed n xs p.0 rest.0, rest.1)
 
     arguments_formed : (l : ℕ) (ts us : List Token) (xs : Terms) → IsArguments lim l ts xs us → AreFormedTokens ts → (are_formed_terms_at 0 xs ≡ true) × AreFormedTokens us
-    arguments_formed l ts us xs (last_argument l' ts' us' t u) p = let one = term_formed l' ts' (Close ∷ us') t u p in (both_true (is_formed_term_at 0 t) true one.0 refl, one.1.1)
+    arguments_formed l ts us xs (last_argument l' ts' us' t u) p = let one = term_formed l' ts' (Close ∷ us') t u p in (and_from (is_formed_term_at 0 t) true one.0 refl, one.1.1)
     arguments_formed l ts us xs (argument l' ts' us' vs' t ys u rest) p =
         let one = term_formed l' ts' (Comma ∷ us') t u p in
         let more = arguments_formed l' us' vs' ys rest one.1.1 in
-        (both_true (is_formed_term_at 0 t) (are_formed_terms_at 0 ys) one.0 more.0, more.1)
+        (and_from (is_formed_term_at 0 t) (are_formed_terms_at 0 ys) one.0 more.0, more.1)
 
   mutual
     variables_formed : (n : ℕ) (ts us : List Token) (vs : List Var) → IsVariables lim n ts vs us → AreFormedTokens ts → AreFormedTokens us × (length vs + n ≤ lim.variables)
@@ -198,12 +185,3 @@ text_formed bytes f text = (formula_formed LIMITS LIMITS.levels text.tokens [] f
 
 pub term_text_formed : (bytes : List ℕ) (t : Term) → IsTermText bytes t → IsFormedTerm t
 term_text_formed bytes t text = (term_formed LIMITS LIMITS.levels text.tokens [] t text.reads (tokens_formed bytes (ends text.length) text.tokens text.whole)).0
-
--- the same of what a function answers
-pub formula_formed_text : (bytes : List ℕ) (r : Result Formula TextError) → IfOk r (λ f. IsFormulaText bytes f) → IfOk r IsFormed
-formula_formed_text bytes (Ok f) text = text_formed bytes f text
-formula_formed_text bytes (Err e) text = tt
-
-pub term_formed_text : (bytes : List ℕ) (r : Result Term TextError) → IfOk r (λ t. IsTermText bytes t) → IfOk r IsFormedTerm
-term_formed_text bytes (Ok t) text = term_text_formed bytes t text
-term_formed_text bytes (Err e) text = tt

@@ -1,18 +1,19 @@
--- Tokens that the machine takes begin a text, and those that it refuses do not.
-use Rattle.std.proofs.Common.{◌≡◌, ℕ, suc, ◌+◌, ◌≤◌, Bool, true, false, leb, if◌then◌else◌, List, [], ◌∷◌, ◌++◌, append_assoc, length, Result, Ok, Err, refl, sym, ◌∙◌, ap, subst, arith}
-use Rattle.std.proofs.lemmas.Bool.{leb-true, le-leb}
+-- From each state a text can be completed, and the machine is a reader of formulas and of terms.
+use Rattle.std.proofs.Common.{◌≡◌, ℕ, suc, ◌≤◌, Bool, true, List, [], ◌∷◌, ◌++◌, length, ◌⊎◌, inl, inr, Option, Some, None, is_some, Ok, codes, refl, ◌∙◌, ap, subst, arith}
 use Rattle.fol.specs.declared.symbols.Sym.{Sym}
 use Rattle.fol.specs.declared.symbols.Var.{Var}
 use Rattle.fol.specs.declared.symbols.Var.TheVariants.{Num}
 use Rattle.fol.specs.Syntax.{Term, free, bound, app, Terms, nil, Formula, atom, not}
+use Rattle.tptp_tokens.specs.declared.tokens.ChainOperator.{ChainOperator}
+use Rattle.tptp_tokens.specs.declared.tokens.ChainOperator.TheVariants.{And, Or}
+use Rattle.tptp_tokens.specs.declared.tokens.BinaryOperator.{BinaryOperator}
 use Rattle.tptp_tokens.specs.declared.tokens.Token.{Token}
-use Rattle.tptp_tokens.specs.declared.tokens.Token.TheVariants.{Variable, Truth, Equality, Close, OpenSquare, CloseSquare, Colon}
-use Rattle.tptp_tokens.specs.declared.tokens.TextKind.{TextKind}
-use Rattle.tptp_tokens.specs.declared.tokens.TextKind.TheVariants.{Expected, Deep}
+use Rattle.tptp_tokens.specs.declared.tokens.Token.TheVariants.{Name, Variable, Truth, Equality, Negation, Quantifier as Quantifies, Chain, Binary, Open, Close, OpenSquare, CloseSquare, Comma, Colon}
 use Rattle.tptp_read.specs.declared.state.Limits.{Limits}
 use Rattle.tptp_read.specs.declared.state.Outcome.{Outcome}
 use Rattle.tptp_read.specs.declared.state.Outcome.TheVariants.{Formula as FormulaRead, Term as TermRead}
 use Rattle.tptp_read.specs.declared.state.Part.{Part}
+use Rattle.tptp_read.specs.declared.state.Part.TheVariants.{First, Chained, Joined}
 use Rattle.tptp_read.specs.declared.state.Frame.{Frame}
 use Rattle.tptp_read.specs.declared.state.Frame.TheVariants.{Group, Negated, Quantified}
 use Rattle.tptp_read.specs.declared.state.Call.{Call}
@@ -20,78 +21,20 @@ use Rattle.tptp_read.specs.declared.state.Side.{Side}
 use Rattle.tptp_read.specs.declared.state.Side.TheVariants.{Lead, Right, Whole}
 use Rattle.tptp_read.specs.declared.state.Mode.{Mode}
 use Rattle.tptp_read.specs.declared.state.Mode.TheVariants.{WantUnit, AfterUnit, WantTerm, AfterName, AfterTerm, WantSquare, WantVariable, AfterVariable, WantColon}
-use Rattle.tptp_read.specs.Meaning.{truth, equation, application, symbol_of}
-use Rattle.tptp_read.specs.Grammar.{Sort, IsFront, IsAnyFront}
-use Rattle.tptp_read.specs.Machine.{Reading, at, in_term, start, Limit, levels, operators, variables, Move, refused, goes, limited, called, closed, completed, move, bound_by, checked, step, ◌>>=◌, read_tokens, after}
+use Rattle.tptp_read.specs.Meaning.{equation, application, symbol_of}
+use Rattle.tptp_read.specs.Grammar.{Sort, formulas, terms, Reads}
+use Rattle.tptp_read.specs.Reader.{variables, Move, refused, goes, limited, ◌>>=◌}
+use Rattle.tptp_read.specs.Machine.{Reading, at, in_term, start, called, closed, settled, settled_frames, completed, unit_of, behind_chain, behind_binary, behind_close, behind_settled, behind_last, behind_left, behind_outer, behind_term, move_by, move, step, ending_settled, ending_last, ending_term, ending_by, meant, after, reader}
+use Rattle.tptp_read.proofs.ReaderLaw.{lead, checked_ok, wider, IsFree, led_append, IsReaderOf}
 use Rattle.tptp_read.proofs.Sound.{sound}
-use Rattle.tptp_read.proofs.Complete.{BehindTerm, BehindUnit, reads, within, name_ends, atom_ends, equation_ends, negation_ends, quantifier_ends, group_ends, complete}
+use Rattle.tptp_read.proofs.Complete.{BehindTerm, BehindUnit, reads, within, name_ends, atom_ends, equation_ends, negation_ends, quantifier_ends, group_ends, reads_to, complete}
 
--- where a move leads, whatever the limits
-abbrev pub Leads : Move → Reading → Type 0
-Leads refused s = ⊥
-Leads (goes r) s = r ≡ s
-Leads (limited x n r) s = r ≡ s
-
-leads : (lim : Limits) (m : Move) (s : Reading) → checked lim m ≡ Ok s → Leads m s
-leads lim refused s e = cc
-leads lim (goes r) s e = cc
-leads lim (limited x n r) s e =
-    elim (leb n (bound_by lim x)) as (λ (b : Bool). (if b then Ok r else Err Deep) ≡ Ok s → r ≡ s) [ true ↦ λ made. cc | false ↦ λ made. cc ] e
-
-one_lead : (m : Move) (s z : Reading) → Leads m s → Leads m z → s ≡ z
-one_lead refused s z e d = absurd e
-one_lead (goes r) s z e d = cc
-one_lead (limited x n r) s z e d = cc
-
--- limits that are as wide
-pub record IsWider (lim wide : Limits) : Type 0 where
-  pub more_levels : lim.levels ≤ wide.levels
-  pub more_operators : lim.operators ≤ wide.operators
-  pub more_variables : lim.variables ≤ wide.variables
-
-wider_bound : (lim wide : Limits) → IsWider lim wide → (x : Limit) → bound_by lim x ≤ bound_by wide x
-wider_bound lim wide h levels = h.more_levels
-wider_bound lim wide h operators = h.more_operators
-wider_bound lim wide h variables = h.more_variables
-
--- a limit that is kept, and one that isn't
-pub limit_kept : (lim : Limits) (x : Limit) (n : ℕ) (r : Reading) → n ≤ bound_by lim x → checked lim (limited x n r) ≡ Ok r
-limit_kept lim x n r fits = ap (λ (b : Bool). if b then Ok r else Err Deep) (le-leb n (bound_by lim x) fits)
-
-checked_wider : (lim wide : Limits) → IsWider lim wide → (m : Move) (s : Reading) → checked lim m ≡ Ok s → checked wide m ≡ Ok s
-checked_wider lim wide h refused s e = cc
-checked_wider lim wide h (goes r) s e = e
-checked_wider lim wide h (limited x n r) s e =
-    elim (leb n (bound_by lim x)) as (λ (b : Bool). leb n (bound_by lim x) ≡ b → (if b then Ok r else Err Deep) ≡ Ok s → checked wide (limited x n r) ≡ Ok s) [
-      | true ↦ λ test made. let below : n ≤ bound_by lim x = leb-true _ _ test in let above : bound_by lim x ≤ bound_by wide x = wider_bound lim wide h x in limit_kept wide x n r (omega arith) ∙ made
-      | false ↦ λ test made. cc
-    ] refl e
-
-pub after_wider : (lim wide : Limits) → IsWider lim wide → (ts : List Token) (r s : Reading) → after lim r ts ≡ Ok s → after wide r ts ≡ Ok s
-after_wider lim wide h [] r s e = e
-after_wider lim wide h (t ∷ ts) r s e =
-    elim (step lim r t) as (λ (x : Result Reading TextKind). step lim r t ≡ x → (x >>= λ (z : Reading). after lim z ts) ≡ Ok s → after wide r (t ∷ ts) ≡ Ok s) [
-      | Ok z ↦ λ made rest. ap (λ (x : Result Reading TextKind). x >>= λ (y : Reading). after wide y ts) (checked_wider lim wide h (move r t) z made) ∙ after_wider lim wide h ts z s rest
-      | Err k ↦ λ made rest. cc
-    ] refl e
-
--- the same tokens lead to one state
-pub one_state : (lim other : Limits) (ts : List Token) (r s z : Reading) → after lim r ts ≡ Ok s → after other r ts ≡ Ok z → s ≡ z
-one_state lim other [] r s z e d = cc
-one_state lim other (t ∷ ts) r s z e d =
-    elim (step lim r t) as (λ (x : Result Reading TextKind). step lim r t ≡ x → (x >>= λ (y : Reading). after lim y ts) ≡ Ok s → s ≡ z) [
-      | Ok y ↦ λ made rest.
-          elim (step other r t) as (λ (x : Result Reading TextKind). step other r t ≡ x → (x >>= λ (u : Reading). after other u ts) ≡ Ok z → s ≡ z) [
-            | Ok u ↦ λ made' rest'. let same : u ≡ y = one_lead (move r t) u y (leads other (move r t) u made') (leads lim (move r t) y made) in
-                one_state lim other ts y s z rest (subst (λ (v : Reading). after other v ts ≡ Ok z) same rest')
-            | Err k ↦ λ made' rest'. cc
-          ] refl d
-      | Err k ↦ λ made rest. cc
-    ] refl e
-
--- The shortest end of a text from each state.
+-- The shortest end of a text from each state. Where a unit is wanted it is a name, which may stand wherever a unit may.
 pub some_variable : Var
 some_variable = Num 0
+
+abbrev pub some_name : List ℕ
+some_name = codes "a"
 
 abbrev pub closings : List Frame → List Token
 closings [] = []
@@ -108,23 +51,23 @@ finish_term (free v) Lead [] k = Equality true ∷ Variable some_variable ∷ cl
 finish_term (bound i) Lead [] k = Equality true ∷ Variable some_variable ∷ closings k
 
 abbrev pub finish : Mode → Side → List Call → List Frame → List Token
-finish WantUnit s cs k = Truth true ∷ closings k
+finish WantUnit s cs k = Name some_name ∷ closings k
 finish (AfterUnit f) s cs k = closings k
 finish WantTerm s cs k = Variable some_variable ∷ finish_term (free some_variable) s cs k
 finish (AfterName x) s cs k = finish_term (application x nil) s cs k
 finish (AfterTerm x) s cs k = finish_term x s cs k
-finish (WantSquare q) s cs k = OpenSquare ∷ Variable some_variable ∷ CloseSquare ∷ Colon ∷ Truth true ∷ closings k
-finish (WantVariable q vs) s cs k = Variable some_variable ∷ CloseSquare ∷ Colon ∷ Truth true ∷ closings k
-finish (AfterVariable q vs) s cs k = CloseSquare ∷ Colon ∷ Truth true ∷ closings k
-finish (WantColon q vs) s cs k = Colon ∷ Truth true ∷ closings k
+finish (WantSquare q) s cs k = OpenSquare ∷ Variable some_variable ∷ CloseSquare ∷ Colon ∷ Name some_name ∷ closings k
+finish (WantVariable q vs) s cs k = Variable some_variable ∷ CloseSquare ∷ Colon ∷ Name some_name ∷ closings k
+finish (AfterVariable q vs) s cs k = CloseSquare ∷ Colon ∷ Name some_name ∷ closings k
+finish (WantColon q vs) s cs k = Colon ∷ Name some_name ∷ closings k
 
-pub behind_closings : (k : List Frame) → BehindUnit (closings k)
+behind_closings : (k : List Frame) → BehindUnit (closings k)
 behind_closings [] = tt
 behind_closings (Group p ∷ k) = tt
 behind_closings (Negated ∷ k) = behind_closings k
 behind_closings (Quantified q vs ∷ k) = behind_closings k
 
-pub term_closings : (k : List Frame) → BehindTerm (closings k)
+term_closings : (k : List Frame) → BehindTerm (closings k)
 term_closings [] = tt
 term_closings (Group p ∷ k) = tt
 term_closings (Negated ∷ k) = term_closings k
@@ -144,13 +87,13 @@ HasRoom lim m = Unit {0}
 
 module _ (lim : Limits) where
   abbrev pub IsRead : Reading → List Token → Type 0
-  IsRead r ts = (w : Outcome) × (read_tokens lim r ts ≡ Ok w)
+  IsRead r ts = (w : Outcome) × (reads lim r ts ≡ Ok w)
 
   after_unit : (f : Formula) (s : Side) (cs : List Call) (p : Part) (k : List Frame) (ts : List Token) → reads lim (in_term (AfterUnit f) s cs p k) ts ≡ reads lim (at (AfterUnit f) p k) ts
   after_unit f s cs p k [] = refl
   after_unit f s cs p k (t ∷ ts) = refl
 
-  pub closings_read : (k : List Frame) (p : Part) (f : Formula) → IsRead (at (AfterUnit f) p k) (closings k)
+  closings_read : (k : List Frame) (p : Part) (f : Formula) → IsRead (at (AfterUnit f) p k) (closings k)
   closings_read [] p f = (FormulaRead (completed p f), refl)
   closings_read (Group q ∷ k) p f = let rest = closings_read k q (completed p f) in (rest.0, group_ends lim q k (closings k) p f ∙ rest.1)
   closings_read (Negated ∷ k) p f = let rest = closings_read k p (not f) in (rest.0, negation_ends lim f p k (closings k) ∙ rest.1)
@@ -164,118 +107,213 @@ module _ (lim : Limits) where
   finish_term_read (free v) Lead [] p k = let rest = closings_read k p (equation true (free v) (free some_variable)) in (rest.0, equation_ends lim true (free v) (free some_variable) p k (closings k) ∙ rest.1)
   finish_term_read (bound i) Lead [] p k = let rest = closings_read k p (equation true (bound i) (free some_variable)) in (rest.0, equation_ends lim true (bound i) (free some_variable) p k (closings k) ∙ rest.1)
 
-  pub finish_read : (m : Mode) (s : Side) (cs : List Call) (p : Part) (k : List Frame) → HasRoom lim m → IsRead (in_term m s cs p k) (finish m s cs k)
-  finish_read WantUnit s cs p k room = closings_read k p (truth true)
+  finish_name_read : (n : List ℕ) (s : Side) (cs : List Call) (p : Part) (k : List Frame) → IsRead (in_term (AfterName n) s cs p k) (finish_term (application n nil) s cs k)
+  finish_name_read n s cs p k =
+      let rest = finish_term_read (application n nil) s cs p k in (rest.0, name_ends lim n s cs p k (finish_term (application n nil) s cs k) (behind_finish (symbol_of n nil) nil s cs k) ∙ rest.1)
+
+  finish_read : (m : Mode) (s : Side) (cs : List Call) (p : Part) (k : List Frame) → HasRoom lim m → IsRead (in_term m s cs p k) (finish m s cs k)
+  finish_read WantUnit s cs p k room = finish_name_read some_name Lead [] p k
   finish_read (AfterUnit f) s cs p k room = let rest = closings_read k p f in (rest.0, after_unit f s cs p k (closings k) ∙ rest.1)
   finish_read WantTerm s cs p k room = finish_term_read (free some_variable) s cs p k
-  finish_read (AfterName x) s cs p k room =
-      let rest = finish_term_read (application x nil) s cs p k in
-      (rest.0, name_ends lim x s cs p k (finish_term (application x nil) s cs k) (behind_finish (symbol_of x nil) nil s cs k) ∙ rest.1)
+  finish_read (AfterName x) s cs p k room = finish_name_read x s cs p k
   finish_read (AfterTerm x) s cs p k room = finish_term_read x s cs p k
   finish_read (WantSquare q) s cs p k room =
-      let rest = closings_read (Quantified q (some_variable ∷ []) ∷ k) p (truth true) in
-      (rest.0, within lim variables 1 (at (AfterVariable q (some_variable ∷ [])) p k) (CloseSquare ∷ Colon ∷ Truth true ∷ closings k) room ∙ rest.1)
+      let rest = finish_name_read some_name Lead [] p (Quantified q (some_variable ∷ []) ∷ k) in
+      (rest.0, within lim variables 1 (at (AfterVariable q (some_variable ∷ [])) p k) (CloseSquare ∷ Colon ∷ Name some_name ∷ closings k) room ∙ rest.1)
   finish_read (WantVariable q vs) s cs p k room =
-      let rest = closings_read (Quantified q (some_variable ∷ vs) ∷ k) p (truth true) in
-      (rest.0, within lim variables (suc (length vs)) (at (AfterVariable q (some_variable ∷ vs)) p k) (CloseSquare ∷ Colon ∷ Truth true ∷ closings k) room ∙ rest.1)
-  finish_read (AfterVariable q vs) s cs p k room = closings_read (Quantified q vs ∷ k) p (truth true)
-  finish_read (WantColon q vs) s cs p k room = closings_read (Quantified q vs ∷ k) p (truth true)
+      let rest = finish_name_read some_name Lead [] p (Quantified q (some_variable ∷ vs) ∷ k) in
+      (rest.0, within lim variables (suc (length vs)) (at (AfterVariable q (some_variable ∷ vs)) p k) (CloseSquare ∷ Colon ∷ Name some_name ∷ closings k) room ∙ rest.1)
+  finish_read (AfterVariable q vs) s cs p k room = finish_name_read some_name Lead [] p (Quantified q vs ∷ k)
+  finish_read (WantColon q vs) s cs p k room = finish_name_read some_name Lead [] p (Quantified q vs ∷ k)
 
-  -- reading in two parts
-  pub read_on : (ts us : List Token) (r : Reading) → read_tokens lim r (ts ++ us) ≡ (after lim r ts >>= λ (s : Reading). read_tokens lim s us)
-  read_on [] us r = refl
-  read_on (t ∷ ts) us r =
-      elim (step lim r t) as (λ (x : Result Reading TextKind). (x >>= λ (s : Reading). read_tokens lim s (ts ++ us)) ≡ ((x >>= λ (s : Reading). after lim s ts) >>= λ (s : Reading). read_tokens lim s us)) [
-        | Ok s ↦ read_on ts us s
-        | Err k ↦ refl
-      ]
-
-  pub after_more : (ts : List Token) (t : Token) (r s z : Reading) → after lim r ts ≡ Ok s → step lim s t ≡ Ok z → after lim r (ts ++ t ∷ []) ≡ Ok z
-  after_more [] t r s z e d =
-      let same : r ≡ s = cc in
-      let made : step lim r t ≡ Ok z = subst (λ (y : Reading). step lim y t ≡ Ok z) (sym same) d in
-      ap (λ (x : Result Reading TextKind). x >>= λ (y : Reading). Ok y) made
-  after_more (u ∷ ts) t r s z e d =
-      elim (step lim r u) as (λ (x : Result Reading TextKind). (x >>= λ (y : Reading). after lim y ts) ≡ Ok s → (x >>= λ (y : Reading). after lim y (ts ++ t ∷ [])) ≡ Ok z) [
-        | Ok y ↦ λ rest. after_more ts t y s z rest d
-        | Err k ↦ λ rest. cc
-      ] e
-
-  -- what is read as a whole leads somewhere in its first part
-  pub read_front : (ts us : List Token) (r : Reading) (w : Outcome) → read_tokens lim r (ts ++ us) ≡ Ok w → (s : Reading) × ((after lim r ts ≡ Ok s) × (read_tokens lim s us ≡ Ok w))
-  read_front ts us r w e =
-      elim (after lim r ts) as (λ (x : Result Reading TextKind). after lim r ts ≡ x → (s : Reading) × ((after lim r ts ≡ Ok s) × (read_tokens lim s us ≡ Ok w))) [
-        | Ok s ↦ λ made. (s, (made, sym (ap (λ (x : Result Reading TextKind). x >>= λ (z : Reading). read_tokens lim z us) made) ∙ (sym (read_on ts us r) ∙ e)))
-        | Err k ↦ λ made. let failed : Err k ≡ Ok w = sym (ap (λ (x : Result Reading TextKind). x >>= λ (z : Reading). read_tokens lim z us) made) ∙ (sym (read_on ts us r) ∙ e) in cc
-      ] refl
-
-  pub front_within : (sort : Sort) (ts : List Token) (s : Reading) → after lim (start sort) ts ≡ Ok s → HasRoom lim s.mode → IsFront lim sort ts
-  front_within sort ts s e room =
-      let rest = finish_read s.mode s.side s.calls s.part s.frames room in
+  -- tokens that lead to a state with room are completed by its shortest end
+  pub completed_by : (sort : Sort) (ts : List Token) (s : Reading) → after lim (start sort) ts ≡ Ok s → HasRoom lim s.mode → (w : Outcome) × Reads lim sort (ts ++ finish s.mode s.side s.calls s.frames) w
+  completed_by sort ts s e room =
       let more : List Token = finish s.mode s.side s.calls s.frames in
-      (more, (rest.0, sound lim sort (ts ++ more) rest.0 (read_on ts more (start sort) ∙ (ap (λ (x : Result Reading TextKind). x >>= λ (z : Reading). read_tokens lim z more) e ∙ rest.1))))
+      let (w, rest) = finish_read s.mode s.side s.calls s.part s.frames room in
+      let (z, (leads, is)) = reads_to lim s more w rest in
+      (w, sound lim sort (ts ++ more) z w (led_append move lim (start sort) ts more ∙ (ap (λ x. x >>= λ (y : Reading). after lim y more) e ∙ leads)) is)
 
-  -- tokens that begin a text lead somewhere
-  pub front_leads : (sort : Sort) (ts : List Token) → IsFront lim sort ts → (s : Reading) × (after lim (start sort) ts ≡ Ok s)
-  front_leads sort ts (more, (w, d)) = let found = read_front ts more (start sort) w (complete lim sort (ts ++ more) w d) in (found.0, found.1.0)
+-- what holds where a move leads
+abbrev pub Into : Move Reading → (Reading → Type 0) → Type 0
+Into refused P = Unit {0}
+Into (goes r) P = P r
+Into (limited x n r) P = P r
 
--- limits with room for one more variable
-abbrev roomy : Limits → Mode → Limits
-roomy lim (WantVariable q vs) = record { levels = lim.levels; operators = lim.operators; variables = lim.variables + suc (length vs) }
-roomy lim m = record { levels = lim.levels; operators = lim.operators; variables = lim.variables + 1 }
+pub into_map : (m : Move Reading) (P Q : Reading → Type 0) → ((r : Reading) → P r → Q r) → Into m P → Into m Q
+into_map refused P Q f o = tt
+into_map (goes r) P Q f o = f r o
+into_map (limited x n r) P Q f o = f r o
 
-roomy_wider : (lim : Limits) (m : Mode) → IsWider lim (roomy lim m)
-roomy_wider lim (WantVariable q vs) = record { more_levels = omega arith; more_operators = omega arith; more_variables = omega arith }
-roomy_wider lim m = record { more_levels = omega arith; more_operators = omega arith; more_variables = omega arith }
+pub into_lead : (m : Move Reading) (P : Reading → Type 0) (s : Reading) → Into m P → lead m ≡ Some s → P s
+into_lead refused P s o e = cc
+into_lead (goes r) P s o e = let same : r ≡ s = cc in subst P same o
+into_lead (limited x n r) P s o e = let same : r ≡ s = cc in subst P same o
 
-roomy_room : (lim : Limits) (m : Mode) → HasRoom (roomy lim m) m
-roomy_room lim (WantVariable q vs) = omega arith
-roomy_room lim (WantSquare q) = omega arith
-roomy_room lim m = tt
+-- where a token leads behind a unit
+pub data IsBehind : Token → Reading → Type 0 where
+  chained : (c : ChainOperator) (p : Part) (k : List Frame) → IsBehind (Chain c) (at WantUnit p k)
+  joined : (b : BinaryOperator) (p : Part) (k : List Frame) → IsBehind (Binary b) (at WantUnit p k)
+  grouped : (f : Formula) (p : Part) (k : List Frame) → IsBehind Close (at (AfterUnit f) p k)
 
--- tokens that lead somewhere begin a text
-pub front_any : (lim : Limits) (sort : Sort) (ts : List Token) (s : Reading) → after lim (start sort) ts ≡ Ok s → IsAnyFront sort ts
-front_any lim sort ts s e =
-    (roomy lim s.mode, front_within (roomy lim s.mode) sort ts s (after_wider lim (roomy lim s.mode) (roomy_wider lim s.mode) ts (start sort) s e) (roomy_room lim s.mode))
+chain_leads : (c : ChainOperator) (f : Formula) (p : Part) (k : List Frame) → Into (behind_chain c f p k) (IsBehind (Chain c))
+chain_leads c f First k = chained c (Chained c f 1) k
+chain_leads And f (Chained And e n) k = chained And _ k
+chain_leads Or f (Chained Or e n) k = chained Or _ k
+chain_leads c f p k = tt
 
--- a token that is refused goes on with no text
-pub refused_front : (lim : Limits) (sort : Sort) (ts : List Token) (t : Token) (s : Reading) → after lim (start sort) ts ≡ Ok s → move s t ≡ refused → IsAnyFront sort (ts ++ t ∷ []) → ⊥
-refused_front lim sort ts t s e stop (other, (more, (w, d))) =
-    let whole : read_tokens other (start sort) (ts ++ (t ∷ more)) ≡ Ok w =
-    subst (λ (us : List Token). read_tokens other (start sort) us ≡ Ok w) (append_assoc ts (t ∷ []) more) (complete other sort ((ts ++ t ∷ []) ++ more) w d) in
-    let found = read_front other ts (t ∷ more) (start sort) w whole in
-    let same : found.0 ≡ s = one_state other lim ts (start sort) found.0 s found.1.0 e in
-    let stops : read_tokens other s (t ∷ more) ≡ Err Expected = ap (λ (m : Move). checked other m >>= λ (z : Reading). read_tokens other z more) stop in
-    let goes_on : read_tokens other s (t ∷ more) ≡ Ok w = subst (λ (y : Reading). read_tokens other y (t ∷ more) ≡ Ok w) same found.1.1 in
-    cc
+binary_leads : (b : BinaryOperator) (f : Formula) (p : Part) (k : List Frame) → Into (behind_binary b f p k) (IsBehind (Binary b))
+binary_leads b f First k = joined b (Joined b f) k
+binary_leads b f p k = tt
 
--- a token that fails goes on with no text within the limits
-pub failed_front : (lim : Limits) (sort : Sort) (ts : List Token) (t : Token) (s : Reading) (k : TextKind) → after lim (start sort) ts ≡ Ok s → step lim s t ≡ Err k → IsFront lim sort (ts ++ t ∷ []) → ⊥
-failed_front lim sort ts t s k e stop (more, (w, d)) =
-    let whole : read_tokens lim (start sort) (ts ++ (t ∷ more)) ≡ Ok w =
-    subst (λ (us : List Token). read_tokens lim (start sort) us ≡ Ok w) (append_assoc ts (t ∷ []) more) (complete lim sort ((ts ++ t ∷ []) ++ more) w d) in
-    let found = read_front lim ts (t ∷ more) (start sort) w whole in
-    let same : found.0 ≡ s = one_state lim lim ts (start sort) found.0 s found.1.0 e in
-    let stops : read_tokens lim s (t ∷ more) ≡ Err k = ap (λ (x : Result Reading TextKind). x >>= λ (z : Reading). read_tokens lim z more) stop in
-    let goes_on : read_tokens lim s (t ∷ more) ≡ Ok w = subst (λ (y : Reading). read_tokens lim y (t ∷ more) ≡ Ok w) same found.1.1 in
-    cc
+close_leads : (f : Formula) (p : Part) (k : List Frame) → Into (behind_close f p k) (IsBehind Close)
+close_leads f p (Group q ∷ k) = grouped (completed p f) q k
+close_leads f p k = tt
 
--- a token that a limit stops goes on with a text without limits
-pub wide : Limits → ℕ → Limits
-wide lim n = record { levels = lim.levels + n; operators = lim.operators + n; variables = lim.variables + n }
+settled_leads : (f : Formula) (p : Part) (k : List Frame) (t : Token) → Into (behind_settled f p k t) (IsBehind t)
+settled_leads f p k (Chain c) = chain_leads c f p k
+settled_leads f p k (Binary b) = binary_leads b f p k
+settled_leads f p k Close = close_leads f p k
+settled_leads f p k t = tt
 
-pub wide_wider : (lim : Limits) (n : ℕ) → IsWider lim (wide lim n)
-unfolding wide
-wide_wider lim n = record { more_levels = omega arith; more_operators = omega arith; more_variables = omega arith }
+pub unit_leads : (f : Formula) (p : Part) (k : List Frame) (t : Token) → Into (move_by (AfterUnit f) Lead [] p k t) (IsBehind t)
+unit_leads f p k t = settled_leads (settled k f) p (settled_frames k) t
 
-pub wide_keeps : (lim : Limits) (n : ℕ) (x : Limit) → n ≤ bound_by (wide lim n) x
-unfolding wide
-wide_keeps lim n levels = omega arith
-wide_keeps lim n operators = omega arith
-wide_keeps lim n variables = omega arith
+pub last_leads : (o : Option Formula) (p : Part) (k : List Frame) (t : Token) → Into (behind_last o p k t) (IsBehind t)
+last_leads None p k t = tt
+last_leads (Some f) p k t = unit_leads f p k t
 
-pub limited_front : (lim : Limits) (sort : Sort) (ts : List Token) (t : Token) (s z : Reading) (x : Limit) (n : ℕ) → after lim (start sort) ts ≡ Ok s → move s t ≡ limited x n z → IsAnyFront sort (ts ++ t ∷ [])
-limited_front lim sort ts t s z x n e is =
-    let before : after (wide lim n) (start sort) ts ≡ Ok s = after_wider lim (wide lim n) (wide_wider lim n) ts (start sort) s e in
-    let made : step (wide lim n) s t ≡ Ok z = ap (λ (m : Move). checked (wide lim n) m) is ∙ limit_kept (wide lim n) x n z (wide_keeps lim n x) in
-    front_any (wide lim n) sort (ts ++ t ∷ []) z (after_more (wide lim n) ts t (start sort) s z before made)
+-- where a token leads behind a term that stands in no other
+pub data IsBehindTerm : Token → Reading → Type 0 where
+  compared : (sign : Bool) (s : Side) (p : Part) (k : List Frame) → IsBehindTerm (Equality sign) (in_term WantTerm s [] p k)
+  ended : (t : Token) (r : Reading) → IsBehind t r → IsBehindTerm t r
+
+left_leads : (sign : Bool) (x : Term) (s : Side) (p : Part) (k : List Frame) → Into (behind_left sign x s p k) (IsBehindTerm (Equality sign))
+left_leads sign x Lead p k = compared sign (Right sign x) p k
+left_leads sign x s p k = tt
+
+pub outer_leads : (x : Term) (s : Side) (p : Part) (k : List Frame) (t : Token) → Into (behind_outer x s p k t) (IsBehindTerm t)
+outer_leads x s p k (Equality sign) = left_leads sign x s p k
+outer_leads x s p k t = into_map (behind_last (unit_of s x) p k t) (IsBehind t) (IsBehindTerm t) (ended t) (last_leads (unit_of s x) p k t)
+
+-- A token leads to a state with room for what must follow, but for the comma behind the last variable that fits.
+abbrev IsRoomy : Limits → Mode → Token → Reading → Type 0
+IsRoomy lim m t s = HasRoom lim s.mode ⊎ ((t ≡ Comma) × HasRoom lim m)
+
+module _ (lim : Limits) (some : 1 ≤ lim.variables) where
+  roomy_behind : (m : Mode) (t u : Token) (r : Reading) → IsBehind t r → IsRoomy lim m u r
+  roomy_behind m t u r (chained c p k) = inl tt
+  roomy_behind m t u r (joined b p k) = inl tt
+  roomy_behind m t u r (grouped f p k) = inl tt
+
+  roomy_outer : (m : Mode) (t : Token) (r : Reading) → IsBehindTerm t r → IsRoomy lim m t r
+  roomy_outer m t r (compared sign s p k) = inl tt
+  roomy_outer m t r (ended u z b) = roomy_behind m u t z b
+
+  roomy_term : (m : Mode) (x : Term) (s : Side) (cs : List Call) (p : Part) (k : List Frame) (t : Token) → Into (behind_term x s cs p k t) (IsRoomy lim m t)
+  roomy_term m x s [] p k t = into_map (behind_outer x s p k t) (IsBehindTerm t) (IsRoomy lim m t) (roomy_outer m t) (outer_leads x s p k t)
+  roomy_term m x s (c ∷ cs) p k Comma = inl tt
+  roomy_term m x s (c ∷ cs) p k Close = inl tt
+  roomy_term m x s (c ∷ cs) p k t = tt
+
+  roomy : (m : Mode) (s : Side) (cs : List Call) (p : Part) (k : List Frame) (t : Token) → Into (move_by m s cs p k t) (IsRoomy lim m t)
+  roomy WantUnit s cs p k (Name n) = inl tt
+  roomy WantUnit s cs p k (Variable v) = inl tt
+  roomy WantUnit s cs p k (Truth b) = inl tt
+  roomy WantUnit s cs p k Negation = inl tt
+  roomy WantUnit s cs p k Open = inl tt
+  roomy WantUnit s cs p k (Quantifies q) = inl some
+  roomy WantUnit s cs p k t = tt
+  roomy (AfterUnit f) s cs p k t = into_map (move_by (AfterUnit f) Lead [] p k t) (IsBehind t) (IsRoomy lim (AfterUnit f) t) (roomy_behind (AfterUnit f) t t) (unit_leads f p k t)
+  roomy WantTerm s cs p k (Name n) = inl tt
+  roomy WantTerm s cs p k (Variable v) = inl tt
+  roomy WantTerm s cs p k t = tt
+  roomy (AfterName n) s cs p k Open = inl tt
+  roomy (AfterName n) s cs p k t = roomy_term (AfterName n) (application n nil) s cs p k t
+  roomy (AfterTerm x) s cs p k t = roomy_term (AfterTerm x) x s cs p k t
+  roomy (WantSquare q) s cs p k OpenSquare = inl some
+  roomy (WantSquare q) s cs p k t = tt
+  roomy (WantVariable q vs) s cs p k (Variable v) = inl tt
+  roomy (WantVariable q vs) s cs p k t = tt
+  roomy (AfterVariable q vs) s cs p k Comma = inr (refl, tt)
+  roomy (AfterVariable q vs) s cs p k CloseSquare = inl tt
+  roomy (AfterVariable q vs) s cs p k t = tt
+  roomy (WantColon q vs) s cs p k Colon = inl tt
+  roomy (WantColon q vs) s cs p k t = tt
+
+  pub step_roomy : (r s : Reading) (t : Token) → step lim r t ≡ Ok s → IsRoomy lim r.mode t s
+  step_roomy r s t e = into_lead (move r t) (IsRoomy lim r.mode t) s (roomy r.mode r.side r.calls r.part r.frames t) (checked_ok lim (move r t) s e).0
+
+-- a comma is within each limit
+comma_last : (o : Option Formula) (p : Part) (k : List Frame) → IsFree (behind_last o p k Comma)
+comma_last None p k = tt
+comma_last (Some f) p k = tt
+
+comma_term : (x : Term) (s : Side) (cs : List Call) (p : Part) (k : List Frame) → IsFree (behind_term x s cs p k Comma)
+comma_term x s [] p k = comma_last (unit_of s x) p k
+comma_term x s (c ∷ cs) p k = tt
+
+comma_by : (m : Mode) (s : Side) (cs : List Call) (p : Part) (k : List Frame) → IsFree (move_by m s cs p k Comma)
+comma_by (AfterName n) s cs p k = comma_term (application n nil) s cs p k
+comma_by (AfterTerm x) s cs p k = comma_term x s cs p k
+comma_by m s cs p k = tt
+
+pub comma_free : (r : Reading) → IsFree (move r Comma)
+comma_free r = comma_by r.mode r.side r.calls r.part r.frames
+
+-- a `,` or a `)` is refused where the text may end
+pub data IsEnding : Token → Type 0 where
+  comma : IsEnding Comma
+  close : IsEnding Close
+
+settled_refuses : (t : Token) → IsEnding t → (f : Formula) (p : Part) (k : List Frame) → is_some (ending_settled f p k) ≡ true → behind_settled f p k t ≡ refused
+settled_refuses t comma f p k ok = refl
+settled_refuses t close f p [] ok = refl
+settled_refuses t close f p (g ∷ k) ok = cc
+
+last_refuses : (t : Token) → IsEnding t → (o : Option Formula) (p : Part) (k : List Frame) → is_some (ending_last o p k) ≡ true → behind_last o p k t ≡ refused
+last_refuses t end None p k ok = refl
+last_refuses t end (Some f) p k ok = settled_refuses t end (settled k f) p (settled_frames k) ok
+
+term_refuses : (t : Token) → IsEnding t → (x : Term) (s : Side) (cs : List Call) (p : Part) (k : List Frame) → is_some (ending_term x s cs p k) ≡ true → behind_term x s cs p k t ≡ refused
+term_refuses t end x s (c ∷ cs) p k ok = cc
+term_refuses t comma x Whole [] p k ok = refl
+term_refuses t close x Whole [] p k ok = refl
+term_refuses t comma x Lead [] p k ok = last_refuses Comma comma (unit_of Lead x) p k ok
+term_refuses t close x Lead [] p k ok = last_refuses Close close (unit_of Lead x) p k ok
+term_refuses t comma x (Right sign y) [] p k ok = last_refuses Comma comma (unit_of (Right sign y) x) p k ok
+term_refuses t close x (Right sign y) [] p k ok = last_refuses Close close (unit_of (Right sign y) x) p k ok
+
+mode_refuses : (t : Token) → IsEnding t → (m : Mode) (s : Side) (cs : List Call) (p : Part) (k : List Frame) → is_some (ending_by m s cs p k) ≡ true → move_by m s cs p k t ≡ refused
+mode_refuses t end (AfterUnit f) s cs p k ok = settled_refuses t end (settled k f) p (settled_frames k) ok
+mode_refuses t comma (AfterName n) s cs p k ok = term_refuses Comma comma (application n nil) s cs p k ok
+mode_refuses t close (AfterName n) s cs p k ok = term_refuses Close close (application n nil) s cs p k ok
+mode_refuses t end (AfterTerm x) s cs p k ok = term_refuses t end x s cs p k ok
+mode_refuses t end m s cs p k ok = cc
+
+pub end_refused : (r : Reading) (t : Token) → IsEnding t → is_some (meant r) ≡ true → move r t ≡ refused
+end_refused r t end ok = mode_refuses t end r.mode r.side r.calls r.part r.frames ok
+
+widened_by : (lim : Limits) (m : Mode) → (n : ℕ) × HasRoom (wider lim n) m
+widened_by lim (WantSquare q) = (1, omega arith)
+widened_by lim (WantVariable q vs) = (suc (length vs), omega arith)
+widened_by lim m = (0, tt)
+
+pub widened : (lim : Limits) (r : Reading) → (n : ℕ) × HasRoom (wider lim n) r.mode
+widened lim r = widened_by lim r.mode
+
+start_roomy : (lim : Limits) (sort : Sort) → HasRoom lim (start sort).mode
+start_roomy lim formulas = tt
+start_roomy lim terms = tt
+
+-- the machine is a reader of formulas and of terms
+pub is_reader : (sort : Sort) → IsReaderOf (reader sort) (λ lim ts w. Reads lim sort ts w) (λ lim r. HasRoom lim r.mode)
+is_reader sort = record {
+  sound = λ lim ts s w e is. sound lim sort ts s w e is;
+  complete = λ lim ts w d. complete lim sort ts w d;
+  goes_on = λ lim ts s e room. (finish s.mode s.side s.calls s.frames, completed_by lim sort ts s e room);
+  widened = widened;
+  start_room = λ lim. start_roomy lim sort;
+  room = λ lim some r s t e. step_roomy lim some r s t e;
+  comma = comma_free;
+}

@@ -1,12 +1,12 @@
+pub mod ReaderLaw
+pub mod TurnLaw
 pub mod Sound
 pub mod Complete
 pub mod Fronts
-pub mod Faults
 pub mod Depth
 pub mod Reading
 pub mod Whole
 pub mod Formed
 pub mod TextEnds
 pub mod Closing
-pub mod Readings
 pub mod FormedValues

@@ -13,7 +13,8 @@ use Rattle.tptp_read.specs.declared.errors.TextError.TheVariants.{Memory as Text
 use Rattle.tptp_read.specs.declared.state.Limits.{Limits}
 use Rattle.tptp_read.specs.declared.state.Outcome.{Outcome}
 use Rattle.tptp_read.specs.Given.{meaning, GivesText}
-use Rattle.tptp_read.specs.Machine.{Reading, step, ending, ◌>>=◌}
+use Rattle.tptp_read.specs.Reader.{◌>>=◌}
+use Rattle.tptp_read.specs.Machine.{Reading, step, ending}
 use Rattle.tptp_read.specs.Texts.{placed, read}
 
 -- what the bytes `rest` of a text of n bytes give, which are its last ones

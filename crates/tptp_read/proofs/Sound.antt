@@ -1,6 +1,5 @@
 -- What the machine reads is in the grammar.
-use Rattle.std.proofs.Common.{◌≡◌, ℕ, suc, ◌-◌, ◌≤◌, Bool, true, false, leb, if◌then◌else◌, List, [], ◌∷◌, length, Result, Ok, Err, refl, sym, subst, arith}
-use Rattle.std.proofs.lemmas.Bool.{leb-true}
+use Rattle.std.proofs.Common.{◌≡◌, ℕ, suc, ◌-◌, ◌≤◌, List, [], ◌∷◌, length, Some, Ok, refl, sym, subst, arith}
 use Rattle.fol.specs.declared.symbols.Var.{Var}
 use Rattle.fol.specs.Syntax.{Term, free, bound, app, Terms, nil, cons, Formula, atom, not}
 use Rattle.tptp_tokens.specs.declared.tokens.Quantifier.{Quantifier}
@@ -9,8 +8,6 @@ use Rattle.tptp_tokens.specs.declared.tokens.ChainOperator.TheVariants.{And, Or}
 use Rattle.tptp_tokens.specs.declared.tokens.BinaryOperator.{BinaryOperator}
 use Rattle.tptp_tokens.specs.declared.tokens.Token.{Token}
 use Rattle.tptp_tokens.specs.declared.tokens.Token.TheVariants.{Name, Variable, Truth, Equality, Negation, Quantifier as Quantifies, Chain, Binary, Open, Close, OpenSquare, CloseSquare, Comma, Colon}
-use Rattle.tptp_tokens.specs.declared.tokens.TextKind.{TextKind}
-use Rattle.tptp_tokens.specs.declared.tokens.TextKind.TheVariants.{Deep}
 use Rattle.tptp_read.specs.declared.state.Limits.{Limits}
 use Rattle.tptp_read.specs.declared.state.Outcome.{Outcome}
 use Rattle.tptp_read.specs.declared.state.Outcome.TheVariants.{Formula as FormulaRead, Term as TermRead}
@@ -23,34 +20,32 @@ use Rattle.tptp_read.specs.declared.state.Side.{Side}
 use Rattle.tptp_read.specs.declared.state.Side.TheVariants.{Lead, Right, Whole}
 use Rattle.tptp_read.specs.declared.state.Mode.{Mode}
 use Rattle.tptp_read.specs.declared.state.Mode.TheVariants.{WantUnit, AfterUnit, WantTerm, AfterName, AfterTerm, WantSquare, WantVariable, AfterVariable, WantColon}
-use Rattle.tptp_read.specs.Meaning.{chained_by, joined_by, truth, equation, application, quantified}
+use Rattle.tptp_read.specs.Meaning.{chained_by, truth, equation, application, quantified}
 use Rattle.tptp_read.specs.Grammar.{IsTerm, variable, constant, applied, IsArguments, last_argument, argument, IsVariables, next_variable, IsBehindVariable, all_variables, more_variables, IsUnit, truth_value, predicate, equality, negation, group, quantifier, IsQuantified, body, IsFormula, alone, binary, chain, IsMembers, last_member, member, Sort, formulas, terms, Reads}
-use Rattle.tptp_read.specs.Machine.{Reading, start, Move, refused, goes, limited, depth, turned_onto, closed, settled, settled_frames, completed, begin_unit, behind_unit, behind_outer, behind_term, begin_term, behind_name, behind_quantifier, begin_variable, behind_variable, behind_list, move_by, move, bound_by, checked, step, ending_settled, ending_term, ending_by, ◌>>=◌, read_tokens}
+use Rattle.tptp_read.specs.Reader.{Move, refused, goes, limited, bound_by, checked}
+use Rattle.tptp_read.specs.Machine.{Reading, start, depth, turned_onto, closed, settled, settled_frames, completed, begin_unit, behind_unit, behind_outer, behind_term, begin_term, behind_name, behind_quantifier, begin_variable, behind_variable, behind_list, move_by, move, step, ending_settled, ending_term, ending_by, meant, after}
+use Rattle.tptp_read.proofs.ReaderLaw.{then_ok, checked_ok}
 
 -- how many levels are left where n are open
 abbrev pub left : Limits → ℕ → ℕ
 left lim n = lim.levels - n
 
 -- what holds where a move leads, within its limit
-abbrev pub Onward : Limits → Move → (Reading → Type 0) → Type 0
+abbrev pub Onward : Limits → Move Reading → (Reading → Type 0) → Type 0
 Onward lim refused P = Unit {0}
 Onward lim (goes r) P = P r
 Onward lim (limited x n r) P = n ≤ bound_by lim x → P r
 
-pub onward_map : (lim : Limits) (m : Move) (P Q : Reading → Type 0) → ((r : Reading) → P r → Q r) → Onward lim m P → Onward lim m Q
+onward_map : (lim : Limits) (m : Move Reading) (P Q : Reading → Type 0) → ((r : Reading) → P r → Q r) → Onward lim m P → Onward lim m Q
 onward_map lim refused P Q f o = tt
 onward_map lim (goes r) P Q f o = f r o
 onward_map lim (limited x n r) P Q f o = λ fits. f r (o fits)
 
 -- a step that is made leads on within its limit
-pub onward_step : (lim : Limits) (m : Move) (P : Reading → Type 0) (s : Reading) → Onward lim m P → checked lim m ≡ Ok s → P s
+onward_step : (lim : Limits) (m : Move Reading) (P : Reading → Type 0) (s : Reading) → Onward lim m P → checked lim m ≡ Ok s → P s
 onward_step lim refused P s o e = cc
 onward_step lim (goes r) P s o e = let same : r ≡ s = cc in subst P same o
-onward_step lim (limited x n r) P s o e =
-    elim (leb n (bound_by lim x)) as (λ (b : Bool). leb n (bound_by lim x) ≡ b → (if b then Ok r else Err Deep) ≡ Ok s → P s) [
-      | true ↦ λ test made. let same : r ≡ s = cc in subst P same (o (leb-true _ _ test))
-      | false ↦ λ test made. cc
-    ] refl e
+onward_step lim (limited x n r) P s o e = let (leads, fits) = checked_ok lim (limited x n r) s e in let same : r ≡ s = cc in subst P same (o fits)
 
 module _ (lim : Limits) where
   -- Behind what stands before it in its formula, a unit f with us behind it completes the formula g with vs behind it.
@@ -126,12 +121,10 @@ module _ (lim : Limits) where
   back_unit f First (Group q ∷ k) (Binary b) ts w = λ (g, (us, (u, (h, (vs, (tails, rest)))))). (h, (vs, (tails_joined (left lim (suc (length k))) b f g h ts us (Close ∷ vs) u tails, rest)))
   back_unit f (Chained And e n) (Group q ∷ k) (Chain And) ts w = λ fits (g, (us, (u, (h, (vs, (tails, rest)))))). (h, (vs, (tails_member (left lim (suc (length k))) n And e f g h ts us (Close ∷ vs) fits u tails, rest)))
   back_unit f (Chained Or e n) (Group q ∷ k) (Chain Or) ts w = λ fits (g, (us, (u, (h, (vs, (tails, rest)))))). (h, (vs, (tails_member (left lim (suc (length k))) n Or e f g h ts us (Close ∷ vs) fits u tails, rest)))
-  back_unit f First (Group q ∷ k) Close ts w = λ rest. (f, (ts, (tails_end (left lim (suc (length k))) First f (Close ∷ ts), rest)))
-  back_unit f (Chained And e n) (Group q ∷ k) Close ts w = λ rest. (chained_by And e f, (ts, (tails_end (left lim (suc (length k))) (Chained And e n) f (Close ∷ ts), rest)))
-  back_unit f (Chained Or e n) (Group q ∷ k) Close ts w = λ rest. (chained_by Or e f, (ts, (tails_end (left lim (suc (length k))) (Chained Or e n) f (Close ∷ ts), rest)))
-  back_unit f (Joined b e) (Group q ∷ k) Close ts w = λ rest. (joined_by b e f, (ts, (tails_end (left lim (suc (length k))) (Joined b e) f (Close ∷ ts), rest)))
+  back_unit f p (Group q ∷ k) Close ts w = λ rest. (completed p f, (ts, (tails_end (left lim (suc (length k))) p f (Close ∷ ts), rest)))
   back_unit f p (Negated ∷ k) t ts w = back_unit (not f) p k t ts w
   back_unit f p (Quantified q vs ∷ k) t ts w = back_unit (closed q vs f) p k t ts w
+  back_unit f p [] Close ts w = tt
   back_unit f p [] t ts w = tt
   back_unit f p (Group q ∷ k) t ts w = tt
 
@@ -142,7 +135,9 @@ module _ (lim : Limits) where
       (λ r b m. (atom s xs, (t ∷ ts, (λ ss tx. predicate (left lim (length k)) ss (t ∷ ts) s xs tx, b m)))) (back_unit (atom s xs) p k t ts w)
   back_outer (free v) Lead p k t ts w = tt
   back_outer (bound i) Lead p k t ts w = tt
+  back_outer x (Right sign y) p k (Equality sign') ts w = tt
   back_outer x (Right sign y) p k t ts w = back_unit (equation sign y x) p k t ts w
+  back_outer x Whole p k (Equality sign) ts w = tt
   back_outer x Whole p k t ts w = tt
 
   back_term : (x : Term) (s : Side) (cs : List Call) (p : Part) (k : List Frame) (t : Token) (ts : List Token) (w : Outcome) → Onward lim (behind_term x s cs p k t) (λ r. MeansAt r ts w → GoesTerm s cs p k x (t ∷ ts) w)
@@ -200,13 +195,13 @@ module _ (lim : Limits) where
   back (WantColon q vs) s cs p k t ts w = back_list q vs s cs p k t ts w
 
   -- the end of the text
-  end_unit : (f : Formula) (p : Part) (k : List Frame) (w : Outcome) → ending_settled (settled k f) p (settled_frames k) ≡ Ok w → Goes p k f [] w
+  end_unit : (f : Formula) (p : Part) (k : List Frame) (w : Outcome) → ending_settled (settled k f) p (settled_frames k) ≡ Some w → Goes p k f [] w
   end_unit f p [] w e = (completed p f, (cc, tails_end (left lim 0) p f []))
   end_unit f p (Group q ∷ k) w e = cc
   end_unit f p (Negated ∷ k) w e = end_unit (not f) p k w e
   end_unit f p (Quantified q vs ∷ k) w e = end_unit (closed q vs f) p k w e
 
-  end_term : (x : Term) (s : Side) (cs : List Call) (p : Part) (k : List Frame) (w : Outcome) → ending_term x s cs p k ≡ Ok w → GoesTerm s cs p k x [] w
+  end_term : (x : Term) (s : Side) (cs : List Call) (p : Part) (k : List Frame) (w : Outcome) → ending_term x s cs p k ≡ Some w → GoesTerm s cs p k x [] w
   end_term x s (c ∷ cs) p k w e = cc
   end_term x Whole [] p k w e = (cc, refl)
   end_term x (Right sign y) [] p k w e = end_unit (equation sign y x) p k w e
@@ -214,27 +209,25 @@ module _ (lim : Limits) where
   end_term (free v) Lead [] p k w e = cc
   end_term (bound i) Lead [] p k w e = cc
 
-  end_back : (m : Mode) (s : Side) (cs : List Call) (p : Part) (k : List Frame) (w : Outcome) → ending_by m s cs p k ≡ Ok w → Means m s cs p k [] w
+  end_back : (m : Mode) (s : Side) (cs : List Call) (p : Part) (k : List Frame) (w : Outcome) → ending_by m s cs p k ≡ Some w → Means m s cs p k [] w
   end_back (AfterUnit f) s cs p k w e = end_unit f p k w e
   end_back (AfterName n) s cs p k w e = (application n nil, ([], (constant (left lim (depth cs k)) [] n, end_term (application n nil) s cs p k w e)))
   end_back (AfterTerm x) s cs p k w e = end_term x s cs p k w e
   end_back m s cs p k w e = cc
 
-  pub sound_from : (ts : List Token) (r : Reading) (w : Outcome) → read_tokens lim r ts ≡ Ok w → MeansAt r ts w
-  sound_from [] r w e = end_back r.mode r.side r.calls r.part r.frames w e
-  sound_from (t ∷ ts) r w e =
-      elim (step lim r t) as (λ (x : Result Reading TextKind). step lim r t ≡ x → (x >>= λ (s : Reading). read_tokens lim s ts) ≡ Ok w → MeansAt r (t ∷ ts) w) [
-        | Ok s ↦ λ made rest. onward_step lim (move r t) (λ (z : Reading). MeansAt z ts w → MeansAt r (t ∷ ts) w) s (back r.mode r.side r.calls r.part r.frames t ts w) made (sound_from ts s w rest)
-        | Err e ↦ λ made rest. cc
-      ] refl e
+  sound_from : (ts : List Token) (r s : Reading) (w : Outcome) → after lim r ts ≡ Ok s → meant s ≡ Some w → MeansAt r ts w
+  sound_from [] r s w e m = let same : r ≡ s = cc in subst (λ (z : Reading). MeansAt z [] w) (sym same) (end_back s.mode s.side s.calls s.part s.frames w m)
+  sound_from (t ∷ ts) r s w e m =
+      let (z, (made, rest)) = then_ok (step lim r t) (λ (y : Reading). after lim y ts) s e in
+      onward_step lim (move r t) (λ (y : Reading). MeansAt y ts w → MeansAt r (t ∷ ts) w) z (back r.mode r.side r.calls r.part r.frames t ts w) made (sound_from ts z s w rest m)
 
   -- what is read is in the grammar
-  pub sound : (sort : Sort) (ts : List Token) (w : Outcome) → read_tokens lim (start sort) ts ≡ Ok w → Reads lim sort ts w
-  sound formulas ts w e =
-      let m : Means WantUnit Lead [] First [] ts w = sound_from ts (start formulas) w e in
+  pub sound : (sort : Sort) (ts : List Token) (s : Reading) (w : Outcome) → after lim (start sort) ts ≡ Ok s → meant s ≡ Some w → Reads lim sort ts w
+  sound formulas ts s w e is =
+      let m : Means WantUnit Lead [] First [] ts w = sound_from ts (start formulas) s w e is in
       let all : left lim 0 ≡ lim.levels = omega arith in
       subst (λ (v : Outcome). Reads lim formulas ts v) (sym m.1.1.1.1.0) (subst (λ (l : ℕ). IsFormula lim l ts m.1.1.1.0 []) all (m.1.1.1.1.1 ts m.1.1.0))
-  sound terms ts w e =
-      let m : Means WantTerm Whole [] First [] ts w = sound_from ts (start terms) w e in
+  sound terms ts s w e is =
+      let m : Means WantTerm Whole [] First [] ts w = sound_from ts (start terms) s w e is in
       let all : left lim 0 ≡ lim.levels = omega arith in
       subst (λ (v : Outcome). Reads lim terms ts v) (sym m.1.1.1.0) (subst (λ (us : List Token). IsTerm lim lim.levels ts m.0 us) m.1.1.1.1 (subst (λ (l : ℕ). IsTerm lim l ts m.0 m.1.0) all m.1.1.0))

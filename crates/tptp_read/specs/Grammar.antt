@@ -1,6 +1,6 @@
 -- The grammar of formulas and terms, as a relation on lists of tokens. `IsUnit lim l ts f us` says that the tokens ts begin with a unit
 -- that means f, in which at most l levels are open, and that us follow it; the others likewise.
-use Rattle.std.specs.Prelude.{ℕ, suc, ◌≤◌, Bool, List, [], ◌∷◌, ◌++◌}
+use Rattle.std.specs.Prelude.{ℕ, suc, ◌≤◌, Bool, List, [], ◌∷◌}
 use Rattle.fol.specs.declared.symbols.Var.{Var}
 use Rattle.fol.specs.declared.symbols.Sym.{Sym}
 use Rattle.fol.specs.Syntax.{Term, free, app, Terms, nil, cons, Formula, atom, not}
@@ -72,10 +72,6 @@ Reads lim formulas ts (TermRead t) = ⊥
 Reads lim terms ts (FormulaRead f) = ⊥
 Reads lim terms ts (TermRead t) = IsTerm lim lim.levels ts t []
 
--- the tokens begin a text
-abbrev pub IsFront : Limits → Sort → List Token → Type 0
-IsFront lim sort ts = (more : List Token) × ((w : Outcome) × Reads lim sort (ts ++ more) w)
-
--- the same without limits
-abbrev pub IsAnyFront : Sort → List Token → Type 0
-IsAnyFront sort ts = (lim : Limits) × IsFront lim sort ts
+-- the grammar of formulas, or of terms
+abbrev pub texts : Sort → Limits → List Token → Outcome → Type 0
+texts sort lim ts w = Reads lim sort ts w

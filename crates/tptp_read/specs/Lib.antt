@@ -1,5 +1,7 @@
 pub mod Meaning
 pub mod Grammar
+pub mod Reader
+pub mod Turns
 pub mod Machine
 pub mod Texts
 pub mod Given

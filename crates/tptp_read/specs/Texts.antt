@@ -1,18 +1,18 @@
 -- Which texts are formulas and terms, and which fault of a text is the first one.
-use Rattle.std.specs.Prelude.{◌≡◌, ◌⊎◌, ℕ, List, [], ◌∷◌, ◌++◌, Result, Ok, Err}
+use Rattle.std.specs.Prelude.{◌≡◌, ℕ, List, Result, Ok, Err}
 use Rattle.fol.specs.Syntax.{Term, Formula}
 use Rattle.tptp_tokens.specs.declared.tokens.Token.{Token}
-use Rattle.tptp_tokens.specs.declared.tokens.Token.TheVariants.{Comma}
 use Rattle.tptp_tokens.specs.declared.tokens.TextKind.{TextKind}
-use Rattle.tptp_tokens.specs.declared.tokens.TextKind.TheVariants.{Expected, Deep}
+use Rattle.tptp_tokens.specs.declared.tokens.TextKind.TheVariants.{Expected}
 use Rattle.tptp_tokens.specs.declared.tokens.TextFault.{TextFault}
 use Rattle.tptp_tokens.specs.Stream.{Stream, next, ends, bad, stream_of, Begins}
 use Rattle.tptp_read.specs.declared.state.Limits.{Limits}
 use Rattle.tptp_read.specs.declared.state.Outcome.{Outcome}
 use Rattle.tptp_read.specs.declared.state.Outcome.TheVariants.{Formula as FormulaRead, Term as TermRead}
 use Rattle.tptp_read.specs.declared.state.TheConstants.{LIMITS}
-use Rattle.tptp_read.specs.Grammar.{Sort, formulas, terms, Reads, IsFront, IsAnyFront}
-use Rattle.tptp_read.specs.Machine.{Reading, start, step, ending, ◌>>=◌}
+use Rattle.tptp_read.specs.Grammar.{Sort, formulas, terms, Reads, texts}
+use Rattle.tptp_read.specs.Reader.{◌>>=◌, IsAnyFrontIn, IsCleanIn, BecauseIn}
+use Rattle.tptp_read.specs.Machine.{Reading, start, step, ending}
 
 -- the whole text is tokens of the grammar, and means w
 pub record IsText (lim : Limits) (sort : Sort) (st : Stream) (w : Outcome) : Type 0 where
@@ -21,20 +21,15 @@ pub record IsText (lim : Limits) (sort : Sort) (st : Stream) (w : Outcome) : Typ
   pub whole : Begins st tokens (ends length)
   pub reads : Reads lim sort tokens w
 
--- The tokens begin a text within the limits; or they do so without their last token, a comma. (Behind the last variable that a
--- quantifier may have a comma is no fault, though nothing within the limits can follow it.)
+-- The tokens begin a text; they do so within the limits, but for a comma; and why a token is a fault behind them.
+abbrev pub IsAnyFront : Sort → List Token → Type 0
+IsAnyFront sort ts = IsAnyFrontIn (texts sort) ts
+
 abbrev pub IsClean : Limits → Sort → List Token → Type 0
-IsClean lim sort ts = IsFront lim sort ts ⊎ ((front : List Token) × ((ts ≡ front ++ Comma ∷ []) × IsFront lim sort front))
+IsClean lim sort ts = IsCleanIn (texts sort) lim ts
 
-abbrev pub IsNoComma : Token → Type 0
-IsNoComma Comma = ⊥
-IsNoComma t = Unit {0}
-
--- why the token t is a fault behind the tokens `before`: no text goes on so; or none within the limits does
 abbrev pub Because : Limits → Sort → List Token → Token → TextKind → Type 0
-Because lim sort before t Expected = IsAnyFront sort (before ++ t ∷ []) → ⊥
-Because lim sort before t Deep = (IsFront lim sort (before ++ t ∷ []) → ⊥) × (IsAnyFront sort (before ++ t ∷ []) × IsNoComma t)
-Because lim sort before t k = ⊥
+Because lim sort before t k = BecauseIn (texts sort) lim before t k
 
 -- what comes behind the tokens `before` is this fault: a token, the end of the text, or bytes that are no token
 abbrev pub Blames : Limits → Sort → List Token → Stream → TextFault → Type 0

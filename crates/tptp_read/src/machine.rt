@@ -3,7 +3,8 @@ ghost use Rattle.std.specs.Prelude.{◌≡◌, suc, ◌++◌, length, option_to_
 ghost use Rattle.tptp_read.specs.declared.state.Limits.{Limits};
 ghost use Rattle.tptp_read.specs.Given.{meaning, Gives};
 ghost use Rattle.tptp_read.specs.Grammar.{formulas, terms};
-ghost use Rattle.tptp_read.specs.Machine.{at as at_place, limited, levels, start, begin_unit as move_begin_unit, behind_quantifier as move_behind_quantifier, begin_variable as move_begin_variable, behind_variable as move_behind_variable, behind_list as move_behind_list, checked, step as step_by, ending};
+ghost use Rattle.tptp_read.specs.Reader.{limited, levels, checked};
+ghost use Rattle.tptp_read.specs.Machine.{at as at_place, start, begin_unit as move_begin_unit, behind_quantifier as move_behind_quantifier, begin_variable as move_begin_variable, behind_variable as move_behind_variable, behind_list as move_behind_list, step as step_by, ending};
 
 use crate::errors::StepError;
 use crate::pieces::{constant, truth};

@@ -4,10 +4,8 @@ ghost use Rattle.fol.specs.Formed.{IsFormed, IsFormedTerm};
 ghost use Rattle.fol.specs.Syntax.{Formula as FormulaMeaning, Term as TermMeaning};
 ghost use Rattle.tptp_tokens.specs.declared.tokens.TextFault.{TextFault};
 ghost use Rattle.tptp_tokens.specs.Stream.{stream_of};
-ghost use Rattle.tptp_read.specs.declared.state.Outcome.TheVariants.{Formula as FormulaRead, Term as TermRead};
 ghost use Rattle.tptp_read.specs.Given.{meaning, GivesText, IfFault, text_error};
-ghost use Rattle.tptp_read.specs.Grammar.{formulas, terms};
-ghost use Rattle.tptp_read.specs.Machine.{start, step as step_by, ending};
+ghost use Rattle.tptp_read.specs.Machine.{step as step_by, ending};
 ghost use Rattle.tptp_read.specs.Texts.{placed, read, IsFormulaText, IsTermText, IsFormulaFault, IsTermFault, formula_reading, term_reading};
 
 use crate::errors::{StepError, TextError};
@@ -39,8 +37,9 @@ pub fn read_formula(alloc: Global, text: &[u8]) -> Result<Formula, TextError>
     formula_of(alloc, text)
 }
 
+#[tactic(auto, unfolding(crate::specs::Texts::formula_reading))]
 fn formula_of(alloc: Global, text: &[u8]) -> Result<Formula, TextError>
-    ensures { GivesText FormulaRead result (read LIMITS (start formulas) (stream_of text.now)) }
+    ensures { GivesText (λ f. f) result (formula_reading text.now) }
 {
     match read_text(alloc, LIMITS, text, State::before_formula(alloc))? {
         Outcome::Formula(formula) => Ok(formula),
@@ -71,8 +70,9 @@ pub fn read_term(alloc: Global, text: &[u8]) -> Result<Term, TextError>
     term_of(alloc, text)
 }
 
+#[tactic(auto, unfolding(crate::specs::Texts::term_reading))]
 fn term_of(alloc: Global, text: &[u8]) -> Result<Term, TextError>
-    ensures { GivesText TermRead result (read LIMITS (start terms) (stream_of text.now)) }
+    ensures { GivesText (λ t. t) result (term_reading text.now) }
 {
     match read_text(alloc, LIMITS, text, State::before_term(alloc))? {
         Outcome::Term(term) => Ok(term),

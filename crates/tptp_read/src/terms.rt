@@ -2,7 +2,8 @@
 ghost use Rattle.std.specs.Prelude.{◌≡◌, suc, ◌+◌, nat_le, IfOk};
 ghost use Rattle.tptp_read.specs.declared.state.Limits.{Limits};
 ghost use Rattle.tptp_read.specs.Given.{meaning, Gives};
-ghost use Rattle.tptp_read.specs.Machine.{in_term as in_term_place, unit_of as ended_unit, begin_term as move_begin_term, behind_name as move_behind_name, behind_term as move_behind_term, behind_outer as move_behind_outer, ending_term, checked};
+ghost use Rattle.tptp_read.specs.Reader.{checked, or_expected};
+ghost use Rattle.tptp_read.specs.Machine.{in_term as in_term_place, unit_of as ended_unit, begin_term as move_begin_term, behind_name as move_behind_name, behind_term as move_behind_term, behind_outer as move_behind_outer, ending_term};
 
 use crate::errors::StepError;
 use crate::pieces::{called, constant, equation};
@@ -170,7 +171,7 @@ pub fn end_term(
     part: Part,
     frames: VecDeque<Frame>,
 ) -> Result<Outcome, StepError>
-    ensures { Gives (λ w. w) result (ending_term term side calls.items part frames.items) }
+    ensures { Gives (λ w. w) result (or_expected (ending_term term side calls.items part frames.items)) }
 {
     if !calls.is_empty() {
         return Err(StepError::Kind(TextKind::Expected));

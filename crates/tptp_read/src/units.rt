@@ -1,9 +1,9 @@
 //! What a token does behind a unit.
 ghost use Rattle.std.specs.Prelude.{◌≡◌, IfOk, OnOk};
 ghost use Rattle.tptp_read.specs.declared.state.Limits.{Limits};
-ghost use Rattle.tptp_tokens.specs.declared.tokens.Token.TheVariants.{Chain, Binary, Close};
 ghost use Rattle.tptp_read.specs.Given.{meaning, Gives};
-ghost use Rattle.tptp_read.specs.Machine.{at as at_place, settled, settled_frames, behind_settled as move_behind_settled, behind_unit as move_behind_unit, ending_settled, checked};
+ghost use Rattle.tptp_read.specs.Reader.{checked, or_expected};
+ghost use Rattle.tptp_read.specs.Machine.{at as at_place, settled, settled_frames, behind_chain, behind_binary, behind_close, behind_settled as move_behind_settled, behind_unit as move_behind_unit, ending_settled};
 
 use crate::errors::StepError;
 use crate::pieces::{chained, closed, completed};
@@ -89,7 +89,7 @@ fn go_on_chain(
     part: Part,
     frames: VecDeque<Frame>,
 ) -> Result<State, StepError>
-    ensures { Gives meaning result (checked limits (move_behind_settled unit part frames.items (Chain operator))) }
+    ensures { Gives meaning result (checked limits (behind_chain operator unit part frames.items)) }
 {
     let (members, before) = match (operator, part) {
         (_, Part::First) => (unit, 0),
@@ -113,7 +113,7 @@ fn begin_binary(
     part: Part,
     frames: VecDeque<Frame>,
 ) -> Result<State, StepError>
-    ensures { (limits : Limits) → Gives meaning result (checked limits (move_behind_settled unit part frames.items (Binary operator))) }
+    ensures { (limits : Limits) → Gives meaning result (checked limits (behind_binary operator unit part frames.items)) }
 {
     match part {
         Part::First => Ok(at(alloc, Mode::WantUnit, Part::Joined(operator, unit), frames)),
@@ -127,7 +127,7 @@ fn close_group(
     part: Part,
     frames: VecDeque<Frame>,
 ) -> Result<State, StepError>
-    ensures { (limits : Limits) → Gives meaning result (checked limits (move_behind_settled unit part frames.items Close)) }
+    ensures { (limits : Limits) → Gives meaning result (checked limits (behind_close unit part frames.items)) }
 {
     let mut frames = frames;
     match frames.pop_front() {
@@ -146,7 +146,7 @@ pub fn end_unit(
     part: Part,
     frames: VecDeque<Frame>,
 ) -> Result<Outcome, StepError>
-    ensures { Gives (λ w. w) result (ending_settled (settled frames.items unit) part (settled_frames frames.items)) }
+    ensures { Gives (λ w. w) result (or_expected (ending_settled (settled frames.items unit) part (settled_frames frames.items))) }
 {
     let mut frames = frames;
     let unit = settle(alloc, &mut frames, unit)?;

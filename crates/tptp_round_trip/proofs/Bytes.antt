@@ -1,10 +1,12 @@
 -- How the tokens of canonical texts are found in their bytes.
-use Rattle.std.proofs.Common.{◌≡◌, ℕ, zero, suc, ◌+◌, ◌/◌, ◌%◌, ◌^◌, ◌<◌, ◌≤◌, Bool, true, false, eqb, ltb, ◌&&◌, ◌||◌, cond, if◌then◌else◌, List, [], ◌∷◌, ◌++◌, length, take, Option, Some, None, is_none, codes, refl, sym, ap, subst, ◌∙◌, append_assoc, append-nil, length-append, arith}
+use Rattle.std.proofs.Common.{◌≡◌, ℕ, suc, ◌+◌, ◌%◌, ◌^◌, ◌<◌, ◌≤◌, Bool, true, false, eqb, ltb, ◌&&◌, ◌||◌, if◌then◌else◌, List, [], ◌∷◌, ◌++◌, length, take, Option, Some, None, is_none, codes, refl, sym, ap, subst, ◌∙◌, append_assoc, append-nil, length-append, arith}
 use Rattle.std.specs.List.{list_all, flat_map}
 use Rattle.std.specs.Char.{is_ascii_uppercase, is_ascii_lowercase}
-use Rattle.std.specs.Fmt.{decimal, digits, digits_onto, digit_glyph}
+use Rattle.std.specs.Fmt.{decimal}
 use Rattle.std.proofs.Math.Seq.{take-append_seam, drop-append_seam}
-use Rattle.std.proofs.lemmas.Bool.{and_parts, and_from}
+use Rattle.std.proofs.lemmas.Bool.{and_parts, and_from, or_parts, cond-true, cond-false}
+use Rattle.std.proofs.lemmas.Fmt.{decimal_by_steps}
+use Rattle.std.proofs.lemmas.List.Folds.{list_all-append}
 use Rattle.std.proofs.lemmas.Bool.Decides.{nat_tests}
 use Rattle.fol.specs.declared.symbols.Var.{Var}
 use Rattle.fol.specs.declared.symbols.Var.TheVariants.{Word, Num}
@@ -64,29 +66,18 @@ pub comma_lexes : (rest : List ℕ) (us : List Token) → Lexes rest us → Lexe
 unfolding scanned
 comma_lexes rest us = one_lexes 44 rest Comma us refl
 
-close_square_lexes : (rest : List ℕ) (us : List Token) → Lexes rest us → Lexes (93 ∷ rest) (CloseSquare ∷ us)
-unfolding scanned
-close_square_lexes rest us = one_lexes 93 rest CloseSquare us refl
-
-colon_lexes : (rest : List ℕ) (us : List Token) → Lexes rest us → Lexes (58 ∷ rest) (Colon ∷ us)
-unfolding scanned
-colon_lexes rest us = one_lexes 58 rest Colon us refl
-
-open_square_lexes : (rest : List ℕ) (us : List Token) → Lexes rest us → Lexes (91 ∷ rest) (OpenSquare ∷ us)
-unfolding scanned
-open_square_lexes rest us = one_lexes 91 rest OpenSquare us refl
-
 -- `![`, `?[` and `]: `
 pub all_lexes : (rest : List ℕ) (us : List Token) → Lexes rest us → Lexes (33 ∷ 91 ∷ rest) (Quantifier All ∷ OpenSquare ∷ us)
 unfolding scanned
-all_lexes rest us goes = one_lexes 33 (91 ∷ rest) (Quantifier All) (OpenSquare ∷ us) refl (open_square_lexes rest us goes)
+all_lexes rest us goes = one_lexes 33 (91 ∷ rest) (Quantifier All) (OpenSquare ∷ us) refl (one_lexes 91 rest OpenSquare us refl goes)
 
 pub ex_lexes : (rest : List ℕ) (us : List Token) → Lexes rest us → Lexes (63 ∷ 91 ∷ rest) (Quantifier Ex ∷ OpenSquare ∷ us)
 unfolding scanned
-ex_lexes rest us goes = one_lexes 63 (91 ∷ rest) (Quantifier Ex) (OpenSquare ∷ us) refl (open_square_lexes rest us goes)
+ex_lexes rest us goes = one_lexes 63 (91 ∷ rest) (Quantifier Ex) (OpenSquare ∷ us) refl (one_lexes 91 rest OpenSquare us refl goes)
 
 pub head_end_lexes : (rest : List ℕ) (us : List Token) → Lexes rest us → Lexes (93 ∷ 58 ∷ 32 ∷ rest) (CloseSquare ∷ Colon ∷ us)
-head_end_lexes rest us goes = close_square_lexes (58 ∷ 32 ∷ rest) (Colon ∷ us) (colon_lexes (32 ∷ rest) us (space_lexes rest us goes))
+unfolding scanned
+head_end_lexes rest us goes = one_lexes 93 (58 ∷ 32 ∷ rest) CloseSquare (Colon ∷ us) refl (one_lexes 58 (32 ∷ rest) Colon us refl (space_lexes rest us goes))
 
 -- ` & `, ` | `, ` => `, ` = ` and ` != `
 pub and_lexes : (rest : List ℕ) (us : List Token) → Lexes rest us → Lexes (32 ∷ 38 ∷ 32 ∷ rest) (Chain And ∷ us)
@@ -146,20 +137,14 @@ capital_no_blank b h = grind (arith, nat_tests)
 capital_no_lower : (b : ℕ) → is_ascii_uppercase b ≡ true → is_ascii_lowercase b ≡ false
 capital_no_lower b h = grind (arith, nat_tests)
 
-first_choice : (b : Bool) (x y : Scan) → b ≡ true → (if b then x else y) ≡ x
-first_choice b x y e = rw e refl
-
-second_choice : (b : Bool) (x y z : Scan) → b ≡ false → y ≡ z → (if b then x else y) ≡ z
-second_choice b x y z e is = rw e is
-
 lower_scanned : (b : ℕ) (bs : List ℕ) → is_ascii_lowercase b ≡ true → scanned (b ∷ bs) ≡ Found (Name (word_at b bs)) (word_length bs)
 unfolding scanned
-lower_scanned b bs h = second_choice (is_blank b) _ _ _ (lower_no_blank b h) (first_choice (is_ascii_lowercase b) _ _ h)
+lower_scanned b bs h = cond-false (is_blank b) _ _ (lower_no_blank b h) ∙ cond-true (is_ascii_lowercase b) _ _ h
 
 capital_scanned : (b : ℕ) (bs : List ℕ) → is_ascii_uppercase b ≡ true → scanned (b ∷ bs) ≡ Found (Variable (variable_of (word_at b bs) (number_of_text (word_at b bs)))) (word_length bs)
 unfolding scanned
 capital_scanned b bs h =
-    second_choice (is_blank b) _ _ _ (capital_no_blank b h) (second_choice (is_ascii_lowercase b) _ _ _ (capital_no_lower b h) (first_choice (is_ascii_uppercase b) _ _ h))
+    cond-false (is_blank b) _ _ (capital_no_blank b h) ∙ (cond-false (is_ascii_lowercase b) _ _ (capital_no_lower b h) ∙ cond-true (is_ascii_uppercase b) _ _ h)
 
 lower_lexes : (b : ℕ) (w rest : List ℕ) (us : List Token) → is_ascii_lowercase b ≡ true → list_all is_word_byte w ≡ true → goes_on rest ≡ false → Lexes rest us → Lexes (b ∷ (w ++ rest)) (Name (b ∷ w) ∷ us)
 lower_lexes b w rest us low all stop goes =
@@ -175,31 +160,15 @@ capital_lexes b w rest o us upper all number stop goes =
     ∙ ap (λ (p : Option ℕ). Found (Variable (variable_of (b ∷ w) p)) (suc (length w))) number)) goes
 
 -- digits
-glyph_in_word : (d : ℕ) → d < 10 → is_word_byte (digit_glyph false d) ≡ true
-glyph_in_word d below =
-    let test : ltb d 10 ≡ true = grind (arith, nat_tests) in
-    ap (λ (b : Bool). is_word_byte (cond b (48 + d) (87 + d))) test ∙ digit_in_word (48 + d) (omega arith) (omega arith)
-  where
-    digit_in_word : (b : ℕ) → 48 ≤ b → b ≤ 57 → is_word_byte b ≡ true
-    digit_in_word b low high = grind (arith, nat_tests)
+digit_in_word : (b : ℕ) → 48 ≤ b → b ≤ 57 → is_word_byte b ≡ true
+digit_in_word b low high = grind (arith, nat_tests)
 
-all_chosen : (b : Bool) (xs ys : List ℕ) → list_all is_word_byte xs ≡ true → list_all is_word_byte ys ≡ true → list_all is_word_byte (cond b xs ys) ≡ true
-all_chosen true xs ys p q = p
-all_chosen false xs ys p q = q
-
-digits_in_word : (k n : ℕ) (acc : List ℕ) → list_all is_word_byte acc ≡ true → list_all is_word_byte (digits_onto k 10 false n acc) ≡ true
-digits_in_word zero n acc p = p
-digits_in_word (suc k) n acc p =
-    let glyph = digit_glyph false (n % 10) in
-    let with_it = and_from (is_word_byte glyph) (list_all is_word_byte acc) (glyph_in_word (n % 10) (omega arith)) p in
-    all_chosen (eqb (n / 10) 0) (glyph ∷ acc) (digits_onto k 10 false (n / 10) (glyph ∷ acc)) with_it (digits_in_word k (n / 10) (glyph ∷ acc) with_it)
-
-decimal_in_word : (n : ℕ) → list_all is_word_byte (decimal n) ≡ true
-unfolding digits
-decimal_in_word n = digits_in_word 64 n [] refl
+decimal_in_word : (n : ℕ) → n < 2 ^ 64 → list_all is_word_byte (decimal n) ≡ true
+decimal_in_word n short = decimal_by_steps (λ m ds. list_all is_word_byte ds ≡ true) (λ m l. and_from _ true (digit_in_word (48 + m) (omega arith) (omega arith)) refl)
+    (λ m ds l h. list_all-append is_word_byte ds ((48 + m % 10) ∷ []) ∙ and_from _ _ h (and_from _ true (digit_in_word (48 + m % 10) (omega arith) (omega arith)) refl)) n short
 
 pub numbered_lexes : (n : ℕ) (rest : List ℕ) (us : List Token) → n < 2 ^ 64 → goes_on rest ≡ false → Lexes rest us → Lexes (numbered_text n ++ rest) (Variable (Num n) ∷ us)
-numbered_lexes n rest us short stop goes = capital_lexes 86 (decimal n) rest (Some n) us refl (decimal_in_word n) (number_of_numbered n short) stop goes
+numbered_lexes n rest us short stop goes = capital_lexes 86 (decimal n) rest (Some n) us refl (decimal_in_word n short) (number_of_numbered n short) stop goes
 
 none_is : (o : Option ℕ) → is_none o ≡ true → o ≡ None
 none_is None h = refl
@@ -214,9 +183,6 @@ variable_lexes (Word (b ∷ w)) rest us h short stop goes =
 variable_lexes (Num n) rest us h short stop goes = numbered_lexes n rest us (short n refl) stop goes
 
 -- names in quotes
-
-special_or : (b : ℕ) → (eqb b 39 || eqb b 92) ≡ false → (eqb b 39 ≡ false) × (eqb b 92 ≡ false)
-special_or b h = (grind (arith, nat_tests), grind (arith, nat_tests))
 
 quotes_read : (bs x rest : List ℕ) (n : ℕ) → list_all is_printable bs ≡ true → scan_quoted x false n (flat_map escaped bs ++ 39 ∷ rest) ≡ quoted_name (x ++ bs) (n + length (flat_map escaped bs))
 quotes_read [] x rest n h = λ i. quoted_name (sym (append-nil x) i) (let none : n ≡ n + 0 = omega arith in none i)
@@ -235,14 +201,14 @@ quotes_read (b ∷ bs) x rest n h =
         → scan_quoted (x ++ b ∷ []) false (suc (suc n)) (flat_map escaped bs ++ 39 ∷ rest) ≡ quoted_name ((x ++ b ∷ []) ++ bs) (suc (suc n) + length (flat_map escaped bs))
         → scan_quoted x false n (92 ∷ b ∷ (flat_map escaped bs ++ 39 ∷ rest)) ≡ quoted_name (x ++ b ∷ bs) (n + suc (suc (length (flat_map escaped bs))))
     after_escape b bs x rest n special is =
-        first_choice (eqb b 39 || eqb b 92) _ _ special ∙ (is ∙ named b bs x _ _ (omega arith))
+        cond-true (eqb b 39 || eqb b 92) _ _ special ∙ (is ∙ named b bs x _ _ (omega arith))
 
     without_escape : (b : ℕ) (bs x rest : List ℕ) (n : ℕ) → (eqb b 39 || eqb b 92) ≡ false → is_printable b ≡ true
         → scan_quoted (x ++ b ∷ []) false (suc n) (flat_map escaped bs ++ 39 ∷ rest) ≡ quoted_name ((x ++ b ∷ []) ++ bs) (suc n + length (flat_map escaped bs))
         → scan_quoted x false n (b ∷ (flat_map escaped bs ++ 39 ∷ rest)) ≡ quoted_name (x ++ b ∷ bs) (n + suc (length (flat_map escaped bs)))
     without_escape b bs x rest n plain prints is =
-        let no = special_or b plain in
-        second_choice (eqb b 39) _ _ _ no.0 (second_choice (eqb b 92) _ _ _ no.1 (first_choice (is_printable b) _ _ prints ∙ (is ∙ named b bs x _ _ (omega arith))))
+        let no = or_parts (eqb b 39) (eqb b 92) plain in
+        cond-false (eqb b 39) _ _ no.0 ∙ (cond-false (eqb b 92) _ _ no.1 ∙ (cond-true (is_printable b) _ _ prints ∙ (is ∙ named b bs x _ _ (omega arith))))
 
 quoted_scanned : (b : ℕ) (bs rest : List ℕ) → list_all is_printable (b ∷ bs) ≡ true → scanned (39 ∷ (flat_map escaped (b ∷ bs) ++ 39 ∷ rest)) ≡ Found (Name (b ∷ bs)) (suc (1 + length (flat_map escaped (b ∷ bs))))
 unfolding scanned

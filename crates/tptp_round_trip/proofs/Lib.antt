@@ -1,9 +1,8 @@
 pub mod Tokens
 pub mod Opened
-pub mod TermTokens
-pub mod FormulaTokens
+pub mod TokenReading
 pub mod Bytes
 pub mod Texts
 pub mod Names
-pub mod RoundTrip
 pub mod Exact
+pub mod RoundTrip

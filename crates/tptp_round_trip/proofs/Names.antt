@@ -1,13 +1,12 @@
 -- The numbers that are chosen for quantifiers rise, aren't free in the formula, and are small where few variables are.
-use Rattle.std.proofs.Common.{◌≡◌, inl, inr, ℕ, ◌+◌, ◌<◌, ◌≤◌, Bool, true, false, eqb, T, ◌||◌, List, [], ◌∷◌, length, refl, sym, ap, ◌∙◌, arith}
-use Rattle.std.specs.Prelude.{nat_le}
+use Rattle.std.proofs.Common.{◌≡◌, inl, inr, ℕ, ◌+◌, ◌<◌, ◌≤◌, Bool, false, eqb, T, ◌||◌, List, [], ◌∷◌, length, refl, sym, ap, ◌∙◌, arith}
 use Rattle.std.specs.List.{list_any, filter_map}
-use Rattle.std.specs.declared.cmp.Ordering.TheVariants.{Less, Equal, Greater}
+use Rattle.std.specs.declared.cmp.Ordering.TheVariants.{Less}
 use Rattle.std.specs.Ordering.{eq_by_cmp, is_lt, nat_cmp}
-use Rattle.std.specs.Cmp.{unsigned_tied, nat_cmp_is}
+use Rattle.std.specs.Cmp.{unsigned_tied}
 use Rattle.std.specs.FinMap.Entries.{below_all, is_sorted}
-use Rattle.std.proofs.lemmas.Bool.{cases_lt}
-use Rattle.std.proofs.lemmas.Bool.Decides.{nat_tests}
+use Rattle.std.proofs.lemmas.Bool.{cases_lt, le-leb, lt-leb, ne_eqb}
+use Rattle.std.proofs.lemmas.Cmp.{ranked}
 use Rattle.fol.specs.declared.symbols.Var.{Var}
 use Rattle.fol.specs.declared.symbols.Var.TheVariants.{Word, Num}
 use Rattle.fol.specs.Syntax.{Formula}
@@ -21,17 +20,11 @@ use Rattle.free_variables.proofs.OccurrenceLaws.{free_var_members}
 use Rattle.tptp_print.specs.Choice.{number_of, numbers_of, outside}
 use Rattle.tptp_round_trip.proofs.Opened.{AreRising}
 
-le_true : (a b : ℕ) → a ≤ b → nat_le a b ≡ true
-le_true a b l = grind (arith, nat_tests)
-
-le_false : (a b : ℕ) → b < a → nat_le a b ≡ false
-le_false a b l = grind (arith, nat_tests)
-
 passed : (n : ℕ) (ns : List ℕ) (d : ℕ) → n ≤ d → outside (n ∷ ns) d ≡ outside ns (d + 1)
-passed n ns d l = let e : nat_le n d ≡ true = le_true n d l in rw e refl
+passed n ns d l = rw (le-leb n d l) refl
 
 stopped : (n : ℕ) (ns : List ℕ) (d : ℕ) → d < n → outside (n ∷ ns) d ≡ d
-stopped n ns d l = let e : nat_le n d ≡ false = le_false n d l in rw e refl
+stopped n ns d l = rw (lt-leb n d l) refl
 
 -- each number is at least its place, and above it by the numbers that are passed at most
 at_least : (ns : List ℕ) (d : ℕ) → d ≤ outside ns d
@@ -70,14 +63,11 @@ abbrev DoRise : List ℕ → Type 0
 DoRise [] = Unit {0}
 DoRise (n ∷ ns) = IsAbove n ns × DoRise ns
 
-other : (a b : ℕ) → a < b → (eqb a b ≡ false) × (eqb b a ≡ false)
-other a b l = (grind (arith, nat_tests), grind (arith, nat_tests))
-
 none_above : (n m : ℕ) (ns : List ℕ) → m ≤ n → IsAbove n ns → list_any (eqb m) ns ≡ false
 none_above n m [] le above = refl
 none_above n m (p ∷ ns) le above =
     let lower : m < p = omega (arith, above.0) in
-    ap (λ (b : Bool). b || list_any (eqb m) ns) (other m p lower).0 ∙ none_above n m ns le above.1
+    ap (λ (b : Bool). b || list_any (eqb m) ns) (ne_eqb m p (λ e. absurd (omega (arith, lower)))) ∙ none_above n m ns le above.1
 
 outside_apart : (ns : List ℕ) (d : ℕ) → DoRise ns → list_any (eqb (outside ns d)) ns ≡ false
 outside_apart [] d rise = refl
@@ -85,25 +75,17 @@ outside_apart (n ∷ ns) d rise =
     elim (cases_lt d n) [
       | inl before ↦
           ap (λ (m : ℕ). list_any (eqb m) (n ∷ ns)) (stopped n ns d before)
-          ∙ (ap (λ (b : Bool). b || list_any (eqb d) ns) (other d n before).0 ∙ none_above n d ns (omega arith) rise.0)
+          ∙ (ap (λ (b : Bool). b || list_any (eqb d) ns) (ne_eqb d n (λ e. absurd (omega (arith, before)))) ∙ none_above n d ns (omega arith) rise.0)
       | inr behind ↦
           let upper : n < outside ns (d + 1) = omega (arith, at_least ns (d + 1)) in
           ap (λ (m : ℕ). list_any (eqb m) (n ∷ ns)) (passed n ns d behind)
-          ∙ (ap (λ (b : Bool). b || list_any (eqb (outside ns (d + 1))) ns) (other n (outside ns (d + 1)) upper).1 ∙ outside_apart ns (d + 1) rise.1)
+          ∙ (ap (λ (b : Bool). b || list_any (eqb (outside ns (d + 1))) ns) (ne_eqb (outside ns (d + 1)) n (λ e. absurd (omega (arith, upper)))) ∙ outside_apart ns (d + 1) rise.1)
     ]
 
 -- the numbers of a rising list of variables rise
 
 lower_number : (n m : ℕ) → T (is_lt (nat_cmp n m)) → n < m
-lower_number n m h =
-    let is : nat_cmp n m ≡ Less = less (nat_cmp n m) h in
-    elim (cases_lt n m) [
-      | inl lower ↦ lower
-      | inr upper ↦ elim (cases_lt m n) [
-        | inl above ↦ let greater : Greater ≡ nat_cmp n m = nat_cmp_is n m Greater above in cc
-        | inr same ↦ let e : n ≡ m = omega arith in let equal : Equal ≡ nat_cmp n m = nat_cmp_is n m Equal e in cc
-      ]
-    ]
+lower_number n m h = ranked n m Less (sym (less (nat_cmp n m) h))
 
 numbers_above : (n : ℕ) (vs : List Var) → T (below_all var_cmp (Num n) (marked vs)) → IsAbove n (filter_map number_of vs)
 numbers_above n [] h = tt

@@ -1,5 +1,5 @@
 -- Canonical texts are read as what they were printed from.
-use Rattle.std.proofs.Common.{◌≡◌, ℕ, ◌+◌, ◌^◌, ◌<◌, ◌≤◌, suc, Bool, true, false, if◌then◌else◌, List, [], ◌∷◌, length, Result, Ok, Err, IfOk, refl, sym, ap, subst, append-nil, lit≤, arith}
+use Rattle.std.proofs.Common.{◌≡◌, ℕ, ◌+◌, ◌^◌, ◌<◌, ◌≤◌, suc, Bool, true, false, if◌then◌else◌, List, [], ◌∷◌, length, Result, Ok, Err, IfOk, refl, sym, ap, ◌∙◌, subst, append-nil, lit≤, arith}
 use Rattle.std.specs.List.{filter_map}
 use Rattle.fol.specs.declared.symbols.Var.{Var}
 use Rattle.fol.specs.declared.symbols.Var.TheVariants.{Word, Num}
@@ -8,27 +8,25 @@ use Rattle.fol.specs.Formed.{IsFormed, IsFormedTerm}
 use Rattle.finite.specs.Finite as set
 use Rattle.free_variables.specs.Occurrence.{is_free_in, vars_formula}
 use Rattle.tptp_tokens.specs.declared.tokens.Token.{Token}
-use Rattle.tptp_tokens.specs.declared.tokens.TextKind.{TextKind}
 use Rattle.tptp_tokens.specs.Stream.{Stream, ends, stream_of, Begins, here, behind}
 use Rattle.tptp_read.specs.declared.errors.TextError.{TextError}
 use Rattle.tptp_read.specs.Given.{GivesText}
-use Rattle.tptp_read.specs.declared.state.Limits.{Limits}
 use Rattle.tptp_read.specs.declared.state.Outcome.{Outcome}
 use Rattle.tptp_read.specs.declared.state.Outcome.TheVariants.{Formula as FormulaRead, Term as TermRead}
 use Rattle.tptp_read.specs.declared.state.Part.TheVariants.{First}
 use Rattle.tptp_read.specs.declared.state.Side.TheVariants.{Whole}
 use Rattle.tptp_read.specs.declared.state.TheConstants.{LIMITS}
-use Rattle.tptp_read.specs.Grammar.{IsTerm, IsFormula, formulas, terms}
-use Rattle.tptp_read.specs.Machine.{Reading, start, step, ending, read_tokens, ◌>>=◌}
-use Rattle.tptp_read.specs.Texts.{placed, read, IsFormulaText, IsTermText}
-use Rattle.tptp_read.proofs.Faults.{text_ok, one_reading}
+use Rattle.tptp_read.specs.Grammar.{IsTerm, IsFormula, Sort, formulas, terms}
+use Rattle.tptp_read.specs.Machine.{start, read_tokens}
+use Rattle.tptp_read.specs.Texts.{IsText, IsFormulaText, IsTermText, IsFormulaFault, IsTermFault, formula_reading, term_reading}
+use Rattle.tptp_read.proofs.Complete.{whole_read}
+use Rattle.tptp_read.proofs.Whole.{exact_formula, exact_term, one_text}
 use Rattle.tptp_print.specs.Choice.{number_of, numbers_of, outside}
 use Rattle.tptp_print.specs.Canonical.{is_equality, is_binary, is_and, is_or, term_text, formula_text, quantifier_depth, canonical, canonical_term}
 use Rattle.tptp_round_trip.specs.Limits.{term_levels, formula_levels, unit_levels, left_of_and_levels, left_of_or_levels, negation_levels, IsWithinLimits, IsTermWithinLimits, AreNumbersInRange, AreTermNumbersInRange}
 use Rattle.tptp_round_trip.proofs.Tokens.{term_tokens, formula_tokens}
 use Rattle.tptp_round_trip.proofs.Opened.{opened_closed, opened_closed_term}
-use Rattle.tptp_round_trip.proofs.TermTokens.{term_reads}
-use Rattle.tptp_round_trip.proofs.FormulaTokens.{formula_reads}
+use Rattle.tptp_round_trip.proofs.TokenReading.{term_reads, formula_reads}
 use Rattle.tptp_round_trip.proofs.Bytes.{Lexes, nothing_lexes}
 use Rattle.tptp_round_trip.proofs.Texts.{term_spelt, formula_spelt}
 use Rattle.tptp_round_trip.proofs.Exact.{term_within, formula_within}
@@ -37,7 +35,7 @@ use Rattle.tptp_round_trip.proofs.Names.{at_most, names_rise, names_apart}
 formula_lexes : (names : ℕ → ℕ) (f : Formula) → IsFormed f → ((n : ℕ) → is_free_in (Num n) f ≡ true → n < 2 ^ 64) → ((d : ℕ) → d < quantifier_depth f → names d < 2 ^ 64) → Lexes (formula_text names 0 f) (formula_tokens names 0 f [])
 formula_lexes names f formed short few =
     subst (λ (w : List ℕ). Lexes w (formula_tokens names 0 f [])) (append-nil (formula_text names 0 f))
-    (formula_spelt names (quantifier_depth f) few 0 f (omega arith) formed short [] [] refl nothing_lexes)
+    ((formula_spelt names (quantifier_depth f) few 0 f (omega arith) formed short).lexes [] [] refl nothing_lexes)
 
 pub formula_is_read : (f : Formula) → IsFormed f → IsWithinLimits f → AreNumbersInRange f → IsFormulaText (canonical f) f
 unfolding canonical
@@ -49,13 +47,13 @@ formula_is_read f formed fits short =
       length = text.0;
       whole = text.1;
       reads = subst (λ (g : Formula). IsFormula LIMITS 200 (formula_tokens names 0 f []) g []) (opened_closed names f 0 0 formed)
-          (formula_reads LIMITS names (names_rise f) (lit≤ tt) 0 f 200 [] formed (names_apart f) fits.1 fits.0);
+          (formula_reads LIMITS names (names_rise f) (lit≤ tt) 0 f formed (names_apart f) fits.1 200 [] fits.0);
     }
 
 term_lexes : (names : ℕ → ℕ) (t : Term) → IsFormedTerm t → AreTermNumbersInRange t → Lexes (term_text names 0 t) (term_tokens names 0 t [])
 term_lexes names t formed short =
     subst (λ (w : List ℕ). Lexes w (term_tokens names 0 t [])) (append-nil (term_text names 0 t))
-    (term_spelt names 0 (λ d l. absurd (omega arith)) 0 (omega arith) t formed short [] [] refl nothing_lexes)
+    ((term_spelt names 0 (λ d l. absurd (omega arith)) 0 (omega arith) t formed short).lexes [] [] refl nothing_lexes)
 
 pub term_is_read : (t : Term) → IsFormedTerm t → IsTermWithinLimits t → AreTermNumbersInRange t → IsTermText (canonical_term t) t
 unfolding canonical_term
@@ -71,49 +69,45 @@ term_is_read t formed fits short =
 
 -- what is read shows that the formula is within the limits
 
-end_read : (lim : Limits) (r : Reading) (at : ℕ) (w : Outcome) → read lim r (ends at) ≡ Ok w → ending r ≡ Ok w
-end_read lim r at w h =
-    elim (ending r) as (λ (x : Result Outcome TextKind). placed at x ≡ Ok w → x ≡ Ok w) [
-      | Ok v ↦ λ e. let same : v ≡ w = cc in ap (λ (z : Outcome). Ok z) same
-      | Err k ↦ λ e. cc
-    ] h
+same_tokens : (st rest rest' : Stream) (ts us : List Token) (n m : ℕ) → Begins st ts rest → Begins st us rest' → rest ≡ ends n → rest' ≡ ends m → ts ≡ us
+same_tokens st rest rest' ts us n m (here st') (here st'') is is' = refl
+same_tokens st rest rest' ts us n m (here st') (behind at t x y vs more) is is' = cc
+same_tokens st rest rest' ts us n m (behind at t x y vs more) (here st') is is' = cc
+same_tokens st rest rest' ts us n m (behind at t x y vs more) (behind at' t' x' y' vs' more') is is' =
+    let one : x ≡ x' = cc in
+    let others = same_tokens x y y' vs vs' n m more (subst (λ (z : Stream). Begins z vs' y') (sym one) more') is is' in cc
 
-tokens_read : (lim : Limits) (w : Outcome) (st rest : Stream) (ts : List Token) → Begins st ts rest → (end : ℕ) → rest ≡ ends end → (r : Reading) → read lim r st ≡ Ok w → read_tokens lim r ts ≡ Ok w
-tokens_read lim w st rest ts (here st') end is r h = end_read lim r end w (subst (λ (z : Stream). read lim r z ≡ Ok w) is h)
-tokens_read lim w st rest ts (behind at t st' rest' ts' begins) end is r h =
-    elim (step lim r t) as (λ (x : Result Reading TextKind). (placed at x >>= λ (s : Reading). read lim s st') ≡ Ok w → (x >>= λ (s : Reading). read_tokens lim s ts') ≡ Ok w) [
-      | Ok s ↦ λ e. tokens_read lim w st' rest' ts' begins end is s e
-      | Err k ↦ λ e. cc
-    ] h
+-- a text whose tokens these are is read by them
+tokens_read : (sort : Sort) (st : Stream) (w : Outcome) (ts : List Token) (n : ℕ) → Begins st ts (ends n) → IsText LIMITS sort st w → read_tokens LIMITS (start sort) ts ≡ Ok w
+tokens_read sort st w ts n begins text =
+    ap (read_tokens LIMITS (start sort)) (same_tokens st (ends n) (ends text.length) ts text.tokens n text.length begins text.whole refl refl) ∙ whole_read LIMITS sort text.tokens w text.reads
 
 pub formula_fits : (f g : Formula) → IsFormed f → AreNumbersInRange f → IsFormulaText (canonical f) g → IsWithinLimits f
 unfolding canonical
 formula_fits f g formed short text =
     let names = outside (numbers_of (vars_formula f set.empty)) in
     let lexes = formula_lexes names f formed short.0 short.1 0 in
-    let answer : read LIMITS (start formulas) (stream_of (formula_text names 0 f)) ≡ Ok (FormulaRead g) = text_ok LIMITS formulas (stream_of (formula_text names 0 f)) (FormulaRead g) text in
-    let reach = tokens_read LIMITS (FormulaRead g) (stream_of (formula_text names 0 f)) (ends lexes.0) (formula_tokens names 0 f []) lexes.1 lexes.0 refl (start formulas) answer in
+    let reach = tokens_read formulas (stream_of (formula_text names 0 f)) (FormulaRead g) (formula_tokens names 0 f []) lexes.0 lexes.1 text in
     let shown = formula_within LIMITS names (FormulaRead g) (names_rise f) (lit≤ tt) f [] formed (names_apart f) reach in
     let levels : 0 + formula_levels f ≤ 200 = shown.0 in
     (omega arith, shown.1)
 
 pub formula_only : (f g : Formula) → IsFormed f → AreNumbersInRange f → IsFormulaText (canonical f) g → g ≡ f
 formula_only f g formed short text =
-    let same = one_reading LIMITS formulas (stream_of (canonical f)) (FormulaRead g) (FormulaRead f) text (formula_is_read f formed (formula_fits f g formed short text) short) in cc
+    one_text (formula_reading (canonical f)) (IsFormulaText (canonical f)) (IsFormulaFault (canonical f)) (exact_formula (canonical f)) g f text (formula_is_read f formed (formula_fits f g formed short text) short)
 
 pub term_fits : (t u : Term) → IsFormedTerm t → AreTermNumbersInRange t → IsTermText (canonical_term t) u → IsTermWithinLimits t
 unfolding canonical_term
 term_fits t u formed short text =
     let names : ℕ → ℕ = λ d. d in
     let lexes = term_lexes names t formed short 0 in
-    let answer : read LIMITS (start terms) (stream_of (term_text names 0 t)) ≡ Ok (TermRead u) = text_ok LIMITS terms (stream_of (term_text names 0 t)) (TermRead u) text in
-    let reach = tokens_read LIMITS (TermRead u) (stream_of (term_text names 0 t)) (ends lexes.0) (term_tokens names 0 t []) lexes.1 lexes.0 refl (start terms) answer in
+    let reach = tokens_read terms (stream_of (term_text names 0 t)) (TermRead u) (term_tokens names 0 t []) lexes.0 lexes.1 text in
     let levels : 0 + term_levels t ≤ 200 = term_within LIMITS names (TermRead u) 0 t Whole [] First [] [] (lit≤ tt) formed reach in
     omega arith
 
 pub term_only : (t u : Term) → IsFormedTerm t → AreTermNumbersInRange t → IsTermText (canonical_term t) u → u ≡ t
 term_only t u formed short text =
-    let same = one_reading LIMITS terms (stream_of (canonical_term t)) (TermRead u) (TermRead t) text (term_is_read t formed (term_fits t u formed short text) short) in cc
+    one_text (term_reading (canonical_term t)) (IsTermText (canonical_term t)) (IsTermFault (canonical_term t)) (exact_term (canonical_term t)) u t text (term_is_read t formed (term_fits t u formed short text) short)
 
 -- the reader's answer to a canonical text
 

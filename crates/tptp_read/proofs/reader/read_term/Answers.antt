@@ -1,28 +1,22 @@
-use Rattle.tptp_read.proofs.Whole.{term_text, term_only, term_fault, term_first, one_term_text, one_term_fault}
-use Rattle.tptp_read.proofs.Formed.{term_formed_text}
-use Rattle.tptp_read.proofs.Readings.{term_given}
+use Rattle.fol.specs.Formed.{IsFormedTerm}
+use Rattle.std.proofs.lemmas.Result.{IfOk-weaker}
+use Rattle.tptp_read.specs.Texts.{IsTermText, IsTermFault, term_reading}
+use Rattle.tptp_read.proofs.Whole.{exact_term, is_text, is_fault, only_text, first_fault, one_text, one_fault}
+use Rattle.tptp_read.proofs.Formed.{term_text_formed}
 use Rattle.tptp_read.proofs.reader.read_term.Goals as goal
 
-pub returns-clause-text : goal.returns-clause-text
-returns-clause-text c = term_text c.args.text.now c.term_of.result c.term_of.ensures
-
-pub returns-clause-only : goal.returns-clause-only
-returns-clause-only c = term_only c.args.text.now c.term_of.result c.term_of.ensures
-
-pub returns-clause-fault : goal.returns-clause-fault
-returns-clause-fault c = term_fault c.args.text.now c.term_of.result c.term_of.ensures
-
-pub returns-clause-first : goal.returns-clause-first
-returns-clause-first c = term_first c.args.text.now c.term_of.result c.term_of.ensures
-
-pub returns-clause-one : goal.returns-clause-one
-returns-clause-one c = one_term_text c.args.text.now
-
-pub returns-clause-one_fault : goal.returns-clause-one_fault
-returns-clause-one_fault c = one_term_fault c.args.text.now
-
-pub returns-clause-formed : goal.returns-clause-formed
-returns-clause-formed c = term_formed_text c.args.text.now c.term_of.result (term_text c.args.text.now c.term_of.result c.term_of.ensures)
-
-pub returns-clause-reading : goal.returns-clause-reading
-returns-clause-reading c = term_given c.args.text.now c.term_of.result c.term_of.ensures
+pub returns : goal.returns
+returns c =
+    let text = c.args.text.now in
+    let given = c.term_of.ensures in
+    let is = is_text (term_reading text) (IsTermText text) (IsTermFault text) (exact_term text) c.term_of.result given in
+    record {
+      text = is;
+      only = only_text (term_reading text) (IsTermText text) (IsTermFault text) (exact_term text) c.term_of.result given;
+      fault = is_fault (term_reading text) (IsTermText text) (IsTermFault text) (exact_term text) c.term_of.result given;
+      first = first_fault (term_reading text) (IsTermText text) (IsTermFault text) (exact_term text) c.term_of.result given;
+      one = one_text (term_reading text) (IsTermText text) (IsTermFault text) (exact_term text);
+      one_fault = one_fault (term_reading text) (IsTermText text) (IsTermFault text) (exact_term text);
+      reading = given;
+      formed = IfOk-weaker c.term_of.result (IsTermText text) IsFormedTerm (term_text_formed text) is;
+    }
