@@ -3,7 +3,7 @@ use Rattle.std.proofs.Common.{◌≡◌, ℕ, ◌+◌, ◌<◌, ◌≤◌, List,
 use Rattle.std.proofs.lemmas.List.{drop_all}
 use Rattle.serde_json.specs.Data.{Data}
 use Rattle.serde_json.specs.View.{items_of}
-use Rattle.job_lang.specs.declared.reading.JobCause.{JobCause}
+use Rattle.job_words.specs.declared.causes.JobCause.{JobCause}
 use Rattle.job_lang.specs.declared.reading.ReadError.{ReadError}
 use Rattle.job_lang.specs.declared.reading.ReadError.TheVariants.{Fault, Memory}
 use Rattle.job_lang.specs.Fields.{Reading, ◌>>=◌, Fails, elements, each}

@@ -29,17 +29,18 @@ use Rattle.serde_json.specs.Data.{Data, Members, no_members, member}
 use Rattle.serde_json.specs.Find.{get, as_str, as_object}
 use Rattle.job_lang.specs.declared.places.Place.{Place}
 use Rattle.job_lang.specs.declared.places.Place.TheVariants as places
-use Rattle.job_lang.specs.declared.reading.JobCause.{JobCause}
-use Rattle.job_lang.specs.declared.reading.JobCause.TheVariants.{Field, Op as UnknownOp}
-use Rattle.job_lang.specs.declared.rules.RuleKind.{RuleKind}
-use Rattle.job_lang.specs.declared.rules.RuleKind.TheVariants as kinds
+use Rattle.job_words.specs.declared.causes.JobCause.{JobCause}
+use Rattle.job_words.specs.declared.causes.JobCause.TheVariants.{Field, Op as UnknownOp}
+use Rattle.job_words.specs.declared.kinds.RuleKind.{RuleKind}
+use Rattle.job_words.specs.declared.kinds.RuleKind.TheVariants as kinds
 use Rattle.job_lang.specs.declared.jobs.Op.{Op}
 use Rattle.job_lang.specs.declared.jobs.Op.TheVariants.{Lk, Problem, Proves, Show, Measure, Subst, Cutelim, Resolution}
 use Rattle.job_lang.specs.Places.{path}
 use Rattle.job_lang.specs.Fields.{Reading, ◌>>=◌, or_fault, text_at, list_at, each}
 use Rattle.job_lang.specs.Formulas.{in_field, formula_text, formula_at, term_at, variable_at, side_at}
 use Rattle.job_lang.specs.Problems.{problem_at}
-use Rattle.job_lang.specs.Rules.{is_text, kind_named, main_at, rule_of_kind, rule_of}
+use Rattle.job_lang.specs.Rules.{main_at, rule_of_kind, rule_of}
+use Rattle.job_words.specs.RuleKinds.{is_text, kind_named}
 use Rattle.job_lang.specs.Steps.{premises_of, step_of, step_at, steps_of, steps_at}
 use Rattle.job_lang.specs.FormedOps.{IsFormedOp}
 use Rattle.job_lang.specs.Maps.{member_path, binding_of, map_of, map_at}

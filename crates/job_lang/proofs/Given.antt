@@ -1,6 +1,6 @@
 -- Errors of the code that are faults of reading.
 use Rattle.std.proofs.Common.{◌≡◌, Err, ap, sym, ◌∙◌}
-use Rattle.job_lang.specs.declared.reading.JobCause.{JobCause}
+use Rattle.job_words.specs.declared.causes.JobCause.{JobCause}
 use Rattle.job_lang.specs.declared.reading.ReadError.{ReadError}
 use Rattle.job_lang.specs.declared.reading.ReadError.TheVariants.{Fault, Memory}
 use Rattle.job_lang.specs.Fields.{Reading, IsCause, Fails}

@@ -2,6 +2,4 @@ pub mod Given
 pub mod Each
 pub mod LineValues
 pub mod JobReadings
-pub mod Printable
-pub mod Printed
 pub mod FormedReadings

@@ -4,7 +4,7 @@ use Rattle.std.specs.Prelude.{None}
 use Rattle.std.specs.Str.{IsUtf8, is_utf8}
 use Rattle.std.proofs.lemmas.Str.{IsUtf8-from_is_utf8}
 use Rattle.serde_json.specs.Read.{read}
-use Rattle.job_lang.specs.declared.reading.JobCause.TheVariants.{Json}
+use Rattle.job_words.specs.declared.causes.JobCause.TheVariants.{Json}
 use Rattle.job_lang.specs.Fields.{or_fault}
 use Rattle.job_lang.specs.Jobs.{value_of}
 

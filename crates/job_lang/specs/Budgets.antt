@@ -3,8 +3,8 @@ use Rattle.std.specs.Prelude.{ℕ, codes, Option, Some, None, Ok, Err, option_an
 use Rattle.serde_json.specs.Data.{Data}
 use Rattle.serde_json.specs.Find.{get, as_number, as_u64}
 use Rattle.job_lang.specs.declared.places.Place.TheVariants.{Top}
-use Rattle.job_lang.specs.declared.reading.JobCause.{JobCause}
-use Rattle.job_lang.specs.declared.reading.JobCause.TheVariants.{Field}
+use Rattle.job_words.specs.declared.causes.JobCause.{JobCause}
+use Rattle.job_words.specs.declared.causes.JobCause.TheVariants.{Field}
 use Rattle.job_lang.specs.Places.{path}
 use Rattle.job_lang.specs.Fields.{Reading, ◌>>=◌, or_fault}
 

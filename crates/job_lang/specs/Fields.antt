@@ -3,8 +3,8 @@ use Rattle.std.specs.Prelude.{◌≡◌, ℕ, suc, List, [], ◌∷◌, Option, 
 use Rattle.serde_json.specs.Data.{Data, Items, no_items, item}
 use Rattle.serde_json.specs.Find.{get, as_str, as_array, as_number, as_u64}
 use Rattle.job_lang.specs.declared.places.Place.{Place}
-use Rattle.job_lang.specs.declared.reading.JobCause.{JobCause}
-use Rattle.job_lang.specs.declared.reading.JobCause.TheVariants.{Field}
+use Rattle.job_words.specs.declared.causes.JobCause.{JobCause}
+use Rattle.job_words.specs.declared.causes.JobCause.TheVariants.{Field}
 use Rattle.job_lang.specs.declared.reading.ReadError.{ReadError}
 use Rattle.job_lang.specs.declared.reading.ReadError.TheVariants.{Fault, Memory}
 use Rattle.job_lang.specs.Places.{path}

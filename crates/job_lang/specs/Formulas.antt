@@ -10,7 +10,7 @@ use Rattle.tptp_read.specs.Texts.{formula_reading, term_reading}
 use Rattle.serde_json.specs.Data.{Data}
 use Rattle.serde_json.specs.Find.{as_str}
 use Rattle.job_lang.specs.declared.places.Place.{Place}
-use Rattle.job_lang.specs.declared.reading.JobCause.TheVariants.{Field, Formula as FormulaCause}
+use Rattle.job_words.specs.declared.causes.JobCause.TheVariants.{Field, Formula as FormulaCause}
 use Rattle.job_lang.specs.Places.{path}
 use Rattle.job_lang.specs.Fields.{Reading, ◌>>=◌, or_fault, text_at, list_at, each}
 

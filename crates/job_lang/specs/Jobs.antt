@@ -4,7 +4,7 @@ use Rattle.std.specs.Str.{is_utf8}
 use Rattle.serde_json.specs.Data.{Data}
 use Rattle.serde_json.specs.Read.{read}
 use Rattle.job_lang.specs.declared.places.Place.TheVariants.{Top}
-use Rattle.job_lang.specs.declared.reading.JobCause.TheVariants.{Json, Field, Op as UnknownOp}
+use Rattle.job_words.specs.declared.causes.JobCause.TheVariants.{Json, Field, Op as UnknownOp}
 use Rattle.job_lang.specs.declared.reading.ReadError.{ReadError}
 use Rattle.job_lang.specs.declared.reading.ReadError.TheVariants.{Fault as ReadFault, Memory as ReadMemory}
 use Rattle.job_lang.specs.declared.jobs.Op.{Op}
@@ -12,13 +12,13 @@ use Rattle.job_lang.specs.declared.jobs.Op.TheVariants.{Lk, Problem, Proves, Sho
 use Rattle.job_lang.specs.declared.jobs.Job.{Job}
 use Rattle.job_lang.specs.declared.jobs.JobError.{JobError}
 use Rattle.job_lang.specs.declared.jobs.JobError.TheVariants.{Memory, Fault}
-use Rattle.job_lang.specs.Names.{is_job_name}
+use Rattle.job_words.specs.Names.{is_job_name}
 use Rattle.job_lang.specs.Places.{path}
 use Rattle.job_lang.specs.Fields.{Reading, ◌>>=◌, or_fault, text_at}
 use Rattle.job_lang.specs.Maps.{map_at}
 use Rattle.job_lang.specs.Budgets.{budget_at}
 use Rattle.job_lang.specs.Problems.{problem_at}
-use Rattle.job_lang.specs.Rules.{is_text}
+use Rattle.job_words.specs.RuleKinds.{is_text}
 use Rattle.job_lang.specs.Steps.{steps_at}
 use Rattle.job_lang.specs.Resolutions.{res_steps_at}
 

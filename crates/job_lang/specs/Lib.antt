@@ -1,4 +1,3 @@
-pub mod Names
 pub mod Places
 pub mod Fields
 pub mod Formulas
@@ -9,6 +8,4 @@ pub mod Rules
 pub mod Steps
 pub mod Resolutions
 pub mod Jobs
-pub mod Replies
-pub mod Shown
 pub mod FormedOps

@@ -10,7 +10,7 @@ use Rattle.tptp_read.specs.Texts.{term_reading}
 use Rattle.serde_json.specs.Data.{Data, Members, no_members, member}
 use Rattle.serde_json.specs.Find.{get, as_str, as_object}
 use Rattle.job_lang.specs.declared.places.Place.{Place}
-use Rattle.job_lang.specs.declared.reading.JobCause.TheVariants.{Field}
+use Rattle.job_words.specs.declared.causes.JobCause.TheVariants.{Field}
 use Rattle.job_lang.specs.Places.{path}
 use Rattle.job_lang.specs.Fields.{Reading, ◌>>=◌, or_fault}
 use Rattle.job_lang.specs.Formulas.{in_field}

@@ -5,7 +5,7 @@ use Rattle.tptp_problem.specs.declared.problems.Problem.{Problem}
 use Rattle.tptp_problem.specs.Reading.{problem_reading}
 use Rattle.serde_json.specs.Data.{Data}
 use Rattle.job_lang.specs.declared.places.Place.TheVariants.{Top}
-use Rattle.job_lang.specs.declared.reading.JobCause.TheVariants.{Tptp}
+use Rattle.job_words.specs.declared.causes.JobCause.TheVariants.{Tptp}
 use Rattle.job_lang.specs.Fields.{Reading, ◌>>=◌, text_at}
 
 -- a text's fault as that of the job

@@ -5,7 +5,7 @@ use Rattle.serde_json.specs.Data.{Data}
 use Rattle.serde_json.specs.Find.{as_object}
 use Rattle.job_lang.specs.declared.places.Place.{Place}
 use Rattle.job_lang.specs.declared.places.Place.TheVariants as places
-use Rattle.job_lang.specs.declared.reading.JobCause.TheVariants.{Field}
+use Rattle.job_words.specs.declared.causes.JobCause.TheVariants.{Field}
 use Rattle.job_lang.specs.Places.{path}
 use Rattle.job_lang.specs.Fields.{Reading, ◌>>=◌, or_fault, list_at, number_of, each}
 use Rattle.job_lang.specs.Formulas.{side_at}

@@ -6,13 +6,12 @@ ghost use Rattle.job_lang.specs.Jobs.{error_with, value_of as line_value, name_o
 
 use crate::budgets::{Budget, budget_at};
 use crate::maps::{FormedMap, map_at};
-use crate::names::{Name, is_name};
 use crate::places::Place;
 use crate::problems::problem_at;
-use crate::reading::{JobCause, ReadError, field_fault, text_at, written_at};
+use crate::reading::{ReadError, field_fault, text_at, written_at};
 use crate::resolutions::{ResSteps, res_steps_at};
-use crate::steps::{Steps, steps_at};
-use crate::texts::Utf8Text;
+use crate::steps::steps_at;
+use job_words::{JobCause, Name, Steps, Utf8Text, is_name};
 use serde_json::Value;
 use std::alloc::Global;
 use text_tables::FormulaTexts;

@@ -5,14 +5,14 @@ ghost use Rattle.fol.specs.Formed.{IsFormedTerm};
 ghost use Rattle.substitution.specs.Image.{IsFormedMap};
 ghost use Rattle.tptp_tokens.specs.declared.tokens.TextFault.{TextFault as Fault};
 ghost use Rattle.serde_json.specs.View.{view, members_view};
-ghost use Rattle.job_lang.specs.declared.reading.JobCause.TheVariants.{Field as FieldCause, Formula as FormulaCause};
+ghost use Rattle.job_words.specs.declared.causes.JobCause.TheVariants.{Field as FieldCause, Formula as FormulaCause};
 ghost use Rattle.job_lang.specs.Fields.{IsCause, Gives};
 ghost use Rattle.job_lang.specs.Maps.{member_path as path_of_member, binding_of as binding_data, map_of as map_data, map_at as map_member};
 
 use crate::places::{Place, field_path};
-use crate::reading::{JobCause, ReadError, field_fault};
-use crate::texts::Utf8Text;
+use crate::reading::{ReadError, field_fault};
 use fol::{Term, Var};
+use job_words::{JobCause, Utf8Text};
 use serde_json::{Map, Value};
 use std::alloc::{AllocError, Global};
 use std::marker::Model;

@@ -2,7 +2,7 @@
 ghost use Rattle.std.specs.Prelude.{◌≡◌, IfOk};
 ghost use Rattle.job_lang.specs.Places.{path};
 
-use crate::texts::Utf8Text;
+use job_words::Utf8Text;
 use std::alloc::{AllocError, Global};
 
 /// The object whose members are read.

@@ -4,7 +4,8 @@ ghost use Rattle.job_lang.specs.Fields.{Gives};
 ghost use Rattle.job_lang.specs.Problems.{problem_at as problem_member};
 
 use crate::places::Place;
-use crate::reading::{JobCause, ReadError, text_at};
+use crate::reading::{ReadError, text_at};
+use job_words::JobCause;
 use serde_json::Value;
 use std::alloc::Global;
 use tptp_problem::{Problem, ProblemError, read_problem};

@@ -2,31 +2,15 @@
 ghost use Rattle.std.specs.Prelude.{◌≡◌, map, Some, None};
 ghost use Rattle.serde_json.specs.View.{view};
 ghost use Rattle.tptp_tokens.specs.declared.tokens.TextFault.{TextFault as Fault};
-ghost use Rattle.job_lang.specs.declared.reading.JobCause.TheVariants.{Field as FieldCause, Formula as FormulaCause};
+ghost use Rattle.job_words.specs.declared.causes.JobCause.TheVariants.{Field as FieldCause, Formula as FormulaCause};
 ghost use Rattle.job_lang.specs.Places.{path};
 ghost use Rattle.job_lang.specs.Fields.{IsCause, Gives, text_at as text_member, list_at as list_member, number_of as number_data, each};
 
 use crate::places::{Place, field_path};
-use crate::texts::Utf8Text;
+use job_words::{JobCause, Utf8Text};
 use serde_json::Value;
 use std::alloc::{AllocError, AllocFailed, Global};
-use tptp_problem::ProblemKind;
 use tptp_tokens::TextFault;
-
-/// Why a line isn't read as a job: its first fault in the order of reading.
-#[derive(Debug, Drop)]
-pub enum JobCause {
-    /// The line has no JSON value.
-    Json,
-    /// A field is missing or of the wrong form.
-    Field(Utf8Text),
-    /// The operation is unknown.
-    Op,
-    /// The text of a formula or a term has a fault.
-    Formula { field: Utf8Text, fault: TextFault },
-    /// The text of a problem has a fault, at this byte of it.
-    Tptp { at: u64, kind: ProblemKind },
-}
 
 /// Why a field isn't read.
 #[derive(Debug, Drop)]

@@ -10,62 +10,11 @@ use crate::formulas::side_at;
 use crate::places::Place;
 use crate::reading::{ReadError, field_fault, list_at, numbers_of};
 use crate::rules::rule_of;
+use job_words::Steps;
 use lk_rules::{Numbers, Sequent, Step};
 use serde_json::Value;
 use std::alloc::Global;
-use std::marker::Model;
 use text_tables::FormulaTexts;
-
-/// The steps of a proof, each of which names a rule with well-formed parts.
-#[derive(Drop)]
-pub struct Steps {
-    items: Vec<Step>,
-}
-
-impl Model for Steps {
-    ghost use Rattle.std.specs.Prelude.{List};
-    ghost use Rattle.std.specs.List.{All};
-    ghost use Rattle.lk_rules.specs.declared.rule.Step.{Step};
-    ghost use Rattle.lk_rules.specs.Rules.{IsFormedRule};
-
-    ghost Value = { List Step };
-
-    ghost use Rattle.std.specs.Coded.{codes};
-    ghost use Rattle.lk_rules.specs.contracts.rule.Step as step;
-
-    ghost coded = { Prim.hlevel (codes, step.the_row.coded) };
-
-    ghost view = { λ s. s.items.items };
-
-    ghost invariant = { λ s. All (λ step. IsFormedRule step.rule) s.items.items };
-}
-
-impl Steps {
-    /// The list of these steps, each of which names a rule with well-formed parts.
-    pub fn from_vec(items: Vec<Step>) -> Steps
-        requires { All (λ s. IsFormedRule s.rule) items.items }
-        ensures { result ≡ items.items }
-    {
-        Steps { items }
-    }
-
-    /// The steps, in order.
-    pub fn as_slice(&self) -> &[Step]
-        ensures steps { result.now ≡ self.now }
-        ensures formed { All (λ s. IsFormedRule s.rule) result.now }
-    {
-        self.items.as_slice()
-    }
-
-    /// The steps as a list of their own.
-    pub fn into_vec(self) -> Vec<Step>
-        ensures steps { result.items ≡ self }
-        ensures formed { All (λ s. IsFormedRule s.rule) result.items }
-    {
-        let Steps { items } = self;
-        items
-    }
-}
 
 fn premises_of(alloc: Global, value: &Value, place: Place) -> Result<Numbers, ReadError>
     ensures { Gives (λ n. n) result (premises_data place (view value.now)) }
@@ -119,7 +68,7 @@ fn steps_of(alloc: Global, texts: &mut FormulaTexts, values: &[Value]) -> Result
         let step = step_at(alloc, texts, value, index)?;
         items.push(step)?;
     }
-    Ok(Steps { items })
+    Ok(Steps::from_vec(items))
 }
 
 /// The steps of the job.

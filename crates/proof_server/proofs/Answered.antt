@@ -4,7 +4,7 @@ use Rattle.tptp_problem.specs.ProblemClauses.{IsReadProblem}
 use Rattle.proof_graph.specs.declared.graph.Graph.{Graph}
 use Rattle.job_lang.specs.declared.jobs.Op.{Op}
 use Rattle.job_lang.specs.FormedOps.{IsFormedOp}
-use Rattle.job_lang.specs.declared.replies.Outcome.{Outcome}
+use Rattle.reply_lines.specs.declared.replies.Outcome.{Outcome}
 use Rattle.proof_server.specs.Values.{Value, proof, problem, Lookup, Run, done}
 use Rattle.proof_server.specs.Operations.{run}
 use Rattle.proof_server.specs.Means.{Answers, Means}

@@ -33,10 +33,10 @@ use Rattle.tptp_problem.specs.ProblemClauses.{clauses_of, IsReadProblem}
 use Rattle.tptp_problem.proofs.ReadClauses.{all_clauses}
 use Rattle.job_lang.specs.declared.jobs.Op.{Op}
 use Rattle.job_lang.specs.declared.jobs.Op.TheVariants.{Lk, Problem, Proves, Show, Measure, Subst, Cutelim, Resolution}
-use Rattle.job_lang.specs.declared.reading.JobCause.{JobCause}
-use Rattle.job_lang.specs.declared.replies.Outcome.{Outcome}
-use Rattle.job_lang.specs.declared.replies.Outcome.TheVariants as outcomes
-use Rattle.job_lang.specs.declared.replies.Summary.{Summary}
+use Rattle.job_words.specs.declared.causes.JobCause.{JobCause}
+use Rattle.reply_lines.specs.declared.replies.Outcome.{Outcome}
+use Rattle.reply_lines.specs.declared.replies.Outcome.TheVariants as outcomes
+use Rattle.reply_lines.specs.declared.replies.Summary.{Summary}
 use Rattle.job_lang.specs.Jobs.{reads_job}
 use Rattle.job_lang.proofs.FormedReadings.{formed_op}
 use Rattle.proof_server.specs.Jobs.{Past, is_too_long}

@@ -4,11 +4,11 @@ use Rattle.std.specs.Prelude.{Option, Some, None}
 use Rattle.std.proofs.lemmas.Bool.Decides.{nat_tests}
 use Rattle.job_lang.specs.declared.jobs.Job.{Job}
 use Rattle.job_lang.specs.declared.jobs.JobError.TheVariants.{Fault}
-use Rattle.job_lang.specs.declared.reading.JobCause.{JobCause}
-use Rattle.job_lang.specs.declared.replies.Outcome.TheVariants.{Reading, LineTooLong}
+use Rattle.job_words.specs.declared.causes.JobCause.{JobCause}
+use Rattle.reply_lines.specs.declared.replies.Outcome.TheVariants.{Reading, LineTooLong}
 use Rattle.job_lang.specs.Jobs.{reads_job, GivesJob}
 use Rattle.proof_server.specs.Jobs.{max_line, is_too_long}
-use Rattle.proof_server.specs.Values.{Lookup, Run, fault}
+use Rattle.proof_server.specs.Values.{Lookup, fault}
 use Rattle.proof_server.specs.Answers.{name_of, run_read, run_line}
 
 module _ (line : List ℕ) where

@@ -15,9 +15,9 @@ use Rattle.tptp_problem.specs.declared.problems.Problem.{Problem as TptpProblem}
 use Rattle.tptp_problem.specs.ProblemClauses.{clauses_of, IsReadProblem}
 use Rattle.job_lang.specs.declared.jobs.Op.{Op}
 use Rattle.job_lang.specs.declared.jobs.Op.TheVariants.{Lk, Problem, Proves, Show, Measure, Subst, Cutelim, Resolution}
-use Rattle.job_lang.specs.declared.reading.JobCause.{JobCause}
-use Rattle.job_lang.specs.declared.replies.Outcome.{Outcome}
-use Rattle.job_lang.specs.declared.replies.Outcome.TheVariants as outcomes
+use Rattle.job_words.specs.declared.causes.JobCause.{JobCause}
+use Rattle.reply_lines.specs.declared.replies.Outcome.{Outcome}
+use Rattle.reply_lines.specs.declared.replies.Outcome.TheVariants as outcomes
 use Rattle.job_lang.specs.Jobs.{reads_job}
 use Rattle.job_lang.specs.FormedOps.{IsFormedOp}
 use Rattle.job_lang.proofs.FormedReadings.{formed_op}

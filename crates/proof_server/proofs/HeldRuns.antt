@@ -13,7 +13,7 @@ use Rattle.tptp_problem.specs.declared.problems.Problem.{Problem as TptpProblem}
 use Rattle.tptp_problem.specs.ProblemClauses.{clauses_of}
 use Rattle.job_lang.specs.declared.jobs.Op.{Op}
 use Rattle.job_lang.specs.declared.jobs.Op.TheVariants.{Lk, Problem, Proves, Show, Measure, Subst, Cutelim, Resolution}
-use Rattle.job_lang.specs.declared.replies.Outcome.{Outcome}
+use Rattle.reply_lines.specs.declared.replies.Outcome.{Outcome}
 use Rattle.proof_server.specs.Values.{Value, proof, problem, Lookup, Run, short}
 use Rattle.proof_server.specs.Naming.{is_proof, is_problem, given}
 use Rattle.proof_server.specs.Operations.{admits, on_proof, on_problem, shows, measures, substitutes, reduced, eliminates, has_closure, refuted, refutes, proves, run}

@@ -2,7 +2,8 @@
 use Rattle.std.proofs.Common.{◌≡◌, ℕ, Bool, true, false, cond, List, refl, sym, ap, ◌∙◌, subst}
 use Rattle.std.specs.Prelude.{Option, Some, None, is_some}
 use Rattle.std.specs.Ordering.{eq_by_cmp}
-use Rattle.std.specs.BTreeMap.{get}
+use Rattle.std.specs.HashMap.{get_by_text}
+use Rattle.std.specs.Str.{bytes_eq}
 use Rattle.std.proofs.lemmas.Map.Text.{is_eq-slice_cmp}
 use Rattle.std.proofs.lemmas.Slice.Eq.{bytes_eq-Decides}
 use Rattle.fol.specs.Order.{text_cmp}
@@ -43,29 +44,29 @@ module _ (g : Graph) (earlier : List Past) (job : Past) (name : List ℕ) (value
   this : (q : List ℕ) → name_of job.line ≡ Some name → eq_by_cmp text_cmp name q ≡ true → named_value q (name_of job.line) value ≡ Some value
   this q named same = ap (λ o. named_value q o value) named ∙ ap (λ (b : Bool). cond b (Some value) None) same
 
-  pub known_already : (names : Names) → Knows g names earlier → name_of job.line ≡ Some name → is_some (get text_cmp names.held name) ≡ true
-      → (q : List ℕ) → Matches g (get text_cmp names.held q) (or_else (held_of earlier q) (named_value q (name_of job.line) value))
+  pub known_already : (names : Names) → Knows g names earlier → name_of job.line ≡ Some name → is_some (get_by_text names.held name) ≡ true
+      → (q : List ℕ) → Matches g (get_by_text names.held q) (or_else (held_of earlier q) (named_value q (name_of job.line) value))
   known_already names known named there q = by_test (eq_by_cmp text_cmp name q) refl
     where
-      by_test : (b : Bool) → eq_by_cmp text_cmp name q ≡ b → Matches g (get text_cmp names.held q) (or_else (held_of earlier q) (named_value q (name_of job.line) value))
+      by_test : (b : Bool) → eq_by_cmp text_cmp name q ≡ b → Matches g (get_by_text names.held q) (or_else (held_of earlier q) (named_value q (name_of job.line) value))
       by_test true same =
-          matches_some g (get text_cmp names.held q) (held_of earlier q) (named_value q (name_of job.line) value)
-          (ap (λ (x : List ℕ). is_some (get text_cmp names.held x)) (sym (same_text name q same)) ∙ there) (known q)
-      by_test false differ = matches_first g (get text_cmp names.held q) (held_of earlier q) (named_value q (name_of job.line) value) (other q named differ) (known q)
+          matches_some g (get_by_text names.held q) (held_of earlier q) (named_value q (name_of job.line) value)
+          (ap (λ (x : List ℕ). is_some (get_by_text names.held x)) (sym (same_text name q same)) ∙ there) (known q)
+      by_test false differ = matches_first g (get_by_text names.held q) (held_of earlier q) (named_value q (name_of job.line) value) (other q named differ) (known q)
 
-  pub known_more : (before after : Names) (h : Held) → Knows g before earlier → name_of job.line ≡ Some name → is_some (get text_cmp before.held name) ≡ false
-      → ((q : List ℕ) → get text_cmp after.held q ≡ cond (eq_by_cmp text_cmp name q) (Some h) (get text_cmp before.held q)) → Means g h value
-      → (q : List ℕ) → Matches g (get text_cmp after.held q) (or_else (held_of earlier q) (named_value q (name_of job.line) value))
+  pub known_more : (before after : Names) (h : Held) → Knows g before earlier → name_of job.line ≡ Some name → is_some (get_by_text before.held name) ≡ false
+      → ((q : List ℕ) → get_by_text after.held q ≡ cond (bytes_eq name q) (Some h) (get_by_text before.held q)) → Means g h value
+      → (q : List ℕ) → Matches g (get_by_text after.held q) (or_else (held_of earlier q) (named_value q (name_of job.line) value))
   known_more before after h known named absent inserted means q = by_test (eq_by_cmp text_cmp name q) refl
     where
-      by_test : (b : Bool) → eq_by_cmp text_cmp name q ≡ b → Matches g (get text_cmp after.held q) (or_else (held_of earlier q) (named_value q (name_of job.line) value))
+      by_test : (b : Bool) → eq_by_cmp text_cmp name q ≡ b → Matches g (get_by_text after.held q) (or_else (held_of earlier q) (named_value q (name_of job.line) value))
       by_test true same =
           subst (λ (k : Option Held). Matches g k (or_else (held_of earlier q) (named_value q (name_of job.line) value)))
-          (sym (inserted q ∙ ap (λ (b : Bool). cond b (Some h) (get text_cmp before.held q)) same))
-          (matches_none g (get text_cmp before.held q) (Some h) (held_of earlier q) (named_value q (name_of job.line) value)
-          (ap (λ (x : List ℕ). is_some (get text_cmp before.held x)) (sym (same_text name q same)) ∙ absent) (known q)
+          (sym (inserted q ∙ ap (λ (b : Bool). cond b (Some h) (get_by_text before.held q)) (sym (is_eq-slice_cmp name q) ∙ same)))
+          (matches_none g (get_by_text before.held q) (Some h) (held_of earlier q) (named_value q (name_of job.line) value)
+          (ap (λ (x : List ℕ). is_some (get_by_text before.held x)) (sym (same_text name q same)) ∙ absent) (known q)
           (subst (λ (w : Option Value). Matches g (Some h) w) (sym (this q named same)) means))
       by_test false differ =
           subst (λ (k : Option Held). Matches g k (or_else (held_of earlier q) (named_value q (name_of job.line) value)))
-          (sym (inserted q ∙ ap (λ (b : Bool). cond b (Some h) (get text_cmp before.held q)) differ))
-          (matches_first g (get text_cmp before.held q) (held_of earlier q) (named_value q (name_of job.line) value) (other q named differ) (known q))
+          (sym (inserted q ∙ ap (λ (b : Bool). cond b (Some h) (get_by_text before.held q)) (sym (is_eq-slice_cmp name q) ∙ differ)))
+          (matches_first g (get_by_text before.held q) (held_of earlier q) (named_value q (name_of job.line) value) (other q named differ) (known q))

@@ -14,3 +14,4 @@ pub mod Refuted
 pub mod Reduced
 pub mod Endings
 pub mod Proving
+pub mod Suffixes

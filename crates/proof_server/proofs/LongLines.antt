@@ -1,15 +1,14 @@
 -- A line that is too long is refused and has no name.
 use Rattle.std.proofs.Common.{◌≡◌, ℕ, ◌<◌, false, List, ◌∷◌, length, refl, sym, ap, subst}
 use Rattle.std.specs.Prelude.{Option, Some, None}
-use Rattle.job_lang.specs.declared.replies.Outcome.TheVariants.{LineTooLong}
+use Rattle.reply_lines.specs.declared.replies.Outcome.TheVariants.{LineTooLong}
 use Rattle.proof_server.specs.Jobs.{Past, max_line}
 use Rattle.proof_server.specs.Values.{Value, Run, concluded}
 use Rattle.proof_server.specs.Naming.{or_else}
 use Rattle.proof_server.specs.Answers.{name_of, named_value, run_line, held_of, may_lack}
 use Rattle.proof_server.specs.Means.{Matches, graph_in, IsStore}
 use Rattle.proof_server.specs.Shown.{job_of, IsAnswered}
-use Rattle.std.specs.BTreeMap.{get}
-use Rattle.fol.specs.Order.{text_cmp}
+use Rattle.std.specs.HashMap.{get_by_text}
 use Rattle.proof_graph.specs.declared.graph.Graph.{Graph}
 use Rattle.proof_server.specs.declared.held.Held.{Held}
 use Rattle.proof_server.specs.declared.store.Store.{Store}
@@ -25,8 +24,8 @@ nameless store earlier line behind none = record {
   pass = behind.pass;
   known = λ q.
       let value = (concluded false (run_line (held_of earlier) line)).value in
-      subst (λ (o : Option Value). Matches (graph_in store) (get text_cmp store.names.held q) (or_else (held_of earlier q) o))
-      (sym (ap (λ name. named_value q name value) none)) (no_more (graph_in store) (get text_cmp store.names.held q) (held_of earlier q) (behind.known q));
+      subst (λ (o : Option Value). Matches (graph_in store) (get_by_text store.names.held q) (or_else (held_of earlier q) o))
+      (sym (ap (λ name. named_value q name value) none)) (no_more (graph_in store) (get_by_text store.names.held q) (held_of earlier q) (behind.known q));
 }
 
 pub long_answered : (line : List ℕ) (earlier : List Past) (store : Store) → IsStore store earlier → max_line < length line

@@ -1,6 +1,6 @@
 -- What it comes to whether a proof proves a problem where one of the two isn't there.
 use Rattle.std.proofs.Common.{◌≡◌, Result, Ok, Err, refl, sym, subst}
-use Rattle.job_lang.specs.declared.replies.Outcome.{Outcome}
+use Rattle.reply_lines.specs.declared.replies.Outcome.{Outcome}
 use Rattle.proof_graph.specs.declared.graph.Graph.{Graph}
 use Rattle.tptp_problem.specs.declared.problems.Problem.{Problem}
 use Rattle.proof_server.specs.declared.operations.Ran.{Ran}

@@ -2,7 +2,7 @@
 use Rattle.std.proofs.Common.{◌≡◌, ℕ, Option, Some, None, refl, sym, subst}
 use Rattle.proof_trees.specs.Trees.{Tree}
 use Rattle.proof_graph.specs.declared.graph.Graph.{Graph}
-use Rattle.job_lang.specs.declared.replies.Outcome.TheVariants as outcomes
+use Rattle.reply_lines.specs.declared.replies.Outcome.TheVariants as outcomes
 use Rattle.proof_server.specs.Values.{proof, done}
 use Rattle.proof_server.specs.Operations.{summary_of, reduced}
 use Rattle.proof_server.specs.Means.{Answers}

@@ -9,7 +9,7 @@ use Rattle.refutations.specs.declared.step.ResCause.{ResCause}
 use Rattle.refutations.specs.Refutations.{refutation}
 use Rattle.tptp_problem.specs.declared.problems.Problem.{Problem}
 use Rattle.tptp_problem.specs.ProblemClauses.{clauses_of}
-use Rattle.job_lang.specs.declared.replies.Outcome.TheVariants as outcomes
+use Rattle.reply_lines.specs.declared.replies.Outcome.TheVariants as outcomes
 use Rattle.proof_server.specs.Values.{proof, short, done}
 use Rattle.proof_server.specs.Operations.{summary_of, has_closure, refutation_shown, refuted, refutes_clauses, refutes}
 use Rattle.proof_server.specs.Means.{Answers}

@@ -1,6 +1,6 @@
 -- What the session needs to know of a reply line: there is one.
 use Rattle.std.proofs.Common.{◌<◌, List, length}
-use Rattle.job_lang.proofs.Printed.{length-line_of}
+use Rattle.reply_lines.proofs.ReplyTexts.{length-line_of}
 use Rattle.proof_server.specs.Jobs.{Past}
 use Rattle.proof_server.specs.Replying.{reply_of, reply_line}
 

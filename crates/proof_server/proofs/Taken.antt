@@ -3,7 +3,7 @@ use Rattle.std.proofs.Common.{◌≡◌, ℕ, Bool, true, false, List, Ok, sym, 
 use Rattle.std.specs.Prelude.{Some, if◌then◌else◌}
 use Rattle.proof_graph.specs.declared.graph.Graph.{Graph}
 use Rattle.job_lang.specs.declared.jobs.Op.{Op}
-use Rattle.job_lang.specs.declared.replies.Outcome.TheVariants.{NameTaken}
+use Rattle.reply_lines.specs.declared.replies.Outcome.TheVariants.{NameTaken}
 use Rattle.proof_server.specs.Values.{Lookup, fault}
 use Rattle.proof_server.specs.Operations.{run}
 use Rattle.proof_server.specs.Answers.{is_taken, run_read}

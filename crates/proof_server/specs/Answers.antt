@@ -3,9 +3,9 @@ use Rattle.std.specs.Prelude.{◌≡◌, ℕ, Bool, true, false, is_some, List, 
 use Rattle.std.specs.Ordering.{eq_by_cmp}
 use Rattle.fol.specs.Order.{text_cmp}
 use Rattle.job_lang.specs.declared.jobs.Op.{Op}
-use Rattle.job_lang.specs.declared.reading.JobCause.{JobCause}
-use Rattle.job_lang.specs.declared.replies.Outcome.{Outcome}
-use Rattle.job_lang.specs.declared.replies.Outcome.TheVariants.{LineTooLong, Reading, NameTaken}
+use Rattle.job_words.specs.declared.causes.JobCause.{JobCause}
+use Rattle.reply_lines.specs.declared.replies.Outcome.{Outcome}
+use Rattle.reply_lines.specs.declared.replies.Outcome.TheVariants.{LineTooLong, Reading, NameTaken}
 use Rattle.job_lang.specs.Jobs.{reads_job}
 use Rattle.proof_server.specs.Jobs.{Past, is_too_long}
 use Rattle.proof_server.specs.Values.{Value, Lookup, Run, fault, short, done, concluded}

@@ -15,9 +15,9 @@ use Rattle.tptp_problem.specs.declared.problems.Problem.{Problem}
 use Rattle.tptp_problem.specs.ProblemClauses.{clauses_of, IsReadProblem}
 use Rattle.job_lang.specs.declared.jobs.Op.{Op}
 use Rattle.job_lang.specs.declared.jobs.Op.TheVariants.{Lk, Subst, Cutelim, Resolution}
-use Rattle.job_lang.specs.declared.replies.Outcome.{Outcome}
-use Rattle.job_lang.specs.declared.replies.Outcome.TheVariants.{Proof, Reduced}
-use Rattle.job_lang.specs.declared.replies.Summary.{Summary}
+use Rattle.reply_lines.specs.declared.replies.Outcome.{Outcome}
+use Rattle.reply_lines.specs.declared.replies.Outcome.TheVariants.{Proof, Reduced}
+use Rattle.reply_lines.specs.declared.replies.Summary.{Summary}
 use Rattle.job_lang.specs.Jobs.{reads_job}
 use Rattle.proof_server.specs.Jobs.{Past}
 use Rattle.proof_server.specs.Values.{Value, proof, problem, Lookup, done}

@@ -9,8 +9,8 @@ use Rattle.proof_graph.specs.Graphs.{IsOf}
 use Rattle.tptp_problem.specs.ProblemClauses.{IsReadProblem}
 use Rattle.job_lang.specs.declared.jobs.Op.{Op}
 use Rattle.job_lang.specs.declared.jobs.Op.TheVariants.{Lk, Problem, Proves, Show, Measure, Subst, Cutelim, Resolution}
-use Rattle.job_lang.specs.declared.replies.Outcome.{Outcome}
-use Rattle.job_lang.specs.declared.replies.Outcome.TheVariants.{Memory}
+use Rattle.reply_lines.specs.declared.replies.Outcome.{Outcome}
+use Rattle.reply_lines.specs.declared.replies.Outcome.TheVariants.{Memory}
 use Rattle.proof_server.specs.Values.{lacking, Lookup, Run, fault, short, done}
 use Rattle.proof_server.specs.Naming.{pair_name}
 use Rattle.proof_server.specs.Means.{Means, Matches, ShowsName}

@@ -1,14 +1,13 @@
 -- What the values of the program stand for, over a graph.
 use Rattle.std.specs.Prelude.{◌≡◌, ℕ, List, Option, Some, None, Result, Ok, Err}
-use Rattle.std.specs.BTreeMap.{get}
-use Rattle.fol.specs.Order.{text_cmp}
+use Rattle.std.specs.HashMap.{get_by_text}
 use Rattle.proof_graph.specs.declared.graph.Graph.{Graph}
 use Rattle.proof_graph.specs.Graphs.{IsOf}
 use Rattle.proof_subst.specs.Benches.{graph_of}
 use Rattle.cut_elim.specs.Desks.{bench_of, IsDeskPassOf}
 use Rattle.tptp_problem.specs.declared.problems.Problem.{Problem}
-use Rattle.job_lang.specs.declared.replies.Outcome.{Outcome}
-use Rattle.job_lang.specs.declared.replies.Outcome.TheVariants.{UnknownName, Kind}
+use Rattle.reply_lines.specs.declared.replies.Outcome.{Outcome}
+use Rattle.reply_lines.specs.declared.replies.Outcome.TheVariants.{UnknownName, Kind}
 use Rattle.proof_server.specs.Jobs.{Past}
 use Rattle.proof_server.specs.Values.{Value, nothing, refused, lacking, proof, problem, Run, fault, short, done}
 use Rattle.proof_trees.specs.Trees.{Tree}
@@ -39,7 +38,7 @@ Matches g h v = ⊥
 
 -- the names with what they hold are those of these jobs
 abbrev pub Knows : Graph → Names → List Past → Type 0
-Knows g names earlier = (q : List ℕ) → Matches g (get text_cmp names.held q) (held_of earlier q)
+Knows g names earlier = (q : List ℕ) → Matches g (get_by_text names.held q) (held_of earlier q)
 
 -- the graph that the proofs of a store share
 abbrev pub graph_in : Store → Graph

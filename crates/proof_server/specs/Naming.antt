@@ -1,9 +1,9 @@
 -- Names of jobs as they are written in fields. A name with the suffix `.first` or `.second` stands for a proof of a pair, and no job holds
 -- a pair yet.
 use Rattle.std.specs.Prelude.{ℕ, ◌-◌, Bool, true, false, List, length, take, drop, codes, Option, Some, None, Result, Ok, Err, if◌then◌else◌}
-use Rattle.job_lang.specs.declared.replies.Outcome.{Outcome}
-use Rattle.job_lang.specs.declared.replies.Outcome.TheVariants.{UnknownName, Kind}
-use Rattle.job_lang.specs.Rules.{is_text}
+use Rattle.reply_lines.specs.declared.replies.Outcome.{Outcome}
+use Rattle.reply_lines.specs.declared.replies.Outcome.TheVariants.{UnknownName, Kind}
+use Rattle.job_words.specs.RuleKinds.{is_text}
 use Rattle.proof_server.specs.Values.{Value, lacking, proof, problem, Lookup}
 
 -- the text without a suffix that it has

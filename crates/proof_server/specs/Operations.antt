@@ -21,13 +21,13 @@ use Rattle.tptp_problem.specs.declared.problems.Problem.{Problem as TptpProblem}
 use Rattle.tptp_problem.specs.ProblemClauses.{clauses_of}
 use Rattle.job_lang.specs.declared.jobs.Op.{Op}
 use Rattle.job_lang.specs.declared.jobs.Op.TheVariants.{Lk, Problem, Proves, Show, Measure, Subst, Cutelim, Resolution}
-use Rattle.job_lang.specs.declared.replies.Outcome.{Outcome}
-use Rattle.job_lang.specs.declared.replies.Outcome.TheVariants as outcomes
-use Rattle.job_lang.specs.declared.replies.StepShown.{StepShown}
-use Rattle.job_lang.specs.declared.replies.StepShown.TheVariants.{Reference, Rule}
-use Rattle.job_lang.specs.declared.replies.RefutationShown.{RefutationShown}
-use Rattle.job_lang.specs.declared.replies.RefutationShown.TheVariants as refutation_shows
-use Rattle.job_lang.specs.declared.replies.Summary.{Summary}
+use Rattle.reply_lines.specs.declared.replies.Outcome.{Outcome}
+use Rattle.reply_lines.specs.declared.replies.Outcome.TheVariants as outcomes
+use Rattle.reply_lines.specs.declared.replies.StepShown.{StepShown}
+use Rattle.reply_lines.specs.declared.replies.StepShown.TheVariants.{Reference, Rule}
+use Rattle.reply_lines.specs.declared.replies.RefutationShown.{RefutationShown}
+use Rattle.reply_lines.specs.declared.replies.RefutationShown.TheVariants as refutation_shows
+use Rattle.reply_lines.specs.declared.replies.Summary.{Summary}
 use Rattle.proof_server.specs.Values.{Value, nothing, refused, proof, problem, Lookup, Run, fault, short, done}
 use Rattle.proof_server.specs.Naming.{given, is_proof, is_problem}
 

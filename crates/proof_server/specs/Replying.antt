@@ -1,7 +1,7 @@
 -- The reply line of a job.
 use Rattle.std.specs.Prelude.{ℕ, ◌+◌, Bool, List, length}
-use Rattle.job_lang.specs.declared.replies.Reply.{Reply}
-use Rattle.job_lang.specs.Replies.{line_of, is_ok_outcome}
+use Rattle.reply_lines.specs.declared.replies.Reply.{Reply}
+use Rattle.reply_lines.specs.Replies.{line_of, is_ok_outcome}
 use Rattle.proof_server.specs.Jobs.{Past}
 use Rattle.proof_server.specs.Answers.{name_of, outcome_of}
 

@@ -2,8 +2,8 @@
 use Rattle.std.specs.Prelude.{ℕ, Bool, true, false, List, Option}
 use Rattle.proof_trees.specs.Trees.{Tree}
 use Rattle.tptp_problem.specs.declared.problems.Problem.{Problem}
-use Rattle.job_lang.specs.declared.replies.Outcome.{Outcome}
-use Rattle.job_lang.specs.declared.replies.Outcome.TheVariants.{Memory}
+use Rattle.reply_lines.specs.declared.replies.Outcome.{Outcome}
+use Rattle.reply_lines.specs.declared.replies.Outcome.TheVariants.{Memory}
 
 -- A job holds a proof or a problem, or nothing that a later job could use; it was refused, or it reported want of memory.
 pub data Value : Type 0 where

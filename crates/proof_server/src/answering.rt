@@ -7,8 +7,8 @@ ghost use Rattle.refutations.specs.Refutations.{AreFormedSteps};
 ghost use Rattle.proof_graph.specs.declared.graph.Graph.{Graph};
 ghost use Rattle.proof_subst.specs.Benches.{graph_of, IsBenchPassOf};
 ghost use Rattle.cut_elim.specs.Desks.{bench_of, IsDeskPassOf};
-ghost use Rattle.job_lang.specs.declared.replies.Outcome.{Outcome as OutcomeValue};
-ghost use Rattle.job_lang.specs.declared.replies.Outcome.TheVariants.{UnknownName, Kind};
+ghost use Rattle.reply_lines.specs.declared.replies.Outcome.{Outcome as OutcomeValue};
+ghost use Rattle.reply_lines.specs.declared.replies.Outcome.TheVariants.{UnknownName, Kind};
 ghost use Rattle.proof_server.specs.Values.{Value, Lookup};
 ghost use Rattle.proof_server.specs.Naming.{pair_name as pair_of, given as given_in, is_proof, is_problem};
 ghost use Rattle.proof_server.specs.Operations.{shows, measures, substitutes, eliminates, refutes, proves as proves_of, on_proof, on_problem, run};
@@ -23,10 +23,12 @@ use crate::operations::{
     Ran, admit_steps, eliminate_in, hold, measure, proves, refute, show, substitute_in,
 };
 use cut_elim::{Desk, DeskPass};
-use job_lang::{Op, Outcome, Utf8Text};
+use job_lang::Op;
+use job_words::Utf8Text;
 use proof_graph::{Graph, ProofRef};
 use proof_subst::{Bench, BenchPass};
 use refutations::ResStep;
+use reply_lines::Outcome;
 use std::alloc::{AllocError, Global};
 use std::sync::Wait;
 use substitution::Subst;
@@ -42,7 +44,7 @@ fn text_copy(alloc: Global, text: &Utf8Text) -> Result<Utf8Text, AllocError>
 fn is_of_pair(text: &Utf8Text) -> bool
     ensures { result ≡ is_some (pair_of text.now) }
 {
-    pair_name(text.as_str().as_bytes()).is_some()
+    pair_name(text.as_str()).is_some()
 }
 
 // No earlier job has the name in a field.

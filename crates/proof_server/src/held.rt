@@ -6,7 +6,6 @@ use std::alloc::{AllocError, Global};
 use tptp_problem::Problem;
 
 /// The value that a name of a job stands for: what the job holds.
-#[derive(Drop)]
 pub enum Held {
     /// Nothing that a later job could use.
     Nothing,
@@ -20,6 +19,16 @@ pub enum Held {
     Proof(ProofRef),
     /// A problem.
     Problem(Problem),
+}
+
+impl Drop for Held {
+    fn drop(self) {
+        match self {
+            Held::Proof(proof) => drop(proof),
+            Held::Problem(problem) => drop(problem),
+            Held::Nothing | Held::Refused | Held::Unheld | Held::Unknown => {}
+        }
+    }
 }
 
 impl Held {

@@ -1,6 +1,5 @@
 //! The reply to a job.
 ghost use Rattle.std.specs.Prelude.{◌≡◌, ◌+◌, ◌<◌, ◌^◌, ◌∷◌, List, ℕ, IfOk, OnOk, length, false, option_copied, Some, Ok};
-ghost use Rattle.job_lang.specs.Replies.{is_ok_outcome};
 ghost use Rattle.proof_server.specs.Values.{concluded};
 ghost use Rattle.proof_server.specs.Jobs.{Past, IsKept, is_too_long};
 ghost use Rattle.proof_server.specs.Answers.{name_of, run_read, run_line, held_of};
@@ -9,8 +8,9 @@ ghost use Rattle.proof_server.specs.Shown.{IsConcluded, IsAnswered, IsReply};
 
 use crate::held::Held;
 use crate::store::{Conclusion, Store, refusal};
-use fol::Text;
-use job_lang::{Job, JobError, Name, Op, Outcome, Reply, read_job, reply_line};
+use job_lang::{Job, JobError, Op, read_job};
+use job_words::Name;
+use reply_lines::{Outcome, Reply, reply_line};
 use std::alloc::{AllocError, Global};
 use std::sync::Wait;
 use text_tables::{FormulaTexts, TextTables};
@@ -31,32 +31,12 @@ pub struct Shown {
     pub lacked: bool,
 }
 
-fn is_ok(outcome: &Outcome) -> bool
-    ensures { result ≡ is_ok_outcome outcome.now }
-{
-    matches!(
-        outcome,
-        Outcome::Proof(_)
-            | Outcome::Reduced(_, _)
-            | Outcome::Entries { .. }
-            | Outcome::Proves(_)
-            | Outcome::Steps(_)
-            | Outcome::Measure { .. }
-    )
-}
-
-fn name_text(alloc: Global, name: &Name) -> Result<Text, AllocError>
-    ensures { IfOk result (λ t. t ≡ name.now) }
-{
-    Text::from_vec(alloc, Vec::from_slice(alloc, name.as_str().as_bytes())?)
-}
-
 /// Runs a job that is read, if its name is its own.
 fn run_job<R: Wait>(
     store: &mut Store,
     rt: &R,
     alloc: Global,
-    name: &Text,
+    name: &Name,
     op: &Op,
 ) -> Result<Conclusion, AllocError>
     requires { IsSomeStore store.old }
@@ -64,7 +44,7 @@ fn run_job<R: Wait>(
         → IfOk result (λ c. IsConcluded (graph_in store.new) c (run_read (held_of earlier) (Some name.now) (Ok op.now))) }
     ensures kept { (earlier : List Past) → IsStore store.old earlier → IsStore store.new earlier }
 {
-    if store.names.is_taken(name) {
+    if store.names.is_taken(name.as_str()) {
         return Ok(refusal(Outcome::NameTaken));
     }
     let conclusion = store.run(rt, alloc, op)?;
@@ -88,8 +68,7 @@ fn conclude_line<R: Wait>(
 {
     match read_job(alloc, texts, line) {
         Ok(Job { name, op }) => {
-            let text = name_text(alloc, &name)?;
-            let conclusion = run_job(store, rt, alloc, &text, &op)?;
+            let conclusion = run_job(store, rt, alloc, &name, &op)?;
             Ok((Some(name), conclusion))
         }
         Err(error) => match error {
@@ -111,10 +90,7 @@ fn learn(
         → OnOk result (IsStore store.new (job ∷ earlier)) }
 {
     match name {
-        Some(name) => {
-            let text = name_text(alloc, name)?;
-            store.names.learn(text, held)
-        }
+        Some(name) => store.names.learn(alloc, name.as_str(), held),
         None => Ok(()),
     }
 }
@@ -192,7 +168,7 @@ pub fn reply_to<R: Wait>(
         outcome,
         lacked,
     } = answer(store, rt, alloc, &mut texts.formulas, line)?;
-    let is_ok = is_ok(&outcome);
+    let is_ok = outcome.is_ok();
     let bytes = reply_line(
         alloc,
         &mut texts.canonical,

@@ -1,8 +1,8 @@
-ghost use Rattle.std.specs.Prelude.{◌≡◌, ◌+◌, ◌<◌, ◌≤◌, ◌^◌, List, ℕ, IfOk, length};
+ghost use Rattle.std.specs.Prelude.{◌≡◌, ◌+◌, ◌<◌, ◌≤◌, ◌^◌, List, [], ℕ, IfOk, length, false};
 ghost use Rattle.proof_server.specs.Ending.{Ends};
 ghost use Rattle.std.specs.Io.KnownBytes.{Keeps};
 ghost use Rattle.proof_server.specs.Jobs.{max_input};
-ghost use Rattle.proof_server.specs.Turn.{ended_of, Finishes};
+ghost use Rattle.proof_server.specs.Turn.{ended_of, Finishes, IsBehind};
 
 use crate::ending::Ended;
 use crate::session::{Session, Stop};
@@ -36,6 +36,38 @@ fn finish<K: Sink>(sink: &mut K, ended: Ended) -> Ended
     }
 }
 
+// All lines of the source, by a new reader and a new session.
+fn serve_lines<R: Wait, S: Source, K: Sink>(
+    rt: &R,
+    alloc: Global,
+    reader: &mut LineReader,
+    session: &mut Session,
+    source: &mut S,
+    sink: &mut K,
+) -> Ended
+    requires reader { reader.old ≡ record { pending = []; room = max_input; at_end = false; ended = false } }
+    requires session { IsBehind session.old [] }
+    ensures ends { Ends result max_input (S.faults source.old) (S.faults source.new) (K.faults sink.old) (K.faults sink.new)
+        (S.left source.old) (S.left source.new) (K.written sink.old) (K.written sink.new) (K.flushed sink.new) }
+{
+    'lines: loop {
+        match next_line(reader, source, MAX_LINE) {
+            Next::Line(line) => match session.take(rt, alloc, sink, Some(line.as_slice())) {
+                Ok(()) => {}
+                Err(stop) => return ended_by(stop),
+            },
+            Next::TooLong => match session.take(rt, alloc, sink, None) {
+                Ok(()) => {}
+                Err(stop) => return ended_by(stop),
+            },
+            Next::End => return finish(sink, Ended::Done(session.good)),
+            Next::ReadFault => return finish(sink, Ended::ReadFault),
+            Next::InputFull => return finish(sink, Ended::InputFull),
+            Next::Memory => return Ended::Memory,
+        }
+    }
+}
+
 /// A whole session: every job of the source gets its reply on the sink, in order.
 pub fn serve<R: Wait, S: Source, K: Sink>(
     rt: &R,
@@ -54,20 +86,5 @@ pub fn serve<R: Wait, S: Source, K: Sink>(
         Ok(session) => session,
         Err(_) => return Ended::Memory,
     };
-    'lines: loop {
-        match next_line(&mut reader, source, MAX_LINE) {
-            Next::Line(line) => match session.take(rt, alloc, sink, Some(line.as_slice())) {
-                Ok(()) => {}
-                Err(stop) => return ended_by(stop),
-            },
-            Next::TooLong => match session.take(rt, alloc, sink, None) {
-                Ok(()) => {}
-                Err(stop) => return ended_by(stop),
-            },
-            Next::End => return finish(sink, Ended::Done(session.good)),
-            Next::ReadFault => return finish(sink, Ended::ReadFault),
-            Next::InputFull => return finish(sink, Ended::InputFull),
-            Next::Memory => return Ended::Memory,
-        }
-    }
+    serve_lines(rt, alloc, &mut reader, &mut session, source, sink)
 }

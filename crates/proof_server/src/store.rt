@@ -13,7 +13,9 @@ use crate::answering::answer;
 use crate::held::Held;
 use crate::names::Names;
 use cut_elim::{Desk, DeskPass};
-use job_lang::{Op, Outcome, Utf8Text};
+use job_lang::Op;
+use job_words::Utf8Text;
+use reply_lines::Outcome;
 use std::alloc::{AllocError, Global};
 use std::sync::Wait;
 
@@ -48,14 +50,15 @@ pub fn refusal(outcome: Outcome) -> Conclusion
 fn conclude(answer: (Outcome, Held)) -> Result<Conclusion, AllocError>
     ensures { (g : Graph) (r : Run) → IsHeldRun r → IsAnswerOf g answer r → IfOk result (λ c. IsConcluded g c r) }
 {
-    match answer {
-        (Outcome::Memory, Held::Refused) => Err(AllocError),
-        (outcome, Held::Unheld) => Ok(Conclusion {
+    let (outcome, held) = answer;
+    match &held {
+        Held::Unheld => Ok(Conclusion {
             outcome,
             held: Held::Unheld,
             lacked: true,
         }),
-        (outcome, held) => Ok(Conclusion {
+        Held::Refused if matches!(&outcome, Outcome::Memory) => Err(AllocError),
+        _ => Ok(Conclusion {
             outcome,
             held,
             lacked: false,
@@ -80,7 +83,7 @@ impl Store {
     fn value(&self, alloc: Global, text: &Utf8Text) -> Result<Held, AllocError>
         ensures { (earlier : List Past) → IsStore self.now earlier → IfOk result (λ h. IsGiven (graph_in self.now) (held_of earlier) text.now h) }
     {
-        self.names.value(alloc, text.as_str().as_bytes())
+        self.names.value(alloc, text.as_str())
     }
 
     // The value that is named in a lone field.

@@ -2,7 +2,7 @@ use Rattle.std.proofs.Common.{◌≡◌, Bool, true, false, cond, ap, ◌∙◌}
 use Rattle.std.specs.Prelude.{None}
 use Rattle.std.proofs.lemmas.Str.{is_utf8-from_IsUtf8}
 use Rattle.serde_json.specs.Read.{read}
-use Rattle.job_lang.specs.declared.reading.JobCause.TheVariants.{Json}
+use Rattle.job_words.specs.declared.causes.JobCause.TheVariants.{Json}
 use Rattle.job_lang.specs.Fields.{or_fault}
 use Rattle.job_lang.proofs.LineValues.{unread_value}
 use Rattle.job_lang.proofs.jobs.value_of.Goals as goal

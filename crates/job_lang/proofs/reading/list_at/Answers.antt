@@ -2,7 +2,7 @@ use Rattle.std.proofs.Common.{sym, ap, ◌∙◌, map, Ok}
 use Rattle.std.specs.Prelude.{None, option_and_then, option_map}
 use Rattle.serde_json.specs.Find.{as_array}
 use Rattle.serde_json.specs.View.{view}
-use Rattle.job_lang.specs.declared.reading.JobCause.TheVariants.{Field}
+use Rattle.job_words.specs.declared.causes.JobCause.TheVariants.{Field}
 use Rattle.job_lang.specs.Places.{path}
 use Rattle.job_lang.specs.Fields.{or_fault, elements}
 use Rattle.job_lang.proofs.Each.{elements-items_of}

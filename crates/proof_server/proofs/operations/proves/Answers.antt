@@ -1,6 +1,6 @@
 -- Where the proof is there, the problem decides, and else the proof's field.
-use Rattle.std.proofs.Common.{Result, Ok, sym, subst}
-use Rattle.job_lang.specs.declared.replies.Outcome.{Outcome}
+use Rattle.std.proofs.Common.{Result, sym, subst}
+use Rattle.reply_lines.specs.declared.replies.Outcome.{Outcome}
 use Rattle.proof_server.specs.Values.{Value}
 use Rattle.proof_server.specs.Operations.{proves}
 use Rattle.proof_server.specs.Means.{Answers}

@@ -1,6 +1,6 @@
 -- The fault of the proof is the answer, and else that of the problem.
 use Rattle.std.proofs.Common.{◌≡◌, Result, Ok, sym, subst}
-use Rattle.job_lang.specs.declared.replies.Outcome.{Outcome}
+use Rattle.reply_lines.specs.declared.replies.Outcome.{Outcome}
 use Rattle.proof_server.specs.declared.operations.Ran.{Ran}
 use Rattle.proof_server.specs.Values.{Value, lacking}
 use Rattle.proof_server.specs.Operations.{proves}

@@ -1,9 +1,8 @@
-use Rattle.std.proofs.Common.{Err, Ok, sym, ◌∙◌, subst}
-use Rattle.std.specs.Prelude.{Some}
+use Rattle.std.proofs.Common.{Err, sym, subst}
 use Rattle.job_lang.specs.declared.jobs.JobError.{JobError}
 use Rattle.job_lang.specs.Jobs.{reads_job, GivesJob}
 use Rattle.proof_server.specs.Values.{Run}
-use Rattle.proof_server.specs.Answers.{run_read, run_line, held_of}
+use Rattle.proof_server.specs.Answers.{held_of}
 use Rattle.proof_server.specs.Means.{graph_in}
 use Rattle.proof_server.specs.Shown.{IsConcluded}
 use Rattle.proof_server.proofs.Concluding.{job_named, job_run, fault_named, fault_run}
@@ -16,7 +15,7 @@ pub returns-in_ok-conclusion-in-Ok-clause-concluded : goal.returns-in_ok-conclus
 returns-in_ok-conclusion-in-Ok-clause-concluded g c = λ earlier store.
     let lookup = held_of earlier in
     subst (λ (r : Run). IsConcluded (graph_in c.run_job.new.store) c.in_ok-conclusion-in-Ok.conclusion r)
-    ((λ i. run_read lookup (Some (c.in_ok-text-in-Ok.ensures i)) (Ok c.in-Ok.field-0.op)) ∙ sym (job_run c.args.line.now lookup c.in-Ok.field-0 c.requires.short c.in-Ok.ensures))
+    (sym (job_run c.args.line.now lookup c.in-Ok.field-0 c.requires.short c.in-Ok.ensures))
     (c.in_ok-conclusion-in-Ok.ensures.ran earlier store)
 
 pub returns-in-Fault-clause-name : goal.returns-in-Fault-clause-name

@@ -1,5 +1,5 @@
 use Rattle.std.proofs.Common.{◌+◌, ap, ◌∙◌}
-use Rattle.job_lang.specs.Replies.{line_of, is_ok_outcome}
+use Rattle.reply_lines.specs.Replies.{line_of, is_ok_outcome}
 use Rattle.proof_server.specs.Replying.{reply_line, is_ok_reply}
 use Rattle.proof_server.proofs.reply.reply_to.Goals as goal
 

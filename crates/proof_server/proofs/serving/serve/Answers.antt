@@ -1,7 +1,4 @@
-use Rattle.std.proofs.KnownBytes.{Keeps-refl}
-use Rattle.proof_server.proofs.Turns.{kept_line}
-use Rattle.proof_server.proofs.Midway.{start, go_on}
-use Rattle.proof_server.proofs.Endings.{nothing_done, stop_ends, done_ends, cut_off_ends, full_ends, stopped_reading}
+use Rattle.proof_server.proofs.Endings.{nothing_done}
 use Rattle.proof_server.proofs.serving.serve.Goals as goal
 
 pub returns-in-Err : goal.returns-in-Err
@@ -9,49 +6,3 @@ returns-in-Err g c = record { ends = nothing_done _ _ }
 
 pub returns-in-Err-new : goal.returns-in-Err-new
 returns-in-Err-new g c = record { ends = nothing_done _ _ }
-
-pub lines-init : goal.lines-init
-lines-init g c = start _ _ _ _ _ _ _ c.in-Ok.ensures c.in-Ok-new.ensures
-
-pub lines-preserved-in-Line : goal.lines-preserved-in-Line
-lines-preserved-in-Line g c =
-    let midway = c.lines.invariant in
-    let handed = c.in-Line.ensures.answer in
-    go_on midway handed (c.in-Ok-take.ensures.takes midway.done handed.line midway.behind (kept_line _ _ handed.line c.as_slice.ensures.value handed.told)) c.next_line.ensures.kept c.take.ensures.faults
-
-pub lines-preserved : goal.lines-preserved
-lines-preserved g c =
-    let midway = c.lines.invariant in
-    let handed = c.in-TooLong.ensures.answer in
-    go_on midway handed (c.in-Ok-take-2.ensures.takes midway.done handed.line midway.behind handed.told) c.next_line.ensures.kept c.take-in-TooLong.ensures.faults
-
-pub returns-in-Err-take : goal.returns-in-Err-take
-returns-in-Err-take g c =
-    let midway = c.lines.invariant in
-    let handed = c.in-Line.ensures.answer in
-    let kept = kept_line _ _ handed.line c.as_slice.ensures.value handed.told in
-    record { ends = stop_ends _ _ _ _ c.take.new.self c.in-Err-take.stop c.ended_by.result midway handed c.ended_by.ensures (c.in-Err-take.ensures.takes midway.done handed.line midway.behind kept) }
-
-pub returns-in-Err-take-2 : goal.returns-in-Err-take-2
-returns-in-Err-take-2 g c =
-    let midway = c.lines.invariant in
-    let handed = c.in-TooLong.ensures.answer in
-    record { ends = stop_ends _ _ _ _ c.take-in-TooLong.new.self c.in-Err-take-2.stop c.ended_by-in-Err-take-2.result midway handed c.ended_by-in-Err-take-2.ensures (c.in-Err-take-2.ensures.takes midway.done handed.line midway.behind handed.told) }
-
-pub returns-in-End : goal.returns-in-End
-returns-in-End g c = record { ends = done_ends _ _ c.finish.result c.lines.invariant c.in-End.ensures.answer.0 c.finish.ensures.bytes c.finish.ensures.done }
-
-pub returns-in-ReadFault : goal.returns-in-ReadFault
-returns-in-ReadFault g c =
-    let fault = c.in-ReadFault.ensures.answer in
-    record { ends = cut_off_ends _ _ c.finish-in-ReadFault.result c.lines.invariant fault.0 fault.1 fault.2 c.finish-in-ReadFault.ensures.bytes c.finish-in-ReadFault.ensures.done }
-
-pub returns-in-InputFull : goal.returns-in-InputFull
-returns-in-InputFull g c =
-    let over = c.in-InputFull.ensures.answer in
-    record { ends = full_ends _ _ _ c.finish-in-InputFull.result c.lines.invariant over.0 over.1 c.finish-in-InputFull.ensures.bytes c.finish-in-InputFull.ensures.done }
-
-pub returns-in-Memory : goal.returns-in-Memory
-returns-in-Memory g c =
-    let lacks = c.in-Memory.ensures.answer in
-    record { ends = stopped_reading c.lines.invariant lacks.0 lacks.1.0 lacks.1.1 (Keeps-refl _) }

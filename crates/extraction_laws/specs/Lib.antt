@@ -1,0 +1,4 @@
+pub mod Addresses
+pub mod States
+pub mod Extraction
+pub mod Images

@@ -1,0 +1,4 @@
+//! Expansion proofs from proofs without cuts, after Miller (1987), and the laws of them.
+#![tactic(auto)]
+
+pub mod laws;

@@ -1,0 +1,58 @@
+//! The steps of a proof.
+ghost use Rattle.std.specs.Prelude.{◌≡◌};
+ghost use Rattle.std.specs.List.{All};
+ghost use Rattle.lk_rules.specs.Rules.{IsFormedRule};
+
+use lk_rules::Step;
+use std::marker::Model;
+
+/// The steps of a proof, each of which names a rule with well-formed parts.
+#[derive(Drop)]
+pub struct Steps {
+    items: Vec<Step>,
+}
+
+impl Model for Steps {
+    ghost use Rattle.std.specs.Prelude.{List};
+    ghost use Rattle.std.specs.List.{All};
+    ghost use Rattle.lk_rules.specs.declared.rule.Step.{Step};
+    ghost use Rattle.lk_rules.specs.Rules.{IsFormedRule};
+
+    ghost Value = { List Step };
+
+    ghost use Rattle.std.specs.Coded.{codes};
+    ghost use Rattle.lk_rules.specs.contracts.rule.Step as step;
+
+    ghost coded = { Prim.hlevel (codes, step.the_row.coded) };
+
+    ghost view = { λ s. s.items.items };
+
+    ghost invariant = { λ s. All (λ step. IsFormedRule step.rule) s.items.items };
+}
+
+impl Steps {
+    /// The list of these steps, each of which names a rule with well-formed parts.
+    pub fn from_vec(items: Vec<Step>) -> Steps
+        requires { All (λ s. IsFormedRule s.rule) items.items }
+        ensures { result ≡ items.items }
+    {
+        Steps { items }
+    }
+
+    /// The steps, in order.
+    pub fn as_slice(&self) -> &[Step]
+        ensures steps { result.now ≡ self.now }
+        ensures formed { All (λ s. IsFormedRule s.rule) result.now }
+    {
+        self.items.as_slice()
+    }
+
+    /// The steps as a list of their own.
+    pub fn into_vec(self) -> Vec<Step>
+        ensures steps { result.items ≡ self }
+        ensures formed { All (λ s. IsFormedRule s.rule) result.items }
+    {
+        let Steps { items } = self;
+        items
+    }
+}

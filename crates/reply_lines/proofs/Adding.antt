@@ -1,0 +1,50 @@
+-- Tokens that are added one after another.
+use Rattle.std.proofs.Common.{◌≡◌, ℕ, ◌+◌, ◌<◌, ◌≤◌, cond, List, [], ◌∷◌, ◌++◌, length, get_or, drop, map, sym, ap, ◌∙◌, subst, append_assoc, Result, Ok, Err, OnOk}
+use Rattle.std.specs.Prelude.{Some, None, is_err}
+use Rattle.std.proofs.lemmas.List.{drop_more, drop_all}
+use Rattle.json.specs.Token.{Token, end_array}
+use Rattle.json.specs.Tree.{items_tokens}
+use Rattle.serde_json.specs.Data.{Data}
+use Rattle.serde_json.specs.View.{items_of}
+use Rattle.serde_json.specs.Written.{items_outline}
+use Rattle.reply_lines.specs.Tokens.{data_tokens, Written, AddsTokens, Adds}
+
+adds_both : (old mid new : Written) (s t : List Token) → AddsTokens old mid s → AddsTokens mid new t → AddsTokens old new (s ++ t)
+adds_both old mid None s t first rest = tt
+adds_both old None (Some n) s t first rest = absurd rest
+adds_both None (Some m) (Some n) s t first rest = absurd first
+adds_both (Some o) (Some m) (Some n) s t first rest = rest ∙ ap (λ ts. ts ++ t) first ∙ append_assoc o s t
+
+-- these tokens, and then those
+pub adds_then : {old mid new : Written} {s t : List Token} → Adds old mid s → Adds mid new t → Adds old new (s ++ t)
+adds_then {old = old} {mid = mid} {new = new} {s = s} {t = t} first rest = record { added = adds_both old mid new s t first.added rest.added }
+
+-- what lacks memory adds anything
+pub lacks : (old new : Written) (tokens : List Token) → new ≡ None → Adds old new tokens
+lacks old new tokens none = record { added = subst (λ (w : Written). AddsTokens old w tokens) (sym none) tt }
+
+-- a call of the writer, after which memory has been lacking where it failed
+pub one_more : {E : Type 0} (r : Result (Unit {0}) E) (old new : List Token) (t : Token) → OnOk r (new ≡ old ++ t ∷ [])
+    → Adds (Some old) (cond (is_err r) None (Some new)) (t ∷ [])
+one_more (Ok u) old new t is = record { added = is }
+one_more (Err e) old new t is = record { added = tt }
+
+-- the tokens of the elements of an array, with its end
+abbrev pub rest_tokens : {A : Type 0} → (A → Data) → List A → List Token
+rest_tokens g xs = items_tokens (items_outline (items_of (map g xs)))
+
+-- whoever adds the elements from the one with number i on has added all of them
+abbrev pub Joins : {A : Type 0} → (A → Data) → List A → ℕ → Written → Written → Type 0
+Joins g xs i start now = (end : Written) → Adds now end (rest_tokens g (drop i xs)) → Adds start end (rest_tokens g xs)
+
+pub joins_start : {A : Type 0} (g : A → Data) (xs : List A) (start : Written) → Joins g xs 0 start start
+joins_start g xs start = λ end added. added
+
+pub joins_more : {A : Type 0} (g : A → Data) (xs : List A) (i : ℕ) (x : A) (start now next : Written) → i < length xs → x ≡ get_or xs i x
+    → Adds now next (data_tokens (g x)) → Joins g xs i start now → Joins g xs (i + 1) start next
+joins_more g xs i x start now next within is one so_far = λ end added.
+    so_far end (subst (λ ys. Adds now end (rest_tokens g ys)) (sym (drop_more xs i x within ∙ ap (λ y. y ∷ drop (i + 1) xs) (sym is))) (adds_then one added))
+
+pub joins_end : {A : Type 0} (g : A → Data) (xs : List A) (i : ℕ) (start now end : Written) → length xs ≤ i
+    → Adds now end (end_array ∷ []) → Joins g xs i start now → Adds start end (rest_tokens g xs)
+joins_end g xs i start now end all ended so_far = so_far end (subst (λ ys. Adds now end (rest_tokens g ys)) (sym (drop_all i xs all)) ended)

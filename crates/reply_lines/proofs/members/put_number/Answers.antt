@@ -1,0 +1,6 @@
+use Rattle.reply_lines.proofs.Adding.{adds_then}
+use Rattle.reply_lines.proofs.members.put_number.Goals as goal
+
+pub returns : goal.returns
+returns c =
+    adds_then c.key.ensures c.number.ensures

@@ -1,0 +1,222 @@
+-- The replies to jobs: what each says, and its line. The members of an object stand in the order of their keys' bytes.
+use Rattle.std.specs.Prelude.{ℕ, List, [], ◌∷◌, ◌++◌, map, codes, Option, Some, None, Result, Ok, Err, Bool, is_ok}
+use Rattle.finite.specs.Finite as set
+use Rattle.fol.specs.declared.symbols.Var.{Var}
+use Rattle.fol.specs.Syntax.{Term, free, Formula}
+use Rattle.lk_rules.specs.Formulas.{FormulaSet}
+use Rattle.lk_rules.specs.declared.sequent.Sequent.{Sequent}
+use Rattle.lk_rules.specs.declared.inference.RuleFault.TheVariants.{Premises, Shape, MainMissing, EigenFree, Premise}
+use Rattle.tptp_problem.specs.declared.errors.ProblemKind.{ProblemKind}
+use Rattle.tptp_problem.specs.declared.errors.ProblemKind.TheVariants.{Text, Include, Language, NameTwice, Role, Clause}
+use Rattle.tptp_tokens.specs.declared.tokens.TextKind.{TextKind}
+use Rattle.tptp_tokens.specs.declared.tokens.TextKind.TheVariants.{Token, Expected, Deep, DefinedWord, Number, Distinct, OpenQuote, OpenComment}
+use Rattle.lk_rules.specs.declared.rule.Step.{Step}
+use Rattle.lk_rules.specs.RuleOrder.{formula_of, term_of, variable_of}
+use Rattle.tptp_print.specs.Canonical.{canonical, canonical_term}
+use Rattle.serde_json.specs.Data.{Data, null, boolean, number, unsigned, string, array, object, member, no_members}
+use Rattle.serde_json.specs.View.{items_of}
+use Rattle.serde_json.specs.Written.{compact_text}
+use Rattle.job_words.specs.declared.causes.JobCause.{JobCause}
+use Rattle.job_words.specs.declared.causes.JobCause.TheVariants as causes
+use Rattle.reply_lines.specs.declared.replies.Summary.{Summary}
+use Rattle.reply_lines.specs.declared.replies.StepShown.{StepShown}
+use Rattle.reply_lines.specs.declared.replies.StepShown.TheVariants.{Reference, Rule}
+use Rattle.reply_lines.specs.declared.replies.RefutationShown.{RefutationShown}
+use Rattle.reply_lines.specs.declared.replies.RefutationShown.TheVariants as refutations
+use Rattle.reply_lines.specs.declared.replies.Outcome.{Outcome}
+use Rattle.reply_lines.specs.declared.replies.Outcome.TheVariants.{Proof, Reduced, Entries, Proves, Steps, Measure, LineTooLong, Reading, NameTaken, UnknownName, Kind, Empty, Step as Faulty, Refutation, Budget, Memory}
+use Rattle.reply_lines.specs.declared.replies.Reply.{Reply}
+use Rattle.job_words.specs.RuleKinds.{kind_of, kind_name}
+
+abbrev pub count_data : ℕ → Data
+count_data n = number (unsigned n)
+
+-- the canonical texts of a side in the order of its formulas
+abbrev pub formulas_data : List Formula → Data
+formulas_data fs = array (items_of (map (λ f. string (canonical f)) fs))
+
+abbrev pub side_data : FormulaSet → Data
+side_data side = formulas_data (set.listing side)
+
+-- a proof in short: how many cuts and quantifier rules it has, and its end sequent
+abbrev pub summary_data : Summary → Data
+summary_data s = object (member (codes "cuts") (count_data s.cuts) (member (codes "left") (side_data s.end.left)
+    (member (codes "quants") (count_data s.quants) (member (codes "right") (side_data s.end.right) no_members))))
+
+-- a proof in short, and after how many reductions it was met
+abbrev pub reduced_data : Summary → ℕ → Data
+reduced_data s reductions = object (member (codes "cuts") (count_data s.cuts) (member (codes "left") (side_data s.end.left)
+    (member (codes "quants") (count_data s.quants) (member (codes "reductions") (count_data reductions)
+    (member (codes "right") (side_data s.end.right) no_members)))))
+
+-- a problem in short: how many entries it has, and its sequent
+abbrev pub entries_data : ℕ → Sequent → Data
+entries_data n s = object (member (codes "entries") (count_data n) (member (codes "left") (side_data s.left)
+    (member (codes "right") (side_data s.right) no_members)))
+
+abbrev pub proves_data : Bool → Data
+proves_data proves = object (member (codes "proves") (boolean proves) no_members)
+
+abbrev pub measure_data : ℕ → ℕ → ℕ → ℕ → Data
+measure_data cuts nodes quants size = object (member (codes "cuts") (count_data cuts) (member (codes "nodes") (count_data nodes)
+    (member (codes "quants") (count_data quants) (member (codes "size") (count_data size) no_members))))
+
+-- the canonical text of a term and of a variable
+abbrev pub term_data : Term → Data
+term_data t = string (canonical_term t)
+
+abbrev pub numbers_data : List ℕ → Data
+numbers_data ns = array (items_of (map count_data ns))
+
+-- A step: the sides of its conclusion, its main formula, if the rule has one, the places of its premises, the rule's name, and the term
+-- or the eigenvariable, if the rule has one.
+abbrev pub bare_step : Sequent → List ℕ → List ℕ → Data
+bare_step end premises rule = object (member (codes "left") (side_data end.left) (member (codes "premises") (numbers_data premises)
+    (member (codes "right") (side_data end.right) (member (codes "rule") (string rule) no_members))))
+
+abbrev pub main_step : Sequent → List ℕ → List ℕ → Formula → Data
+main_step end premises rule main = object (member (codes "left") (side_data end.left) (member (codes "main") (string (canonical main))
+    (member (codes "premises") (numbers_data premises) (member (codes "right") (side_data end.right) (member (codes "rule") (string rule) no_members)))))
+
+abbrev pub term_step : Sequent → List ℕ → List ℕ → Formula → Term → Data
+term_step end premises rule main term = object (member (codes "left") (side_data end.left) (member (codes "main") (string (canonical main))
+    (member (codes "premises") (numbers_data premises) (member (codes "right") (side_data end.right) (member (codes "rule") (string rule)
+    (member (codes "term") (term_data term) no_members))))))
+
+abbrev pub variable_step : Sequent → List ℕ → List ℕ → Formula → Var → Data
+variable_step end premises rule main var = object (member (codes "left") (side_data end.left) (member (codes "main") (string (canonical main))
+    (member (codes "premises") (numbers_data premises) (member (codes "right") (side_data end.right) (member (codes "rule") (string rule)
+    (member (codes "var") (term_data (free var)) no_members))))))
+
+abbrev pub step_by : Sequent → List ℕ → List ℕ → Option Formula → Option Term → Option Var → Data
+step_by end premises rule None term var = bare_step end premises rule
+step_by end premises rule (Some main) None None = main_step end premises rule main
+step_by end premises rule (Some main) (Some term) var = term_step end premises rule main term
+step_by end premises rule (Some main) None (Some var) = variable_step end premises rule main var
+
+abbrev pub proof_step : Step → Data
+proof_step step = step_by step.end step.premises (kind_name (kind_of step.rule)) (formula_of step.rule) (term_of step.rule) (variable_of step.rule)
+
+abbrev pub steps_data : List Step → Data
+steps_data steps = object (member (codes "steps") (array (items_of (map proof_step steps))) no_members)
+
+-- an error that says no more than its kind
+abbrev pub plain : List ℕ → Data
+plain kind = object (member (codes "kind") (string kind) no_members)
+
+abbrev pub field_data : List ℕ → Data
+field_data field = object (member (codes "field") (string field) (member (codes "kind") (string (codes "field")) no_members))
+
+-- what is wrong with a text
+abbrev pub text_kind : TextKind → List ℕ
+text_kind Token = codes "token"
+text_kind Expected = codes "expected"
+text_kind Deep = codes "deep"
+text_kind DefinedWord = codes "defined_word"
+text_kind Number = codes "number"
+text_kind Distinct = codes "distinct"
+text_kind OpenQuote = codes "open_quote"
+text_kind OpenComment = codes "open_comment"
+
+-- a fault of the text in a field: its place in the text, counted from 0, and what is wrong there
+abbrev pub formula_data : List ℕ → ℕ → List ℕ → Data
+formula_data field place what = object (member (codes "at") (count_data place) (member (codes "field") (string field)
+    (member (codes "kind") (string (codes "formula")) (member (codes "what") (string what) no_members))))
+
+-- what is wrong with the text of a problem
+abbrev pub problem_kind : ProblemKind → List ℕ
+problem_kind (Text kind) = text_kind kind
+problem_kind Include = codes "include"
+problem_kind Language = codes "language"
+problem_kind NameTwice = codes "name_twice"
+problem_kind Role = codes "role"
+problem_kind Clause = codes "clause"
+
+-- a fault of the text of a problem: its place in the text, counted from 0, and what is wrong there
+abbrev pub tptp_data : ℕ → List ℕ → Data
+tptp_data place what = object (member (codes "at") (count_data place) (member (codes "kind") (string (codes "tptp"))
+    (member (codes "what") (string what) no_members)))
+
+abbrev pub reading_data : JobCause → Data
+reading_data causes.Json = plain (codes "json")
+reading_data (causes.Field field) = field_data field
+reading_data causes.Op = plain (codes "op")
+reading_data (causes.Formula field fault) = formula_data field fault.at (text_kind fault.kind)
+reading_data (causes.Tptp place kind) = tptp_data place (problem_kind kind)
+
+-- an error about a name as it is written in a field
+abbrev pub named : List ℕ → List ℕ → Data
+named kind name = object (member (codes "kind") (string kind) (member (codes "name") (string name) no_members))
+
+-- a step's fault by its name
+abbrev pub named_fault : List ℕ → ℕ → Data
+named_fault cause step = object (member (codes "cause") (string cause) (member (codes "kind") (string (codes "step"))
+    (member (codes "step") (count_data step) no_members)))
+
+-- a fault of a premise, with the premise's place
+abbrev pub premise_fault : ℕ → ℕ → Data
+premise_fault premise step = object (member (codes "cause") (string (codes "premise")) (member (codes "kind") (string (codes "step"))
+    (member (codes "premise") (count_data premise) (member (codes "step") (count_data step) no_members))))
+
+abbrev pub step_data : ℕ → StepShown → Data
+step_data step Reference = named_fault (codes "reference") step
+step_data step (Rule Premises) = named_fault (codes "premises") step
+step_data step (Rule Shape) = named_fault (codes "shape") step
+step_data step (Rule MainMissing) = named_fault (codes "main_missing") step
+step_data step (Rule EigenFree) = named_fault (codes "eigen_free") step
+step_data step (Rule (Premise premise)) = premise_fault premise step
+
+abbrev pub refutation_cause : RefutationShown → List ℕ
+refutation_cause refutations.Reference = codes "reference"
+refutation_cause refutations.AtomMissing = codes "atom_missing"
+refutation_cause refutations.NotEmpty = codes "not_empty"
+
+-- the fault of a step of a refutation
+abbrev pub refutation_data : ℕ → RefutationShown → Data
+refutation_data step cause = object (member (codes "cause") (string (refutation_cause cause)) (member (codes "kind") (string (codes "refutation"))
+    (member (codes "step") (count_data step) no_members)))
+
+-- the job's name, where the reply has one
+abbrev pub name_data : Option (List ℕ) → Data
+name_data None = null
+name_data (Some name) = string name
+
+abbrev pub ok_data : Data → Data → ℕ → Data
+ok_data answer name n = object (member (codes "job") name (member (codes "n") (count_data n) (member (codes "ok") answer no_members)))
+
+abbrev pub error_data : Data → Data → ℕ → Data
+error_data error name n = object (member (codes "error") error (member (codes "job") name (member (codes "n") (count_data n) no_members)))
+
+-- what came of a job: the object of an Ok reply, or that of an error
+abbrev pub answer_data : Outcome → Result Data Data
+answer_data (Proof summary) = Ok (summary_data summary)
+answer_data (Reduced summary reductions) = Ok (reduced_data summary reductions)
+answer_data (Entries entries sequent) = Ok (entries_data entries sequent)
+answer_data (Proves proves) = Ok (proves_data proves)
+answer_data (Steps steps) = Ok (steps_data steps)
+answer_data (Measure cuts nodes quants size) = Ok (measure_data cuts nodes quants size)
+answer_data LineTooLong = Err (plain (codes "line_too_long"))
+answer_data (Reading cause) = Err (reading_data cause)
+answer_data NameTaken = Err (plain (codes "name_taken"))
+answer_data (UnknownName name) = Err (named (codes "unknown_name") name)
+answer_data (Kind name) = Err (named (codes "kind") name)
+answer_data Empty = Err (plain (codes "empty"))
+answer_data (Faulty step cause) = Err (step_data step cause)
+answer_data (Refutation step cause) = Err (refutation_data step cause)
+answer_data Budget = Err (plain (codes "budget"))
+answer_data Memory = Err (plain (codes "memory"))
+
+-- whether the reply is no error
+abbrev pub is_ok_outcome : Outcome → Bool
+is_ok_outcome outcome = is_ok (answer_data outcome)
+
+abbrev pub reply_by : Result Data Data → Data → ℕ → Data
+reply_by (Ok answer) name n = ok_data answer name n
+reply_by (Err error) name n = error_data error name n
+
+abbrev pub reply_data : Reply → Data
+reply_data reply = reply_by (answer_data reply.outcome) (name_data reply.name) reply.n
+
+-- the line of a reply: its JSON text without white space, and a newline
+unfoldable pub line_of : Reply → List ℕ
+line_of reply = compact_text (reply_data reply) ++ 10 ∷ []
