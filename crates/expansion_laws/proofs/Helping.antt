@@ -26,22 +26,22 @@ module _ (a : Assignment) where
   helps-nothing Right = refl
 
   -- a negation helps where its part does on the other side
-  helps-not : (s : Side) (f : Formula) → helps a s (not f) ≡ helps a (turn s) f
+  pub helps-not : (s : Side) (f : Formula) → helps a s (not f) ≡ helps a (turn s) f
   helps-not Left f = not-not (value a f)
   helps-not Right f = refl
 
   -- a conjunction helps on the left where one part does, and on the right where both do
-  helps-and : (s : Side) (f g : Formula) → helps a s (and f g) ≡ conjoined s (helps a s f) (helps a s g)
+  pub helps-and : (s : Side) (f g : Formula) → helps a s (and f g) ≡ conjoined s (helps a s f) (helps a s g)
   helps-and Left f g = not-and (value a f) (value a g)
   helps-and Right f g = refl
 
   -- a disjunction helps on the left where both parts do, and on the right where one does
-  helps-or : (s : Side) (f g : Formula) → helps a s (or f g) ≡ disjoined s (helps a s f) (helps a s g)
+  pub helps-or : (s : Side) (f g : Formula) → helps a s (or f g) ≡ disjoined s (helps a s f) (helps a s g)
   helps-or Left f g = not-or (value a f) (value a g)
   helps-or Right f g = refl
 
   -- an implication helps as a disjunction does, with its premise on the other side
-  helps-imp : (s : Side) (f g : Formula) → helps a s (imp f g) ≡ disjoined s (helps a (turn s) f) (helps a s g)
+  pub helps-imp : (s : Side) (f g : Formula) → helps a s (imp f g) ≡ disjoined s (helps a (turn s) f) (helps a s g)
   helps-imp Left f g = not-implied (value a f) (value a g)
   helps-imp Right f g = refl
 

@@ -1,0 +1,10 @@
+pub mod Clauses
+pub mod Derived
+pub mod Decided
+pub mod Reached
+pub mod Unrolled
+pub mod Literals
+pub mod Ties
+pub mod Examples
+pub mod SearchExample
+pub mod Ground

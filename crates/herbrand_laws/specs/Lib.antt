@@ -1,0 +1,4 @@
+pub mod Herbrand
+pub mod Patterns
+pub mod Candidates
+pub mod Introduction

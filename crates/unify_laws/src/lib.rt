@@ -1,0 +1,4 @@
+//! Unification and matching of terms, after Robinson (1965), and the laws of them.
+#![tactic(auto)]
+
+pub mod laws;
