@@ -16,7 +16,7 @@ use crate::cases::case_at;
 use crate::cut::{Ascent, Cut, Premise};
 use crate::inferences::{cut_over, leaf, weakening};
 use crate::parts::cut_parts;
-use crate::steps::Steps;
+use arena_cuts::Steps;
 use contraction_laws::{Case, laws};
 use fol::Formula;
 use lk_rules::{Rule, Sequent, Side};

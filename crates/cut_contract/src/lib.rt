@@ -8,7 +8,6 @@ mod cut;
 mod inferences;
 mod moved;
 mod parts;
-mod steps;
 
+pub use arena_cuts::Steps;
 pub use contraction::{contract, contract_over};
-pub use steps::Steps;

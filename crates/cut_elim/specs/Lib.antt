@@ -1,3 +1,2 @@
 pub mod Desks
 pub mod Lending
-pub mod Tables

@@ -4,10 +4,7 @@
 
 mod desk;
 mod elimination;
-mod fault;
-mod table;
 
+pub use arena_cuts::ElimFault;
 pub use desk::{Desk, DeskPass};
-pub use elimination::eliminate;
-pub use fault::ElimFault;
-pub use table::Reduced;
+pub use elimination::{Reduced, eliminate};

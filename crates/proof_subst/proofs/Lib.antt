@@ -1,4 +1,1 @@
-pub mod Unions
-pub mod Premises
-pub mod Tables
-pub mod Subtrees
+pub mod Images

@@ -1,4 +1,2 @@
 pub mod Benches
 pub mod Lending
-pub mod TreeVariables
-pub mod TreeImages

@@ -4,10 +4,10 @@ ghost use Rattle.std.specs.Borrow.{sem};
 ghost use Rattle.proof_subst.specs.Benches.{graph_of, pass_in, IsBenchPassOf};
 ghost use Rattle.proof_subst.specs.Lending.{LendsGraphPass};
 
-use crate::tree_variables::TreeVars;
+use arena::Arena;
+use arena_graph::ProofNumbers;
 use proof_graph::{Graph, GraphPass};
 use std::alloc::{AllocError, Global};
-use std::collections::BTreeMap;
 
 /// What the transformations of proofs work on: the graph of checked proofs.
 #[derive(Drop)]
@@ -15,11 +15,13 @@ pub struct Bench {
     graph: Graph,
 }
 
-/// What is needed to put proofs into a bench. It keeps the free variables of the trees that maps were carried through.
+/// What is needed to put proofs into a bench. It keeps an arena with the proofs that maps were carried through, and what was found of them
+/// on the way: their free variables, and their images under maps.
 #[derive(Drop)]
 pub struct BenchPass {
     pub(crate) graph: GraphPass,
-    pub(crate) vars: BTreeMap<u64, TreeVars>,
+    pub(crate) arena: Arena,
+    pub(crate) numbers: ProofNumbers,
 }
 
 impl Bench {
@@ -28,8 +30,12 @@ impl Bench {
         ensures { IfOk result (λ made. IsBenchPassOf made.0 made.1) }
     {
         let (graph, pass) = Graph::new(alloc)?;
-        let vars = BTreeMap::new(alloc);
-        Ok((Bench { graph }, BenchPass { graph: pass, vars }))
+        let pass = BenchPass {
+            graph: pass,
+            arena: Arena::new(alloc),
+            numbers: ProofNumbers::new(alloc),
+        };
+        Ok((Bench { graph }, pass))
     }
 
     /// The graph.

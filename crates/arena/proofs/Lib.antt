@@ -1,0 +1,11 @@
+pub mod Results
+pub mod Changing
+pub mod Mapped
+pub mod Members
+pub mod SetLaws
+pub mod Shown
+pub mod VariableLaws
+pub mod SideLaws
+pub mod Untouched
+pub mod PairLaws
+pub mod BindingLaws

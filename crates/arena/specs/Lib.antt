@@ -1,0 +1,7 @@
+pub mod TaskOrder
+pub mod Changes
+pub mod TreeVariables
+pub mod Tasks
+pub mod Lists
+pub mod Pairs
+pub mod Bindings

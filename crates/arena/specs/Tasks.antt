@@ -1,0 +1,70 @@
+-- What the tasks ask for whose results an arena keeps, and what it keeps.
+use Rattle.std.specs.Prelude.{◌≡◌, ℕ, List, Some}
+use Rattle.std.specs.FinMap as fin
+use Rattle.std.specs.BTreeMap as ordered
+use Rattle.std.specs.BTreeMap.{BTreeMap}
+use Rattle.fol.specs.Syntax.{Formula}
+use Rattle.fol.specs.Keys.{formula_key_cmp}
+use Rattle.finite.specs.Finite as set
+use Rattle.free_variables.specs.Sets.{VarSet}
+use Rattle.free_variables.specs.Occurrence.{var_list_terms, vars_term, vars_formula}
+use Rattle.lk_rules.specs.Formulas.{FormulaSet, image_set, var_lists}
+use Rattle.lk_rules.specs.Sequents.{vars_sequent}
+use Rattle.proof_trees.specs.Substitution.{sub}
+use Rattle.arena.specs.declared.task.Task.{Task}
+use Rattle.arena.specs.declared.task.Task.TheVariants as task
+use Rattle.arena.specs.declared.arena.Arena.TheInside.{Inside}
+use Rattle.arena.specs.TaskOrder.{task_cmp}
+use Rattle.arena_cells.specs.Items.{Item, term, terms, formula, variables, side, tree}
+use Rattle.arena_cells.specs.Standing.{Stands, HasFormula, item_at, map_at, side_at, sequent_at, tree_at, IsMapAt, IsSideAt, IsSequentAt, IsTreeAt, IsThere}
+use Rattle.arena.specs.Changes.{changed, operation_at, HasChange}
+use Rattle.arena.specs.TreeVariables.{vars_tree}
+
+-- the free variables of a term, a list of terms or a formula; other items have none of their own
+abbrev pub vars_item : Item → VarSet
+vars_item (term t) = vars_term t set.empty
+vars_item (terms ts) = set.adds_each set.empty (var_list_terms ts)
+vars_item (formula f) = vars_formula f set.empty
+vars_item i = set.empty
+
+-- the free variables of a set of formulas
+abbrev pub vars_side : FormulaSet → VarSet
+vars_side s = set.adds_each set.empty (var_lists (set.listing s))
+
+-- the item for which a task asks
+abbrev pub result_of : List Item → Task → Item
+result_of a (task.Change ch n) = changed (operation_at a ch) (item_at a n)
+result_of a (task.Variables n) = variables (vars_item (item_at a n))
+result_of a (task.SideVariables n) = variables (vars_side (side_at a n))
+result_of a (task.SequentVariables n) = variables (vars_sequent (sequent_at a n))
+result_of a (task.Image m n) = side (image_set (fin.get (map_at a m)) (side_at a n))
+result_of a (task.TreeVariables n) = variables (vars_tree (tree_at a n))
+result_of a (task.TreeImage m n) = tree (sub (tree_at a n) (map_at a m))
+
+-- the task's numbers stand for what they do
+abbrev pub HasTask : List Item → Task → Type 0
+HasTask a (task.Change ch n) = HasChange a ch × IsThere a n
+HasTask a (task.Variables n) = IsThere a n
+HasTask a (task.SideVariables n) = IsSideAt a n
+HasTask a (task.SequentVariables n) = IsSequentAt a n
+HasTask a (task.Image m n) = IsMapAt a m × IsSideAt a n
+HasTask a (task.TreeVariables n) = IsTreeAt a n
+HasTask a (task.TreeImage m n) = IsMapAt a m × IsTreeAt a n
+
+-- the result of the task stands at the number
+pub record IsResult (a : List Item) (q : Task) (n : ℕ) : Type 0 where
+  pub parts : HasTask a q
+  pub stands : Stands a n (result_of a q)
+
+-- each result that is kept is right
+abbrev pub AreResults : List Item → BTreeMap Task ℕ → Type 0
+AreResults a kept = (q : Task) (n : ℕ) → ordered.get task_cmp kept q ≡ Some n → IsResult a q n
+
+-- each formula that is kept stands at its number
+abbrev pub AreImported : List Item → BTreeMap Formula ℕ → Type 0
+AreImported a kept = (f : Formula) (n : ℕ) → ordered.get formula_key_cmp kept f ≡ Some n → HasFormula a n f
+
+-- what an arena keeps beside its cells is right
+pub record IsArena (i : Inside) : Type 0 where
+  pub results : AreResults i.cells i.results
+  pub imported : AreImported i.cells i.imported

@@ -1,0 +1,179 @@
+//! Arenas.
+ghost use Rattle.std.specs.Prelude.{◌≡◌, ◌↔◌, ◌<◌, ℕ, [], length, IsTrue, IfOk, IfSome, IsNone};
+ghost use Rattle.arena_cells.specs.Standing.{Stands, Extends, IsDistinct, HasFormula, item_at, symbol_at, term_at, terms_at, formula_at, IsSymbolAt, IsTermAt, IsTermsAt, IsFormulaAt, IsThere};
+ghost use Rattle.arena_cells.specs.ItemFacts.{is_open_item, item_dangling};
+ghost use Rattle.arena_cells.specs.Meaning.{meaning, HasParts, IsKeyAt};
+ghost use Rattle.arena.specs.Tasks.{result_of, HasTask};
+
+use crate::task::Task;
+use arena_cells::{Cells, Key};
+use fol::{Formula, FormulaKey, Sym, Term, Terms};
+use std::alloc::{AllocError, Global};
+use std::collections::BTreeMap;
+use std::marker::Model;
+
+/// An arena: what stands at the numbers of one call, each thing once, and the results of what has been asked of it.
+#[derive(Drop)]
+pub struct Arena {
+    cells: Cells,
+    results: BTreeMap<Task, u32>,
+    imported: BTreeMap<FormulaKey, u32>,
+}
+
+impl Model for Arena {
+    ghost use Rattle.std.specs.Prelude.{List};
+    ghost use Rattle.std.specs.Coded.{coded_list};
+    ghost use Rattle.arena_cells.specs.Items.{Item, coded_item};
+
+    ghost Value = { List Item };
+
+    ghost coded = { coded_list coded_item };
+
+    ghost use Rattle.arena.specs.Tasks.{IsArena};
+
+    ghost view = { λ a. a.cells };
+
+    ghost invariant = { IsArena };
+}
+
+impl Arena {
+    /// An arena with nothing in it.
+    pub fn new(alloc: Global) -> Arena
+        ensures { result ≡ [] }
+    {
+        Arena {
+            cells: Cells::new(alloc),
+            results: BTreeMap::new(alloc),
+            imported: BTreeMap::new(alloc),
+        }
+    }
+
+    /// No thing stands twice: things are equal exactly where their numbers are.
+    pub fn known(&self)
+        ensures { IsDistinct self.now }
+    {
+        self.cells.known();
+    }
+
+    /// The key of what stands at the number.
+    pub fn key(&self, number: u32) -> &Key
+        requires { number < length self.now }
+        ensures { IsKeyAt self.now number result.now }
+    {
+        self.cells.key(number)
+    }
+
+    /// The symbol at the number.
+    pub fn symbol(&self, number: u32) -> &Sym
+        requires { IsSymbolAt self.now number }
+        ensures { result.now ≡ symbol_at self.now number }
+    {
+        self.cells.symbol(number)
+    }
+
+    /// The term at the number.
+    pub fn term(&self, number: u32) -> &Term
+        requires { IsTermAt self.now number }
+        ensures { result.now ≡ term_at self.now number }
+    {
+        self.cells.term(number)
+    }
+
+    /// The list of terms at the number.
+    pub fn terms(&self, number: u32) -> &Terms
+        requires { IsTermsAt self.now number }
+        ensures { result.now ≡ terms_at self.now number }
+    {
+        self.cells.terms(number)
+    }
+
+    /// The formula at the number.
+    pub fn formula(&self, number: u32) -> &Formula
+        requires { IsFormulaAt self.now number }
+        ensures { result.now ≡ formula_at self.now number }
+    {
+        self.cells.formula(number)
+    }
+
+    /// Whether the same thing stands at both numbers.
+    pub fn same(&self, first: u32, second: u32) -> bool
+        requires first { IsThere self.now first }
+        requires second { IsThere self.now second }
+        ensures { IsTrue result ↔ (item_at self.now first ≡ item_at self.now second) }
+    {
+        self.known();
+        first == second
+    }
+
+    /// Whether a variable is free in the term, the list of terms or the formula at the number.
+    pub fn has_free(&self, number: u32) -> bool
+        requires { IsThere self.now number }
+        ensures { result ≡ is_open_item (item_at self.now number) }
+    {
+        self.cells.has_free(number)
+    }
+
+    /// The least number that is above each index of a quantifier around what stands at the number.
+    pub fn dangling(&self, number: u32) -> u64
+        requires { IsThere self.now number }
+        ensures { result ≡ item_dangling (item_at self.now number) }
+    {
+        self.cells.dangling(number)
+    }
+
+    /// The number of the key's item, if that is there. It takes O(log n) comparisons of keys among n things.
+    pub fn find(&self, key: &Key) -> Option<u32>
+        requires { HasParts self.now key.now }
+        ensures found { IfSome result (λ n. Stands self.now n (meaning self.now key.now)) }
+        ensures absent { IsNone result → (n : ℕ) → ¬ Stands self.now n (meaning self.now key.now) }
+    {
+        self.cells.find(key)
+    }
+
+    /// The number of the key's item, which is added unless it is there. It takes O(log n) comparisons of keys among n things. More than
+    /// 2^32 things are refused as want of memory.
+    pub fn put(&mut self, alloc: Global, key: Key) -> Result<u32, AllocError>
+        requires { HasParts self.old key }
+        ensures stands { IfOk result (λ n. Stands self.new n (meaning self.old key)) }
+        ensures grown { Extends self.old self.new }
+    {
+        self.cells.put(alloc, key)
+    }
+
+    /// The number of a task's result, if that is kept. It takes O(log n) comparisons among n tasks.
+    pub fn look_up(&self, task: Task) -> Option<u32>
+        ensures { IfSome result (λ n. Stands self.now n (result_of self.now task)) }
+    {
+        self.results.get(&task).copied()
+    }
+
+    /// Keeps the result of a task.
+    pub fn note(&mut self, task: Task, number: u32) -> Result<(), AllocError>
+        requires task { HasTask self.old task }
+        requires result { Stands self.old number (result_of self.old task) }
+        ensures { self.new ≡ self.old }
+    {
+        self.results.insert(task, number)?;
+        Ok(())
+    }
+
+    // The number of a formula that was imported.
+    pub(crate) fn look_up_formula(&self, formula: &FormulaKey) -> Option<u32>
+        ensures { IfSome result (λ n. HasFormula self.now n formula.now) }
+    {
+        self.imported.get(formula).copied()
+    }
+
+    // Keeps the number of a formula.
+    pub(crate) fn note_formula(
+        &mut self,
+        formula: FormulaKey,
+        number: u32,
+    ) -> Result<(), AllocError>
+        requires { HasFormula self.old number formula }
+        ensures { self.new ≡ self.old }
+    {
+        self.imported.insert(formula, number)?;
+        Ok(())
+    }
+}

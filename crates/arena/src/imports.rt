@@ -1,0 +1,108 @@
+//! Terms and formulas that come into an arena.
+ghost use Rattle.std.specs.Prelude.{◌≡◌, IfOk};
+ghost use Rattle.arena_cells.specs.Standing.{Extends, HasSymbol, HasVariable, HasTerm, HasTerms, HasFormula};
+
+use crate::arena::Arena;
+use arena_cells::Key;
+use fol::{Formula, FormulaKey, FormulaNode, Sym, Term, TermNode, Terms, TermsLink, Var};
+use std::alloc::{AllocError, Global};
+
+impl Arena {
+    /// The number of a symbol.
+    pub fn import_symbol(&mut self, alloc: Global, symbol: &Sym) -> Result<u32, AllocError>
+        ensures symbol { IfOk result (λ n. HasSymbol self.new n symbol.now) }
+        ensures grown { Extends self.old self.new }
+    {
+        self.put(alloc, Key::Symbol(symbol.copy()?))
+    }
+
+    /// The number of a variable, which is that of its term.
+    pub fn import_variable(&mut self, alloc: Global, variable: &Var) -> Result<u32, AllocError>
+        ensures variable { IfOk result (λ n. HasVariable self.new n variable.now) }
+        ensures grown { Extends self.old self.new }
+    {
+        self.put(alloc, Key::Free(variable.copy()?))
+    }
+
+    /// The number of a term.
+    #[cycle(import_term)]
+    #[tactic(auto, using(arena_cells::proofs::Facts::places))]
+    pub fn import_term(&mut self, alloc: Global, term: &Term) -> Result<u32, AllocError>
+        ensures term { IfOk result (λ n. HasTerm self.new n term.now) }
+        ensures grown { Extends self.old self.new }
+    {
+        match term.node() {
+            TermNode::Free(variable) => self.import_variable(alloc, variable),
+            TermNode::Bound(index) => self.put(alloc, Key::Bound(*index)),
+            TermNode::App(symbol, terms) => {
+                let symbol = self.import_symbol(alloc, symbol)?;
+                let terms = self.import_terms(alloc, terms)?;
+                self.put(alloc, Key::App(symbol, terms))
+            }
+        }
+    }
+
+    /// The number of a list of terms.
+    #[cycle(import_term)]
+    #[tactic(auto, using(arena_cells::proofs::Facts::places))]
+    pub fn import_terms(&mut self, alloc: Global, terms: &Terms) -> Result<u32, AllocError>
+        ensures terms { IfOk result (λ n. HasTerms self.new n terms.now) }
+        ensures grown { Extends self.old self.new }
+    {
+        match terms.link() {
+            TermsLink::Nil => self.put(alloc, Key::Nil),
+            TermsLink::Cons(term, rest) => {
+                let term = self.import_term(alloc, term)?;
+                let rest = self.import_terms(alloc, rest)?;
+                self.put(alloc, Key::Cons(term, rest))
+            }
+        }
+    }
+
+    /// The number of a formula. One that was imported before costs one look-up among n of them, O(log n) comparisons of fingerprints and one
+    /// of formulas; else each node is put into the arena.
+    pub fn import_formula(&mut self, alloc: Global, formula: &Formula) -> Result<u32, AllocError>
+        ensures formula { IfOk result (λ n. HasFormula self.new n formula.now) }
+        ensures grown { Extends self.old self.new }
+    {
+        let key = FormulaKey::new(formula.copy()?);
+        if let Some(number) = self.look_up_formula(&key) {
+            return Ok(number);
+        }
+        let number = self.walk_formula(alloc, formula)?;
+        self.note_formula(key, number)?;
+        Ok(number)
+    }
+
+    // The number of a formula, each of whose nodes is put into the arena.
+    #[tactic(auto, using(arena_cells::proofs::Facts::places))]
+    fn walk_formula(&mut self, alloc: Global, formula: &Formula) -> Result<u32, AllocError>
+        ensures formula { IfOk result (λ n. HasFormula self.new n formula.now) }
+        ensures grown { Extends self.old self.new }
+    {
+        let key = match formula.node() {
+            FormulaNode::Atom(symbol, terms) => {
+                let symbol = self.import_symbol(alloc, symbol)?;
+                Key::Atom(symbol, self.import_terms(alloc, terms)?)
+            }
+            FormulaNode::Top => Key::Top,
+            FormulaNode::Bot => Key::Bot,
+            FormulaNode::Not(body) => Key::Not(self.walk_formula(alloc, body)?),
+            FormulaNode::And(first, second) => {
+                let first = self.walk_formula(alloc, first)?;
+                Key::And(first, self.walk_formula(alloc, second)?)
+            }
+            FormulaNode::Or(first, second) => {
+                let first = self.walk_formula(alloc, first)?;
+                Key::Or(first, self.walk_formula(alloc, second)?)
+            }
+            FormulaNode::Imp(first, second) => {
+                let first = self.walk_formula(alloc, first)?;
+                Key::Imp(first, self.walk_formula(alloc, second)?)
+            }
+            FormulaNode::All(body) => Key::All(self.walk_formula(alloc, body)?),
+            FormulaNode::Ex(body) => Key::Ex(self.walk_formula(alloc, body)?),
+        };
+        self.put(alloc, key)
+    }
+}

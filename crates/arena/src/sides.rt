@@ -1,0 +1,238 @@
+//! Sets of formulas.
+ghost use Rattle.std.specs.Prelude.{◌≡◌, not, ◌&&◌, map as each, true, IfOk};
+ghost use Rattle.std.specs.FinMap as fin;
+ghost use Rattle.std.specs.List.{All, list_all};
+ghost use Rattle.std.specs.Ordering.{eq_by_cmp};
+ghost use Rattle.fol.specs.Syntax.{Formula as Sentence};
+ghost use Rattle.fol.specs.Order.{formula_cmp};
+ghost use Rattle.fol.specs.Formed.{is_formed, IsFormed};
+ghost use Rattle.finite.specs.Finite as set;
+ghost use Rattle.free_variables.specs.Union.{union_of};
+ghost use Rattle.substitution.specs.Image.{image as image_of};
+ghost use Rattle.lk_rules.specs.Formulas.{image_set, var_lists};
+ghost use Rattle.arena_cells.specs.Standing.{Stands, Extends, HasSide, HasVariables, formula_at, side_at, map_at, IsFormulaAt, IsSideAt, IsMapAt};
+ghost use Rattle.arena_cells.specs.Meaning.{formulas_of, AreRisingFormulas};
+ghost use Rattle.arena.specs.Tasks.{vars_side};
+
+use crate::arena::Arena;
+use crate::lists::{distinct, joined, with, without};
+use crate::task::Task;
+use arena_cells::Key;
+use fol::Formula;
+use lk_rules::Formulas;
+use std::alloc::{AllocError, Global};
+
+impl Arena {
+    /// The rising numbers of a set's formulas.
+    pub fn side_numbers(&self, side: u32) -> &[u32]
+        requires { IsSideAt self.now side }
+        ensures rising { AreRisingFormulas self.now result.now }
+        ensures shown { side_at self.now side ≡ formulas_of self.now result.now }
+    {
+        match self.key(side) {
+            Key::Side(numbers) => numbers.as_slice(),
+            _ => unreachable!(),
+        }
+    }
+
+    /// The set of the formulas at the numbers, which may stand in any order and more than once.
+    pub fn put_side(&mut self, alloc: Global, formulas: Vec<u32>) -> Result<u32, AllocError>
+        requires { All (IsFormulaAt self.old) formulas.items }
+        ensures side { IfOk result (λ n. HasSide self.new n (formulas_of self.old formulas.items)) }
+        ensures grown { Extends self.old self.new }
+    {
+        let numbers = distinct(alloc, formulas)?;
+        self.put(alloc, Key::Side(numbers))
+    }
+
+    /// Whether the formula is in the set.
+    pub fn side_has(&self, side: u32, formula: u32) -> bool
+        requires side { IsSideAt self.now side }
+        requires formula { IsFormulaAt self.now formula }
+        ensures { result ≡ set.has (side_at self.now side) (formula_at self.now formula) }
+    {
+        self.known();
+        finite::search(self.side_numbers(side), &formula).is_ok()
+    }
+
+    /// Whether each formula of the first set is in the second.
+    pub fn is_side_within(&self, first: u32, second: u32) -> bool
+        requires first { IsSideAt self.now first }
+        requires second { IsSideAt self.now second }
+        ensures { result ≡ set.subset (side_at self.now first) (side_at self.now second) }
+    {
+        self.known();
+        finite::is_within(self.side_numbers(first), self.side_numbers(second))
+    }
+
+    /// The formulas of both sets.
+    pub fn union_sides(&mut self, alloc: Global, first: u32, second: u32) -> Result<u32, AllocError>
+        requires first { IsSideAt self.old first }
+        requires second { IsSideAt self.old second }
+        ensures union { IfOk result (λ n. HasSide self.new n (union_of (side_at self.old first) (side_at self.old second))) }
+        ensures grown { Extends self.old self.new }
+    {
+        let numbers = joined(alloc, self.side_numbers(first), self.side_numbers(second))?;
+        self.put(alloc, Key::Side(numbers))
+    }
+
+    /// The set with the formula.
+    pub fn side_with(&mut self, alloc: Global, side: u32, formula: u32) -> Result<u32, AllocError>
+        requires side { IsSideAt self.old side }
+        requires formula { IsFormulaAt self.old formula }
+        ensures side { IfOk result (λ n. HasSide self.new n (set.adds (side_at self.old side) (formula_at self.old formula))) }
+        ensures grown { Extends self.old self.new }
+    {
+        let numbers = with(alloc, self.side_numbers(side), formula)?;
+        self.put(alloc, Key::Side(numbers))
+    }
+
+    /// The set without the formula.
+    pub fn side_without(
+        &mut self,
+        alloc: Global,
+        side: u32,
+        formula: u32,
+    ) -> Result<u32, AllocError>
+        requires side { IsSideAt self.old side }
+        requires formula { IsFormulaAt self.old formula }
+        ensures side { IfOk result (IsSideAt self.new) }
+        ensures members { (f : Sentence) → IfOk result (λ n. set.has (side_at self.new n) f ≡ (not (eq_by_cmp formula_cmp f (formula_at self.old formula)) && set.has (side_at self.old side) f)) }
+        ensures grown { Extends self.old self.new }
+    {
+        self.known();
+        let numbers = without(alloc, self.side_numbers(side), formula)?;
+        self.put(alloc, Key::Side(numbers))
+    }
+
+    // The numbers of formulas.
+    fn import_each(&mut self, alloc: Global, formulas: &[Formula]) -> Result<Vec<u32>, AllocError>
+        ensures formulas { IfOk result (λ numbers. each (formula_at self.new) numbers.items ≡ formulas.now) }
+        ensures there { IfOk result (λ numbers. All (IsFormulaAt self.new) numbers.items) }
+        ensures grown { Extends self.old self.new }
+    {
+        let mut numbers = Vec::with_capacity(alloc, formulas.len())?;
+        for formula in formulas {
+            numbers.push(self.import_formula(alloc, formula)?)?;
+        }
+        Ok(numbers)
+    }
+
+    /// The number of a set of formulas.
+    pub fn import_side(&mut self, alloc: Global, formulas: &Formulas) -> Result<u32, AllocError>
+        ensures side { IfOk result (λ n. HasSide self.new n formulas.now) }
+        ensures grown { Extends self.old self.new }
+    {
+        let numbers = self.import_each(alloc, formulas.as_slice())?;
+        self.put_side(alloc, numbers)
+    }
+
+    // Other owners of the formulas at the numbers.
+    fn copy_formulas(&self, alloc: Global, numbers: &[u32]) -> Result<Vec<Formula>, AllocError>
+        requires { AreRisingFormulas self.now numbers.now }
+        ensures { IfOk result (λ list. list.items ≡ each (formula_at self.now) numbers.now) }
+    {
+        let mut list = Vec::with_capacity(alloc, numbers.len())?;
+        for number in numbers {
+            list.push(self.formula(*number).copy()?)?;
+        }
+        Ok(list)
+    }
+
+    /// A set of well-formed formulas.
+    pub fn export_side(&self, alloc: Global, side: u32) -> Result<Formulas, AllocError>
+        requires side { IsSideAt self.now side }
+        requires formed { list_all is_formed (set.listing (side_at self.now side)) ≡ true }
+        ensures { IfOk result (λ formulas. formulas ≡ side_at self.now side) }
+    {
+        let list = self.copy_formulas(alloc, self.side_numbers(side))?;
+        Formulas::from_vec(alloc, list)
+    }
+
+    // The images of the formulas at the numbers.
+    fn image_each(
+        &mut self,
+        alloc: Global,
+        map: u32,
+        numbers: &[u32],
+    ) -> Result<Vec<u32>, AllocError>
+        requires map { IsMapAt self.old map }
+        requires formulas { All (IsFormulaAt self.old) numbers.now }
+        ensures images { IfOk result (λ images. each (formula_at self.new) images.items ≡ each (image_of (fin.get (map_at self.old map))) (each (formula_at self.old) numbers.now)) }
+        ensures there { IfOk result (λ images. All (IsFormulaAt self.new) images.items) }
+        ensures grown { Extends self.old self.new }
+    {
+        let mut images = Vec::with_capacity(alloc, numbers.len())?;
+        for number in numbers {
+            images.push(self.image(alloc, map, *number)?)?;
+        }
+        Ok(images)
+    }
+
+    /// The image of a set of formulas under a map. Formulas that fall together become one.
+    pub fn image_of_side(&mut self, alloc: Global, map: u32, side: u32) -> Result<u32, AllocError>
+        requires map { IsMapAt self.old map }
+        requires side { IsSideAt self.old side }
+        ensures side { IfOk result (λ n. HasSide self.new n (image_set (fin.get (map_at self.old map)) (side_at self.old side))) }
+        ensures grown { Extends self.old self.new }
+    {
+        let task = Task::Image(map, side);
+        if let Some(number) = self.look_up(task) {
+            return Ok(number);
+        }
+        let number = self.image_of_members(alloc, map, side)?;
+        self.note(task, number)?;
+        Ok(number)
+    }
+
+    // The image of a set of formulas under a map, formula by formula.
+    fn image_of_members(&mut self, alloc: Global, map: u32, side: u32) -> Result<u32, AllocError>
+        requires map { IsMapAt self.old map }
+        requires side { IsSideAt self.old side }
+        ensures side { IfOk result (λ n. HasSide self.new n (image_set (fin.get (map_at self.old map)) (side_at self.old side))) }
+        ensures grown { Extends self.old self.new }
+    {
+        let numbers = Vec::from_slice(alloc, self.side_numbers(side))?;
+        let images = self.image_each(alloc, map, &numbers)?;
+        self.put_side(alloc, images)
+    }
+
+    // The free variables of the formulas at the numbers.
+    fn vars_of_each(&mut self, alloc: Global, numbers: &[u32]) -> Result<u32, AllocError>
+        requires { All (IsFormulaAt self.old) numbers.now }
+        ensures set { IfOk result (λ n. HasVariables self.new n (set.adds_each set.empty (var_lists (each (formula_at self.old) numbers.now)))) }
+        ensures grown { Extends self.old self.new }
+    {
+        let mut vars = self.no_variable(alloc)?;
+        for number in numbers {
+            let more = self.free_vars(alloc, *number)?;
+            vars = self.union_variables(alloc, vars, more)?;
+        }
+        Ok(vars)
+    }
+
+    /// The free variables of a set's formulas.
+    pub fn side_vars(&mut self, alloc: Global, side: u32) -> Result<u32, AllocError>
+        requires { IsSideAt self.old side }
+        ensures set { IfOk result (λ n. HasVariables self.new n (vars_side (side_at self.old side))) }
+        ensures grown { Extends self.old self.new }
+    {
+        let task = Task::SideVariables(side);
+        if let Some(number) = self.look_up(task) {
+            return Ok(number);
+        }
+        let number = self.vars_of_members(alloc, side)?;
+        self.note(task, number)?;
+        Ok(number)
+    }
+
+    // The free variables of a set's formulas, formula by formula.
+    fn vars_of_members(&mut self, alloc: Global, side: u32) -> Result<u32, AllocError>
+        requires { IsSideAt self.old side }
+        ensures set { IfOk result (λ n. HasVariables self.new n (vars_side (side_at self.old side))) }
+        ensures grown { Extends self.old self.new }
+    {
+        let numbers = Vec::from_slice(alloc, self.side_numbers(side))?;
+        self.vars_of_each(alloc, &numbers)
+    }
+}

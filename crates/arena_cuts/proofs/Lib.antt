@@ -1,0 +1,12 @@
+pub mod Picked
+pub mod SameNumbers
+pub mod AuxiliaryLaws
+pub mod Renamed
+pub mod Stable
+pub mod Reducing
+pub mod Contracted
+pub mod Within
+pub mod PairWork
+pub mod CutSteps
+pub mod Known
+pub mod Rooted

@@ -1,0 +1,25 @@
+-- The parts of cuts stay in a larger arena.
+use Rattle.std.proofs.Common.{◌≡◌, ℕ, List, subst}
+use Rattle.std.specs.Prelude.{Result, IfOk}
+use Rattle.proof_trees.specs.Trees.{Tree}
+use Rattle.arena_cells.specs.Items.{Item}
+use Rattle.arena_cells.specs.Standing.{Extends, HasTree}
+use Rattle.arena_cells.proofs.Staying.{sequent_there, formula_there, tree_there}
+use Rattle.arena_cuts.specs.declared.cut.Ascent.{Ascent}
+use Rattle.arena_cuts.specs.CutNumbers.{IsAscentAt}
+
+pub larger : (a b c : List Item) → Extends a b → Extends b c → Extends a c
+larger a b c first second n t h = second n t (first n t h)
+
+module _ (a b : List Item) (grown : Extends a b) where
+  pub ascent_there : (c : Ascent) → IsAscentAt a c → IsAscentAt b c
+  ascent_there c h = record {
+    end = sequent_there a b grown c.end h.end;
+    formula = formula_there a b grown c.formula h.formula;
+    premise = tree_there a b grown c.premise h.premise;
+    other = tree_there a b grown c.other h.other;
+  }
+
+-- a tree that was made, by another description
+pub tree_made : {E : Type 0} (r : Result ℕ E) (a : List Item) (t u : Tree) → t ≡ u → IfOk r (λ n. HasTree a n t) → IfOk r (λ n. HasTree a n u)
+tree_made r a t u same = subst (λ (x : Tree). IfOk r (λ n. HasTree a n x)) same

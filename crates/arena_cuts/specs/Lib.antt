@@ -1,0 +1,7 @@
+pub mod CutNumbers
+pub mod Above
+pub mod AuxiliaryNumbers
+pub mod Reductions
+pub mod Passes
+pub mod Tables
+pub mod Pairs

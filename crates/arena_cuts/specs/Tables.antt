@@ -1,0 +1,19 @@
+-- What a table of eliminations says.
+use Rattle.std.specs.Prelude.{◌≡◌, ℕ, List, Some, IfSome}
+use Rattle.std.specs.Ordering.{nat_cmp}
+use Rattle.std.specs.BTreeMap as ordered
+use Rattle.std.specs.BTreeMap.{BTreeMap}
+use Rattle.elimination_laws.specs.Elimination.{elimination}
+use Rattle.arena_cells.specs.Items.{Item}
+use Rattle.arena_cells.specs.Standing.{tree_at, IsTreeAt}
+use Rattle.arena_cuts.specs.declared.table.Reduced.{Reduced}
+
+-- the entry has the tree that is reached from the tree at the number, and the number of contractions
+pub record IsEliminated (a : List Item) (n : ℕ) (e : Reduced) : Type 0 where
+  pub tree : IsTreeAt a n
+  pub result_there : IsTreeAt a e.proof
+  pub is : elimination (tree_at a n) e.reductions ≡ Some (tree_at a e.proof, e.reductions)
+
+-- each entry of a table does
+abbrev pub AreEliminated : List Item → BTreeMap ℕ Reduced → Type 0
+AreEliminated a table = (n : ℕ) → IfSome (ordered.get nat_cmp table n) (IsEliminated a n)

@@ -1,0 +1,20 @@
+//! Contraction and elimination of cuts, after Gentzen (1935), over the numbers of an arena.
+#![tactic(auto)]
+
+mod above;
+mod auxiliary;
+mod cases;
+mod contraction;
+mod cut;
+mod elimination;
+mod fault;
+mod moved;
+mod parts;
+mod steps;
+mod table;
+
+pub use contraction::contract_in;
+pub use elimination::eliminate_in;
+pub use fault::ElimFault;
+pub use steps::Steps;
+pub use table::Reduced;

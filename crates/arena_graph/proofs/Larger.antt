@@ -1,0 +1,25 @@
+-- What tables say stays right in a larger arena.
+use Rattle.std.proofs.Common.{ℕ, List, Some, None, IfSome}
+use Rattle.std.specs.Prelude.{Option}
+use Rattle.std.specs.Ordering.{nat_cmp}
+use Rattle.std.specs.BTreeMap as ordered
+use Rattle.proof_graph.specs.declared.graph.Graph.{Graph}
+use Rattle.proof_graph.specs.References.{Reference}
+use Rattle.arena_cells.specs.Items.{Item}
+use Rattle.arena_cells.specs.Standing.{Extends, HasSide}
+use Rattle.arena_graph.specs.declared.proof_numbers.ProofNumbers.{ProofNumbers as Tables}
+use Rattle.arena_graph.specs.ProofNumbers.{IsProofAt, AreNumbersOf}
+
+if_some_weaker : {X : Type 0} (o : Option X) (P Q : X → Type 0) → ((x : X) → P x → Q x) → IfSome o P → IfSome o Q
+if_some_weaker None P Q f h = tt
+if_some_weaker (Some x) P Q f h = f x h
+
+proof_stays : (g : Graph) (a b : List Item) → Extends a b → (n : ℕ) (r : Reference) → IsProofAt g a n r → IsProofAt g b n r
+proof_stays g a b grown n r h = record { of = h.of; tree = grown n _ h.tree; formed = h.formed }
+
+pub numbers_stay : (g : Graph) (a b : List Item) (t : Tables) → AreNumbersOf g a t → Extends a b → AreNumbersOf g b t
+numbers_stay g a b t h grown = record {
+  numbers = λ q. if_some_weaker (ordered.get nat_cmp t.numbers q) (λ e. IsProofAt g a e.number e.proof) (λ e. IsProofAt g b e.number e.proof) (λ e. proof_stays g a b grown e.number e.proof) (h.numbers q);
+  proofs = λ q. if_some_weaker (ordered.get nat_cmp t.proofs q) (IsProofAt g a q) (IsProofAt g b q) (proof_stays g a b grown q) (h.proofs q);
+  sides = λ q. if_some_weaker (ordered.get nat_cmp t.sides q) (HasSide a q) (HasSide b q) (λ s. grown q _) (h.sides q);
+}

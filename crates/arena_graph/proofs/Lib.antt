@@ -1,0 +1,3 @@
+pub mod Trees
+pub mod Larger
+pub mod FormedImages

@@ -1,0 +1,12 @@
+-- The inference of the root is right, since the tree is valid.
+use Rattle.std.proofs.Common.{sym, ◌∙◌}
+use Rattle.arena_cells.specs.Standing.{tree_at}
+use Rattle.arena_cells.proofs.Staying.{is_sequent}
+use Rattle.arena_graph.proofs.Trees.{inference_of}
+use Rattle.arena_graph.proofs.exports.export_over.Goals as goal
+
+pub intern-requires-clause-inference : goal.intern-requires-clause-inference
+intern-requires-clause-inference g c =
+    let a = c.args.arena.now in
+    inference_of (tree_at a c.args.proof) c.in_ok-rule.rule c.in_ok-end.end _ (c.in_ok-rule.ensures ∙ sym c.rule.ensures.rule) (c.in_ok-end.ensures.end ∙ is_sequent a c.end.result _ c.end.ensures) c.requires.trees
+    c.requires.valid

@@ -1,0 +1,14 @@
+-- The trees get smaller.
+use Rattle.std.proofs.Common.{◌+◌, ◌*◌}
+use Rattle.proof_graph.specs.Shown.{nodes, nodes_all}
+use Rattle.proof_graph.specs.References.{trees_of}
+use Rattle.arena_graph.proofs.imports.+import.Given as goal
+
+abbrev pub decreases-import_proof : goal.decreases-import_proof
+decreases-import_proof l = 3 * nodes l.proof.now.tree + 1
+
+abbrev pub decreases-import_new : goal.decreases-import_new
+decreases-import_new l = 3 * nodes l.proof.now.tree
+
+abbrev pub decreases-import_below : goal.decreases-import_below
+decreases-import_below l = 3 * nodes_all (trees_of l.premises.now) + 2

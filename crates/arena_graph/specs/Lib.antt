@@ -1,0 +1,2 @@
+pub mod FormedEnds
+pub mod ProofNumbers

@@ -1,0 +1,186 @@
+//! Trees that go from an arena into a graph.
+ghost use Rattle.std.specs.Prelude.{◌≡◌, ◌∷◌, [], IfOk};
+ghost use Rattle.std.specs.List.{All};
+ghost use mathlib.Core.List.{IsPrefix};
+ghost use Rattle.proof_trees.specs.Trees.{below, IsValid, AllValid};
+ghost use Rattle.proof_graph.specs.References.{trees_of};
+ghost use Rattle.proof_graph.specs.Graphs.{IsOf, IsPassOf, history};
+ghost use Rattle.arena_cells.specs.Standing.{sequent_at, tree_at, IsSequentAt, IsTreeAt};
+ghost use Rattle.arena_cells.specs.Meaning.{trees_at, HasPremises, ArePartsBelow};
+ghost use Rattle.arena_graph.specs.FormedEnds.{IsFormedSequent, HasFormedEnds, HaveFormedEnds};
+ghost use Rattle.arena_graph.specs.ProofNumbers.{AreNumbersOf};
+
+use crate::proof_numbers::ProofNumbers;
+use arena::{Arena, Parts};
+use arena_proofs::{end, export_rule, premises, rule};
+use lk_rules::Sequent;
+use proof_graph::{Graph, GraphPass, ProofRef};
+use std::alloc::{AllocError, Global};
+use std::sync::Wait;
+
+// The list of one reference.
+fn one(alloc: Global, only: ProofRef) -> Result<Vec<ProofRef>, AllocError>
+    ensures { IfOk result (λ list. list.items ≡ only ∷ []) }
+{
+    let mut list = Vec::with_capacity(alloc, 1)?;
+    list.push(only)?;
+    Ok(list)
+}
+
+// The list of two references.
+fn two(alloc: Global, first: ProofRef, second: ProofRef) -> Result<Vec<ProofRef>, AllocError>
+    ensures { IfOk result (λ list. list.items ≡ first ∷ second ∷ []) }
+{
+    let mut list = Vec::with_capacity(alloc, 2)?;
+    list.push(first)?;
+    list.push(second)?;
+    Ok(list)
+}
+
+// A sequent of well-formed formulas.
+#[tactic(auto, using(arena_cells::proofs::Facts::sequents))]
+fn export_end(
+    alloc: Global,
+    graph: &Graph,
+    arena: &Arena,
+    numbers: &mut ProofNumbers,
+    end: u32,
+) -> Result<Sequent, AllocError>
+    requires numbers { AreNumbersOf graph.now arena.now numbers.old }
+    requires there { IsSequentAt arena.now end }
+    requires formed { IsFormedSequent (sequent_at arena.now end) }
+    ensures end { IfOk result (λ s. s ≡ sequent_at arena.now end) }
+    ensures numbers_stay { AreNumbersOf graph.now arena.now numbers.new }
+{
+    let (left, right) = arena.sides(end);
+    let left = numbers.side(alloc, graph, arena, left)?;
+    let right = numbers.side(alloc, graph, arena, right)?;
+    Ok(Sequent { left, right })
+}
+
+// The reference of a tree, over those of the premises.
+fn export_over<R: Wait>(
+    rt: &R,
+    alloc: Global,
+    graph: &Graph,
+    pass: &mut GraphPass,
+    arena: &Arena,
+    numbers: &mut ProofNumbers,
+    proof: u32,
+    premises: &[ProofRef],
+) -> Result<ProofRef, AllocError>
+    requires pass_of { IsPassOf graph.now pass.old }
+    requires numbers { AreNumbersOf graph.now arena.now numbers.old }
+    requires there { IsTreeAt arena.now proof }
+    requires valid { IsValid (tree_at arena.now proof) }
+    requires formed { HasFormedEnds (tree_at arena.now proof) }
+    requires premises_of { All (IsOf graph.now) premises.now }
+    requires trees { trees_of premises.now ≡ below (tree_at arena.now proof) }
+    ensures tree { IfOk result (λ r. r.tree ≡ tree_at arena.now proof) }
+    ensures of { IfOk result (IsOf graph.now) }
+    ensures grown { IsPrefix (history pass.old) (history pass.new) }
+    ensures pass_stays { IsPassOf graph.now pass.new }
+    ensures numbers_stay { AreNumbersOf graph.now arena.now numbers.new }
+{
+    let rule = export_rule(arena, rule(arena, proof))?;
+    let end = export_end(alloc, graph, arena, numbers, end(arena, proof))?;
+    graph.intern(rt, alloc, pass, rule, end, premises)
+}
+
+// The reference of a tree that isn't known.
+#[cycle(export)]
+fn export_new<R: Wait>(
+    rt: &R,
+    alloc: Global,
+    graph: &Graph,
+    pass: &mut GraphPass,
+    arena: &Arena,
+    numbers: &mut ProofNumbers,
+    proof: u32,
+) -> Result<ProofRef, AllocError>
+    requires pass_of { IsPassOf graph.now pass.old }
+    requires numbers { AreNumbersOf graph.now arena.now numbers.old }
+    requires there { IsTreeAt arena.now proof }
+    requires valid { IsValid (tree_at arena.now proof) }
+    requires formed { HasFormedEnds (tree_at arena.now proof) }
+    ensures tree { IfOk result (λ r. r.tree ≡ tree_at arena.now proof) }
+    ensures of { IfOk result (IsOf graph.now) }
+    ensures grown { IsPrefix (history pass.old) (history pass.new) }
+    ensures pass_stays { IsPassOf graph.now pass.new }
+    ensures numbers_stay { AreNumbersOf graph.now arena.now numbers.new }
+{
+    let parts = premises(arena, proof);
+    let below = export_below(rt, alloc, graph, pass, arena, numbers, proof, parts)?;
+    export_over(rt, alloc, graph, pass, arena, numbers, proof, &below)
+}
+
+// The references of the premises' trees, whose numbers are below the number `above`.
+#[cycle(export)]
+fn export_below<R: Wait>(
+    rt: &R,
+    alloc: Global,
+    graph: &Graph,
+    pass: &mut GraphPass,
+    arena: &Arena,
+    numbers: &mut ProofNumbers,
+    above: u32,
+    premises: Parts,
+) -> Result<Vec<ProofRef>, AllocError>
+    requires pass_of { IsPassOf graph.now pass.old }
+    requires numbers { AreNumbersOf graph.now arena.now numbers.old }
+    requires there { HasPremises arena.now premises }
+    requires smaller { ArePartsBelow above premises }
+    requires valid { AllValid (trees_at arena.now premises) }
+    requires formed { HaveFormedEnds (trees_at arena.now premises) }
+    ensures trees { IfOk result (λ made. trees_of made.items ≡ trees_at arena.now premises) }
+    ensures of { IfOk result (λ made. All (IsOf graph.now) made.items) }
+    ensures grown { IsPrefix (history pass.old) (history pass.new) }
+    ensures pass_stays { IsPassOf graph.now pass.new }
+    ensures numbers_stay { AreNumbersOf graph.now arena.now numbers.new }
+{
+    let _above = above;
+    match premises {
+        Parts::Zero => Ok(Vec::new(alloc)),
+        Parts::One(only) => {
+            let only = export_proof(rt, alloc, graph, pass, arena, numbers, only)?;
+            one(alloc, only)
+        }
+        Parts::Two(first, second) => {
+            let first = export_proof(rt, alloc, graph, pass, arena, numbers, first)?;
+            let second = export_proof(rt, alloc, graph, pass, arena, numbers, second)?;
+            two(alloc, first, second)
+        }
+    }
+}
+
+/// The reference in the graph of a valid tree whose conclusions have well-formed formulas. A tree that is known costs a look-up among n of
+/// them, O(log n) comparisons of numbers. Else each distinct node of it that isn't known is interned, premises before conclusions; a node
+/// that the graph has keeps its number.
+#[cycle(export)]
+pub fn export_proof<R: Wait>(
+    rt: &R,
+    alloc: Global,
+    graph: &Graph,
+    pass: &mut GraphPass,
+    arena: &Arena,
+    numbers: &mut ProofNumbers,
+    proof: u32,
+) -> Result<ProofRef, AllocError>
+    requires pass_of { IsPassOf graph.now pass.old }
+    requires numbers { AreNumbersOf graph.now arena.now numbers.old }
+    requires there { IsTreeAt arena.now proof }
+    requires valid { IsValid (tree_at arena.now proof) }
+    requires formed { HasFormedEnds (tree_at arena.now proof) }
+    ensures tree { IfOk result (λ r. r.tree ≡ tree_at arena.now proof) }
+    ensures of { IfOk result (IsOf graph.now) }
+    ensures grown { IsPrefix (history pass.old) (history pass.new) }
+    ensures pass_stays { IsPassOf graph.now pass.new }
+    ensures numbers_stay { AreNumbersOf graph.now arena.now numbers.new }
+{
+    if let Some(known) = numbers.proof(graph, arena, proof) {
+        return known.keep();
+    }
+    let made = export_new(rt, alloc, graph, pass, arena, numbers, proof)?;
+    numbers.note(graph, arena, &made, proof)?;
+    Ok(made)
+}

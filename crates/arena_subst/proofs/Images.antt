@@ -1,0 +1,74 @@
+-- Trees under maps, by what stands in the arenas on the way.
+use Rattle.std.proofs.Common.{◌≡◌, ℕ, List, refl, sym, ap, subst, ◌∙◌}
+use Rattle.std.specs.Prelude.{Some}
+use Rattle.std.specs.FinMap as fin
+use Rattle.substitution.specs.Maps.{Map}
+use Rattle.substitution.specs.Restriction.{restricted}
+use Rattle.lk_rules.specs.declared.rule.Rule.{Rule}
+use Rattle.lk_rules.specs.declared.sequent.Sequent.{Sequent}
+use Rattle.lk_rules.specs.Sequents.{image_sequent}
+use Rattle.proof_trees.specs.Trees.{Tree, node, Trees, concl, rule_of, below, IsValid, AllValid}
+use Rattle.proof_trees.specs.Substitution.{image_rule, premise_map, sub, sub_all}
+use Rattle.arena_cells.specs.declared.key.RuleKey.{RuleKey}
+use Rattle.arena_cells.specs.declared.key.Parts.{Parts}
+use Rattle.arena_cells.specs.Items.{Item, sequent, tree}
+use Rattle.arena_cells.specs.Standing.{Extends, HasVariables, HasMap, HasSequent, HasTree, variables_at, map_at, sequent_at, tree_at, IsMapAt, IsTreeAt}
+use Rattle.arena_cells.specs.Meaning.{rule_at, trees_at}
+use Rattle.arena_cells.proofs.Staying.{is_map, is_sequent, are_variables, tree_stays}
+use Rattle.arena.specs.TreeVariables.{vars_tree}
+use Rattle.arena.proofs.Results.{map_stays}
+use Rattle.arena_subst.proofs.Needed.{needed_part, nothing_needed}
+
+-- from the variables of a tree and the part of the map that it needs
+module _ (a b c : List Item) (p m vs n : ℕ) (grown : Extends a b) (more : Extends b c) (there : IsTreeAt a p) (map : IsMapAt a m) (vars : HasVariables b vs (vars_tree (tree_at a p)))
+    (needed : HasMap c n (restricted (map_at b m) (variables_at b vs))) where
+  needed_is : map_at c n ≡ restricted (map_at a m) (vars_tree (tree_at a p))
+  needed_is = is_map c n _ needed ∙ λ i. restricted (map_stays a b grown m map i) (are_variables b vs _ vars i)
+
+  pub tree_kept : IsValid (tree_at a p) → map_at c n ≡ fin.empty → HasTree c p (sub (tree_at a p) (map_at a m))
+  tree_kept valid nothing =
+      more p _ (grown p _ there) ∙ ap (λ (t : Tree). Some (tree t)) (nothing_needed (tree_at a p) (map_at a m) valid (sym needed_is ∙ nothing))
+
+  pub tree_needed : sub (tree_at c p) (map_at c n) ≡ sub (tree_at a p) (map_at a m)
+  tree_needed =
+      (λ i. sub ((tree_stays a c (λ k t h. more k t (grown k t h)) p there) i) (needed_is i)) ∙ needed_part (tree_at a p) (map_at a m)
+
+root_image : (t : Tree) (m : Map) → let e = image_sequent (fin.get m) (concl t) in node (image_rule m (rule_of t) e) e (sub_all (below t) (premise_map m (rule_of t) e)) ≡ sub t m
+root_image (node r s ts) m = refl
+
+-- a tree under a map, from its root and the trees of the premises
+pub image_made : (t : Tree) (m : Map) (r : Rule) (e : Sequent) (us : Trees) → e ≡ image_sequent (fin.get m) (concl t) → r ≡ image_rule m (rule_of t) (image_sequent (fin.get m) (concl t))
+    → us ≡ sub_all (below t) (premise_map m (rule_of t) (image_sequent (fin.get m) (concl t))) → node r e us ≡ sub t m
+image_made t m r e us end rule premises = (λ i. node (rule i) (end i) (premises i)) ∙ root_image t m
+
+-- what stands when the conclusion and the premises have their images
+module _ (a b c d : List Item) (p m e end n : ℕ) (r : RuleKey) (ps us : Parts) (first : Extends a b) (second : Extends b c) (third : Extends c d) (there : IsTreeAt a p) (map : IsMapAt a m)
+    (conclusion : HasSequent a e (concl (tree_at a p))) (image : HasSequent b end (image_sequent (fin.get (map_at a m)) (sequent_at a e))) where
+  grown : Extends a d
+  grown k t h = third k t (second k t (first k t h))
+
+  later : HasSequent d end (image_sequent (fin.get (map_at a m)) (sequent_at a e))
+  later = third end _ (second end _ image)
+
+  tree_later : (x : List Item) → Extends a x → tree_at x p ≡ tree_at d p
+  tree_later x more = tree_stays a x more p there ∙ sym (tree_stays a d grown p there)
+
+  map_later : (x : List Item) → Extends a x → map_at x m ≡ map_at d m
+  map_later x more = map_stays a x more m map ∙ sym (map_stays a d grown m map)
+
+  pub end_there : HasSequent d end (image_sequent (fin.get (map_at d m)) (concl (tree_at d p)))
+  end_there =
+      later ∙ λ i. Some (sequent (image_sequent (fin.get (map_later a (λ k t h. h) i)) ((is_sequent a e _ conclusion ∙ ap concl (tree_later a (λ k t h. h))) i)))
+
+  pub images_there : rule_of (tree_at b p) ≡ rule_at b r → HasMap c n (premise_map (map_at b m) (rule_at b r) (sequent_at b end)) → below (tree_at c p) ≡ trees_at c ps → trees_at d us ≡ sub_all (trees_at c ps) (map_at c n)
+      → trees_at d us ≡ sub_all (below (tree_at d p)) (premise_map (map_at d m) (rule_of (tree_at d p)) (sequent_at d end))
+  images_there rule inner premises images =
+      let ends : sequent_at b end ≡ sequent_at d end = is_sequent b end _ image ∙ sym (is_sequent d end _ later) in
+      let rules : rule_at b r ≡ rule_of (tree_at d p) = sym rule ∙ ap rule_of (tree_later b first) in
+      let maps : map_at c n ≡ premise_map (map_at d m) (rule_of (tree_at d p)) (sequent_at d end) = is_map c n _ inner ∙ λ i. premise_map (map_later b first i) (rules i) (ends i) in
+      let trees : trees_at c ps ≡ below (tree_at d p) = sym premises ∙ ap below (tree_later c (λ k t h. second k t (first k t h))) in
+      images ∙ λ i. sub_all (trees i) (maps i)
+
+-- the trees below a valid tree are valid
+pub premises_valid : (t : Tree) (ts : Trees) → below t ≡ ts → IsValid t → AllValid ts
+premises_valid (node r s us) ts same h = subst (λ (x : Trees). AllValid x) same h.1

@@ -1,0 +1,5 @@
+pub mod Answered
+pub mod Members
+pub mod Needed
+pub mod Images
+pub mod Renaming

@@ -1,4 +1,0 @@
-pub mod CutSteps
-pub mod Several
-pub mod SameEnds
-pub mod Within

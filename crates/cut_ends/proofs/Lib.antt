@@ -1,0 +1,2 @@
+pub mod FormedCuts
+pub mod FormedResults
