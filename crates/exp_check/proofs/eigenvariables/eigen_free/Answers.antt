@@ -1,0 +1,29 @@
+-- What the sorted list shows is so of the list.
+use Rattle.std.proofs.Common.{◌≡◌, sym, ap, ◌∙◌}
+use Rattle.std.specs.Prelude.{Some, None, option_copied}
+use Rattle.exp_check.specs.Eigenvariables.{first_free, is_free_eigenvariable, IsLeast}
+use Rattle.expansion_laws.specs.Dependency.{strongs_of}
+use Rattle.exp_tree.specs.Reads.{expansion_of}
+use Rattle.std.proofs.Common.{subst}
+use Rattle.exp_check.proofs.Conditions.{fresh_by}
+use Rattle.exp_check.proofs.Repeats.{free_found}
+use Rattle.exp_check.proofs.eigenvariables.eigen_free.Goals as goal
+
+pub returns-in-Some-clause-least : goal.returns-in-Some-clause-least
+returns-in-Some-clause-least c =
+    let found : Some c.in_ok-copy-in-Some.field-0 ≡ first_free c.args.sequent.now c.sort_unstable.new.self.items =
+    ap Some c.in_ok-copy-in-Some.ensures ∙ sym (ap option_copied c.in-Some.is) ∙ c.first_free.ensures ∙ ap (first_free c.args.sequent.now) c.deref.ensures.value in
+    subst (λ vs. IsLeast (is_free_eigenvariable c.args.sequent.now vs) (Some c.in_ok-copy-in-Some.field-0)) c.in_ok-vars.ensures
+    (free_found c.args.sequent.now c.in_ok-vars.vars.items c.sort_unstable.new.self.items (Some c.in_ok-copy-in-Some.field-0) c.sort_unstable.ensures.permutation c.sort_unstable.ensures.sorted found)
+
+pub returns-clause-least : goal.returns-clause-least
+returns-clause-least c =
+    let found : None ≡ first_free c.args.sequent.now c.sort_unstable.new.self.items = sym (ap option_copied c.in-None.is) ∙ c.first_free.ensures ∙ ap (first_free c.args.sequent.now) c.deref.ensures.value in
+    subst (λ vs. IsLeast (is_free_eigenvariable c.args.sequent.now vs) None) c.in_ok-vars.ensures
+    (free_found c.args.sequent.now c.in_ok-vars.vars.items c.sort_unstable.new.self.items None c.sort_unstable.ensures.permutation c.sort_unstable.ensures.sorted found)
+
+pub returns-in-Some-clause-fresh : goal.returns-in-Some-clause-fresh
+returns-in-Some-clause-fresh c = fresh_by c.args.sequent.now (strongs_of (expansion_of c.args.exps.now)) (Some c.in_ok-copy-in-Some.field-0) (returns-in-Some-clause-least c)
+
+pub returns-clause-fresh : goal.returns-clause-fresh
+returns-clause-fresh c = fresh_by c.args.sequent.now (strongs_of (expansion_of c.args.exps.now)) None (returns-clause-least c)

@@ -1,0 +1,2 @@
+pub mod Eigenvariables
+pub mod Edges

@@ -1,0 +1,13 @@
+pub mod Codes
+pub mod Sizes
+pub mod Shown
+pub mod Falling
+pub mod Sorting
+pub mod Places
+pub mod FlatLists
+pub mod Roots
+pub mod Reading
+pub mod RootReading
+pub mod Sequents
+pub mod Reads
+pub mod Instances

@@ -1,0 +1,23 @@
+//! Expansion trees with shared parts, and the flat lists by which they are written, after Miller (1987).
+#![tactic(auto)]
+
+mod building;
+mod counts;
+mod deep_formulas;
+mod expansion;
+mod facts;
+mod flat;
+mod reading;
+mod reading_lists;
+mod roots;
+mod sequent_formulas;
+mod sequents;
+mod sorting;
+
+pub use counts::count_instances;
+pub use deep_formulas::deep;
+pub use expansion::{Exp, ExpRoot, Inst};
+pub use flat::{ExpNode, FlatExp, NodeCause, NodesFault, RootCause};
+pub use reading_lists::read_nodes;
+pub use sequent_formulas::{deep_sequent, shallow_sequent, strong_vars};
+pub use sequents::{ExpSequent, Exps};
