@@ -1,0 +1,1 @@
+"""A client library for gaptd: see README.md in the folder above."""

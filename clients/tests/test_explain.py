@@ -1,0 +1,119 @@
+from __future__ import annotations
+
+import json
+import unittest
+from typing import Any, Dict, List
+
+from gaptd.client import Reply
+from gaptd.explain import STEP_CAUSES, History, explain, wanted_of
+from gaptd.rules import Sequent
+from tests.support import CLIENTS, EXAMPLES, command, exchanges, session, steps_of
+
+
+def explained(steps: List[Dict[str, Any]], **fields: Any) -> str:
+    """What is said of a job `lk` with these steps, which has to be refused."""
+    job = {"job": "a", "op": "lk", "steps": steps, **fields}
+    with session() as one:
+        error = one.batch([job])[0].error
+    assert error is not None
+    return explain(job, error)
+
+
+def step(rule: str, left: List[str], right: List[str], *premises: int, **fields: str) -> Dict[str, Any]:
+    return {"rule": rule, **fields, "premises": list(premises), "left": left, "right": right}
+
+
+class Steps(unittest.TestCase):
+    def test_a_premise_that_does_not_fit(self) -> None:
+        text = explained([step("ax", ["p(b)"], ["p(b)"], main="p(b)"),
+                          step("allL", ["![X]: p(X)"], ["p(b)"], 0, main="![X]: p(X)", term="a")])
+        self.assertIn("step 1 is allL ![V0]: p(V0) by a over step 0", text)
+        self.assertIn("too much on the left: p(b)", text)
+        self.assertIn("not there on the left: p(a)", text)
+
+    def test_how_a_quantifier_binds(self) -> None:
+        text = explained([step("ax", ["p"], ["p"], main="p"), step("allR", ["p"], ["![X]: p(X) & q"], 0, main="![X]: p(X) & q", var="X")])
+        self.assertIn("takes a universal formula, and the main formula is a conjunction: (![V0]: p(V0)) & (q)", text)
+        self.assertIn("put parentheses around all that it shall take", text)
+
+    def test_other_causes(self) -> None:
+        axiom = step("ax", ["p(X)"], ["p(X)"], main="p(X)")
+        self.assertIn("free in the conclusion, and it is in p(X)",
+                      explained([axiom, step("allR", ["p(X)"], ["![Y]: p(Y)"], 0, main="![Y]: p(Y)", var="X")]))
+        self.assertIn("the right of its conclusion must have the main formula p(a)",
+                      explained([step("ax", ["p(a)"], ["p(b)"], main="p(a)")]))
+        self.assertIn("its premise 7 is no earlier step", explained([axiom, step("weak", [], [], 7)]))
+        self.assertIn("andR takes 2 premises, and the step names 1", explained([axiom, step("andR", [], ["p & q"], 0, main="p & q")]))
+
+    def test_the_table_of_rules_is_the_program_s(self) -> None:
+        """In all examples a premise fits by this table just where the program says so."""
+        fitting = faulty = 0
+        for job, reply in steps_of("lk"):
+            error = reply.get("error", {})
+            if "using" in job or error.get("kind", "step") != "step":
+                continue
+            right = len(job["steps"]) if "ok" in reply else error["step"]
+            for number in range(right):
+                self.assertTrue(all(fits(job["steps"], number)))
+                fitting += 1
+            if error.get("cause") == "premise":
+                self.assertEqual(fits(job["steps"], right).index(False), error["premise"])
+                faulty += 1
+        self.assertGreater(fitting, 500)
+        self.assertGreater(faulty, 5)
+
+
+def fits(steps: List[Dict[str, Any]], number: int) -> List[bool]:
+    """Whether each premise of a step is a subsequent of what its rule wants."""
+    wanted = wanted_of(steps[number], {})
+    return [Sequent.of(steps[k]["left"], steps[k]["right"]) <= most for k, most in zip(steps[number]["premises"], wanted)]
+
+
+class Others(unittest.TestCase):
+    def test_a_refutation(self) -> None:
+        problem = {"job": "c", "op": "problem", "text": "cnf(a,axiom,p(a)). cnf(b,axiom,~p(X) | q(X))."}
+        job = {"job": "r", "op": "resolution", "problem": "c", "steps": [{"input": 0}, {"input": 1}, {"resolve": [0, 1], "atom": "p(a)"}]}
+        with session() as one:
+            exchanged = one.send_all([problem, job])
+        history = History()
+        history.add(*exchanged[0])
+        error = exchanged[1][1].error
+        assert error is not None
+        text = explain(job, error, history)
+        self.assertIn("~p(X) | q(X)", text)
+        self.assertIn("p(a) is not among the negative literals of step 1", text)
+
+    def test_a_fault_of_a_text_is_pointed_at(self) -> None:
+        lines = explained([step("ax", ["p & q | r"], ["p"], main="p")]).splitlines()
+        self.assertEqual(lines[-2:], ["  p & q | r", "        ^"])
+
+    def test_a_refused_job_that_is_named(self) -> None:
+        history = History()
+        history.add({"job": "a", "op": "lk", "steps": []}, Reply("a", 1, {}, {"kind": "empty"}))
+        text = explain({"job": "b", "op": "show", "of": "a"}, {"kind": "kind", "name": "a"}, history)
+        self.assertEqual(text.splitlines(), ["a was refused itself (and keeps its name all the same):", "  the list of steps is empty"])
+
+    def test_every_refusal_of_the_examples(self) -> None:
+        kinds, causes = set(), set()
+        for path in EXAMPLES.glob("*.jobs"):
+            history = History()
+            for job, reply in exchanges(path.stem):
+                if "error" in reply:
+                    kinds.add(reply["error"]["kind"])
+                    causes.add(reply["error"].get("cause"))
+                    self.assertTrue(explain(job, reply["error"], history))
+                history.add(job, Reply(reply["job"], reply["n"], reply.get("ok", {}), reply.get("error")))
+        self.assertLessEqual({"step", "refutation", "field", "formula", "tptp", "unknown_name", "kind", "budget"}, kinds)
+        self.assertLessEqual(set(STEP_CAUSES), causes)
+
+
+class Command(unittest.TestCase):
+    def test_a_proof_with_a_mistake(self) -> None:
+        path = CLIENTS / "examples" / "mistake.json"
+        done = command("gaptd.explain", str(path))
+        self.assertEqual(done.returncode, 1, done.stderr)
+        self.assertIn("too much on the left: man(socrates) => mortal(socrates)", done.stdout)
+        self.assertIn("not there on the left: man(plato) => mortal(plato)", done.stdout)
+        mended = json.loads(path.read_text().replace("plato", "socrates"))
+        done = command("gaptd.explain", given=json.dumps(mended, indent=2))
+        self.assertEqual((done.returncode, done.stdout), (0, "0 of 1 jobs refused\n"))

@@ -1,0 +1,65 @@
+"""The examples of the READMEs do what they show."""
+from __future__ import annotations
+
+import os
+import re
+import subprocess
+import sys
+import unittest
+from pathlib import Path
+from typing import Iterator, List, Tuple
+
+from gaptd.client import default_program
+from tests.support import CLIENTS, SECONDS, TOP
+
+
+def blocks(path: Path) -> Iterator[List[str]]:
+    """The indented blocks of a page, without their indentation. Empty lines stand within a block."""
+    found: List[str] = []
+    for line in path.read_text().splitlines() + ["end"]:
+        if line.startswith("    ") or (found and not line):
+            found.append(line[4:])
+        elif found:
+            yield found
+            found = []
+
+
+def run(words: List[str], folder: Path, given: str = "") -> str:
+    """What a command writes, where the program is the one under test."""
+    there = os.pathsep.join([str(CLIENTS), os.environ.get("PYTHONPATH", "")])
+    environment = {**os.environ, "PYTHONPATH": there, "GAPTD": " ".join(default_program())}
+    done = subprocess.run(words, cwd=folder, env=environment, capture_output=True, text=True, input=given, timeout=SECONDS, check=False)
+    return done.stdout
+
+
+def commands(path: Path) -> Iterator[Tuple[str, str]]:
+    """The commands of a page and what they are said to write."""
+    for block in blocks(path):
+        if block[0].startswith("$ "):
+            yield block[0][2:], "\n".join(block[1:]).rstrip()
+
+
+class Pages(unittest.TestCase):
+    def test_commands(self) -> None:
+        count = 0
+        for path, folder in ((TOP / "README.md", TOP), (CLIENTS / "README.md", CLIENTS)):
+            for line, wanted in commands(path):
+                with self.subTest(line):
+                    line = re.sub(r"\S*gaptd\.sh\b", lambda _: " ".join(default_program()), line)
+                    self.assertEqual(run(["sh", "-c", line], folder).rstrip(), wanted)
+                    count += 1
+        self.assertGreaterEqual(count, 5)
+
+    def test_ten_lines_of_python(self) -> None:
+        program, = ["\n".join(block) for block in blocks(TOP / "README.md") if block[0].startswith("import json, subprocess")]
+        self.assertLessEqual(len(program.strip().splitlines()), 10)
+        program = program.replace('["./gaptd.sh"]', repr(default_program()))
+        self.assertEqual(run([sys.executable, "-W", "ignore", "-c", program], TOP).splitlines(), [
+            "{'job': 'a', 'n': 1, 'ok': {'cuts': 0, 'left': ['p'], 'quants': 0, 'right': ['p']}}",
+            "{'job': 'b', 'n': 2, 'ok': {'cuts': 0, 'nodes': 1, 'quants': 0, 'size': 1}}",
+        ])
+
+    def test_a_session(self) -> None:
+        program, = ["\n".join(block) for block in blocks(CLIENTS / "README.md") if block[0].startswith("from gaptd")]
+        wanted, = ["\n".join(block).rstrip() for block in blocks(CLIENTS / "README.md") if block[0].startswith("['man")]
+        self.assertEqual(run([sys.executable, "-c", program], TOP).rstrip(), wanted)
