@@ -15,7 +15,7 @@ use Rattle.edge_io.specs.Causes.{Rose}
 use Rattle.edge_io.specs.Lines.{is_newline, OneLine}
 use Rattle.edge_io.specs.LineSoFar.{IsSoFar, is_nothing, next_of, Grows, TakesPiece}
 use Rattle.edge_io.specs.Reader.{Reader, allowance}
-use Rattle.edge_io.specs.Reading.{Tells, HandsOn, CutsOff, Overflows, Answers}
+use Rattle.edge_io.specs.Reading.{Tells, HandsOn, CutsOff, Overflows, LacksMemory, Answers}
 use Rattle.edge_io.specs.Refilling.{TakesBytes, TakesByteTooMany}
 
 -- the first newline cuts the bytes in two
@@ -199,6 +199,18 @@ cuts_off line max old now before mid after p none nothing =
       subst OneLine (sym all) p.one,
       omega (arith, p.within, ap length all),
     )
+
+-- memory ran out in the midst of a line
+pub lacks_memory : (line : LineSoFar) (max : ℕ) (old now new : Reader) (before after : Option (List ℕ)) → IsPartway max line old now before after
+    → new.pending ≡ now.pending → new.room ≡ now.room → LacksMemory old new before after
+lacks_memory line max old now new before after p pending room = record {
+  part = p.got;
+  taken = p.taken;
+  one = p.one;
+  from = p.from;
+  bytes = p.bytes ∙ ap (λ (l : List ℕ). p.got ++ l) (sym pending);
+  within = omega (arith, p.within, ap length pending, room);
+}
 
 -- a byte past the limit came in the midst of a line
 pub overflows : (line : LineSoFar) (max : ℕ) (old now : Reader) (before mid after : Option (List ℕ)) → IsPartway max line old now before mid

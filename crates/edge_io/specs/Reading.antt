@@ -50,9 +50,14 @@ abbrev pub Overflows : Reader → Option (List ℕ) → Option (List ℕ) → Ty
 Overflows old before after = (taken : List ℕ) × (byte : ℕ) × Consumes before after (taken ++ byte ∷ [])
     × OneLine (old.pending ++ taken) × (length (old.pending ++ taken) ≡ allowance old)
 
--- memory ran out with a part of a line taken, within the limit
-abbrev pub LacksMemory : Reader → Option (List ℕ) → Option (List ℕ) → Type 0
-LacksMemory old before after = (taken : List ℕ) × Consumes before after taken × (length (old.pending ++ taken) ≤ allowance old)
+-- memory ran out in the midst of a line: the bytes that were pending, and those taken now, are a part of it and what is pending now
+pub record LacksMemory (old new : Reader) (before after : Option (List ℕ)) : Type 0 where
+  pub part : List ℕ
+  pub taken : List ℕ
+  pub one : OneLine part
+  pub from : Consumes before after taken
+  pub bytes : old.pending ++ taken ≡ part ++ new.pending
+  pub within : allowance old ≡ length part + allowance new
 
 -- what each answer says; f and f' are the source's faults, and before and after the bytes that it has left
 abbrev pub Answers : Next → ℕ → ℕ → ℕ → Reader → Reader → Option (List ℕ) → Option (List ℕ) → Type 0
@@ -61,4 +66,4 @@ Answers TooLong max f f' old new before after = HandsOn TooLong max old new befo
 Answers End max f f' old new before after = IsDone old before after × (new.ended ≡ true)
 Answers ReadFault max f f' old new before after = Rose f f' × (old.at_end ≡ false) × CutsOff old before after × (new.ended ≡ true)
 Answers InputFull max f f' old new before after = (old.at_end ≡ false) × Overflows old before after × (new.ended ≡ true)
-Answers Memory max f f' old new before after = (old.at_end ≡ false) × LacksMemory old before after × (new.ended ≡ true)
+Answers Memory max f f' old new before after = (old.at_end ≡ false) × LacksMemory old new before after × (new.ended ≡ true)

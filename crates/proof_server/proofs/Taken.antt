@@ -3,18 +3,16 @@ use Rattle.std.proofs.Common.{◌≡◌, ℕ, Bool, true, false, List, Ok, sym, 
 use Rattle.std.specs.Prelude.{Some, if◌then◌else◌}
 use Rattle.proof_graph.specs.declared.graph.Graph.{Graph}
 use Rattle.job_lang.specs.declared.jobs.Op.{Op}
-use Rattle.reply_lines.specs.declared.replies.Outcome.TheVariants.{NameTaken}
-use Rattle.proof_server.specs.Values.{Lookup, fault}
-use Rattle.proof_server.specs.Operations.{run}
-use Rattle.proof_server.specs.Answers.{is_taken, run_read}
+use Rattle.operations.specs.Running.{run}
+use Rattle.proof_server.specs.Answers.{name_taken, faulty, answered, Lookup, values_for, is_taken, run_read}
 use Rattle.proof_server.specs.Shown.{IsConcluded}
 use Rattle.proof_server.specs.declared.store.Conclusion.{Conclusion}
 
 module _ (g : Graph) (lookup : Lookup) (name : List ℕ) (op : Op) (b : Bool) (tested : b ≡ is_taken lookup (Some name)) (c : Conclusion) where
-  pub taken : b ≡ true → IsConcluded g c (fault NameTaken) → IsConcluded g c (run_read lookup (Some name) (Ok op))
+  pub taken : b ≡ true → IsConcluded g c (faulty name_taken) → IsConcluded g c (run_read lookup (Some name) (Ok op))
   taken is concluded =
-      subst (λ (test : Bool). IsConcluded g c (if test then fault NameTaken else run lookup op)) (sym (sym tested ∙ is)) concluded
+      subst (λ (test : Bool). IsConcluded g c (if test then faulty name_taken else answered (run op (values_for lookup op)))) (sym (sym tested ∙ is)) concluded
 
-  pub untaken : b ≡ false → IsConcluded g c (run lookup op) → IsConcluded g c (run_read lookup (Some name) (Ok op))
+  pub untaken : b ≡ false → IsConcluded g c (answered (run op (values_for lookup op))) → IsConcluded g c (run_read lookup (Some name) (Ok op))
   untaken is concluded =
-      subst (λ (test : Bool). IsConcluded g c (if test then fault NameTaken else run lookup op)) (sym (sym tested ∙ is)) concluded
+      subst (λ (test : Bool). IsConcluded g c (if test then faulty name_taken else answered (run op (values_for lookup op)))) (sym (sym tested ∙ is)) concluded

@@ -6,8 +6,8 @@ use Rattle.std.proofs.lemmas.Bool.Decides.{nat_tests}
 use Rattle.proof_server.specs.Jobs.{Past, IsKept, max_line, in_order, is_job, jobs}
 use Rattle.proof_server.specs.Replying.{reply_line, is_ok_reply}
 use Rattle.proof_server.specs.Session.{out, all_ok, IsPartOfReply, IsPartOfNext}
-use Rattle.proof_server.specs.Values.{Run, fault, short, done}
-use Rattle.proof_server.specs.Answers.{IsLawful, may_lack, run_line, held_of}
+use Rattle.operations.specs.Answers.{refused, failed, lacking, product}
+use Rattle.proof_server.specs.Answers.{Run, faulty, answered as answered_by, IsLawful, may_lack, run_line, held_of}
 use Rattle.proof_server.specs.Means.{IsStore}
 use Rattle.proof_server.specs.Shown.{job_of}
 use Rattle.proof_server.specs.Turn.{IsBehind, IsTaken, IsTakenInPart}
@@ -15,9 +15,11 @@ use Rattle.proof_server.specs.declared.session.Session.{Session}
 
 -- each run may end with memory or without it
 pub some_end : (r : Run) → (lacked : Bool) × may_lack lacked r
-some_end (fault outcome) = (false, refl)
-some_end short = (true, refl)
-some_end (done outcome value) = (false, tt)
+some_end (faulty f) = (false, refl)
+some_end (answered_by (refused r)) = (false, refl)
+some_end (answered_by (failed f)) = (false, tt)
+some_end (answered_by lacking) = (true, refl)
+some_end (answered_by (product p)) = (false, tt)
 
 pub jobs_of_job : (line : List ℕ) → is_job line ≡ true → jobs (line ∷ []) ≡ line ∷ []
 jobs_of_job line job = ap (λ (b : Bool). cond b (line ∷ []) []) job

@@ -1,5 +1,5 @@
 -- How a session ends, by cases.
-use Rattle.std.specs.Prelude.{◌≡◌, ℕ, ◌≤◌, ◌⊎◌, Bool, List, [], ◌∷◌, ◌++◌, length, Option, if◌then◌else◌}
+use Rattle.std.specs.Prelude.{◌≡◌, ℕ, ◌+◌, ◌≤◌, ◌⊎◌, Bool, List, [], ◌∷◌, ◌++◌, length, Option, if◌then◌else◌}
 use Rattle.std.specs.Io.KnownBytes.{Consumes, Appends, IsAtEnd}
 use Rattle.edge_io.specs.Causes.{Rose}
 use Rattle.edge_io.specs.Lines.{lines_of, whole_lines}
@@ -43,18 +43,19 @@ pub record IsFull (limit : ℕ) (before after old new flushed : Option (List ℕ
   pub all_flushed : flushed ≡ new
 
 -- what was written is the beginning of the replies to the lines that were read
-pub record IsPartWritten (before after old new : Option (List ℕ)) : Type 0 where
+pub record IsPartWritten (limit : ℕ) (before after old new : Option (List ℕ)) : Type 0 where
   pub taken : List ℕ
   pub written : List ℕ
   pub moved : Carries taken written before after old new
+  pub within : length taken ≤ limit + 1
   pub replies : RepliesInPart (whole_lines taken) written ⊎ (IsAtEnd after × RepliesInPart (lines_of taken) written)
 
 -- how a session ended that may read `limit` bytes: the source's count of faults went from f to f', the sink's from k to k'
 abbrev pub Ends : Ended → ℕ → ℕ → ℕ → ℕ → ℕ → Option (List ℕ) → Option (List ℕ) → Option (List ℕ) → Option (List ℕ) → Option (List ℕ) → Type 0
 Ends (Done good) limit f f' k k' before after old new flushed = IsDone good limit before after old new flushed
 Ends ReadFault limit f f' k k' before after old new flushed = Rose f f' × IsCutOff limit before after old new flushed
-Ends WriteFault limit f f' k k' before after old new flushed = Rose k k' × IsPartWritten before after old new
-Ends Memory limit f f' k k' before after old new flushed = IsPartWritten before after old new
+Ends WriteFault limit f f' k k' before after old new flushed = Rose k k' × IsPartWritten limit before after old new
+Ends Memory limit f f' k k' before after old new flushed = IsPartWritten limit before after old new
 Ends InputFull limit f f' k k' before after old new flushed = IsFull limit before after old new flushed
 
 -- the status that a session ends with

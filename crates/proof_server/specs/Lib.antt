@@ -1,13 +1,8 @@
 pub mod Jobs
-pub mod Values
-pub mod Naming
-pub mod Operations
 pub mod Answers
-pub mod Asked
+pub mod Claimed
 pub mod Replying
 pub mod Means
-pub mod Given
-pub mod ReadOps
 pub mod Shown
 pub mod Session
 pub mod Ending

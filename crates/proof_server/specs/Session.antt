@@ -1,8 +1,13 @@
 -- The replies of a session, as a function of its jobs: no reader, no window and no worker is in it.
-use Rattle.std.specs.Prelude.{◌≡◌, ℕ, ◌<◌, ◌&&◌, Bool, true, List, [], ◌∷◌, ◌++◌, length}
+--     out, all_ok      the reply lines of jobs, and whether none is an error
+--     flags_of, memory_flags      which jobs lacked memory, and which the bytes of their replies tell of
+--     Replies, RepliesInPart      bytes are the replies to all jobs of lines, or to the first of them
+use Rattle.std.specs.Prelude.{◌≡◌, ℕ, ◌<◌, ◌&&◌, Bool, true, List, [], ◌∷◌, ◌++◌, length, map}
+use Rattle.edge_io.specs.Lines.{whole_lines}
+use Rattle.reply_lines.specs.OneLine.{reports_want}
 use Rattle.proof_server.specs.Jobs.{Past, in_order, jobs}
 use Rattle.proof_server.specs.Answers.{IsLawful}
-use Rattle.proof_server.specs.Asked.{AreProofs}
+use Rattle.proof_server.specs.Claimed.{AreClaimed}
 use Rattle.proof_server.specs.Replying.{reply_line, is_ok_reply}
 
 -- the reply lines of these jobs, in order
@@ -15,13 +20,24 @@ abbrev pub all_ok : List Past → Bool
 all_ok [] = true
 all_ok (job ∷ earlier) = all_ok earlier && is_ok_reply earlier job
 
--- the bytes are the replies to all jobs of these lines, in order, and nothing else; each proof answered is a valid one of the sequent asked
+-- whether each of these jobs lacked memory, in the order in which they came
+abbrev pub flags_of : List Past → List Bool
+flags_of [] = []
+flags_of (job ∷ earlier) = flags_of earlier ++ job.lacked ∷ []
+
+-- which of the reply lines among these bytes report want of memory
+abbrev pub memory_flags : List ℕ → List Bool
+memory_flags written = map reports_want (whole_lines written)
+
+-- The bytes are the replies to all jobs of these lines, in order, and nothing else; what each job makes is what its operation claims, and
+-- the bytes tell which jobs lacked memory.
 pub record Replies (lines : List (List ℕ)) (written : List ℕ) : Type 0 where
   pub done : List Past
   pub lawful : IsLawful done
-  pub proofs : AreProofs done
+  pub claimed : AreClaimed done
   pub each : in_order done ≡ jobs lines
   pub bytes : written ≡ out done
+  pub flags : flags_of done ≡ memory_flags written
 
 -- the bytes are the beginning of the next job's reply line, and not the whole of it
 pub record IsPartOfReply (earlier : List Past) (line part : List ℕ) : Type 0 where
@@ -37,14 +53,15 @@ abbrev pub IsPartOfNext : List Past → List (List ℕ) → List ℕ → Type 0
 IsPartOfNext earlier [] part = part ≡ []
 IsPartOfNext earlier (line ∷ lines) part = IsPartOfReply earlier line part
 
--- the bytes are the replies to the first jobs of these lines, in order, and then perhaps a part of the next one's; each proof answered is
--- a valid one of the sequent asked
+-- The bytes are the replies to the first jobs of these lines, in order, and then perhaps a part of the next one's; what each job makes is
+-- what its operation claims, and the bytes tell which jobs lacked memory.
 pub record RepliesInPart (lines : List (List ℕ)) (written : List ℕ) : Type 0 where
   pub done : List Past
   pub waiting : List (List ℕ)
   pub part : List ℕ
   pub lawful : IsLawful done
-  pub proofs : AreProofs done
+  pub claimed : AreClaimed done
   pub each : in_order done ++ waiting ≡ jobs lines
   pub bytes : written ≡ out done ++ part
+  pub flags : flags_of done ≡ memory_flags written
   pub next : IsPartOfNext done waiting part

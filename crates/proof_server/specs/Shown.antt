@@ -1,11 +1,11 @@
 -- What the program's answer to a job is, and its reply line, for a job that comes after others.
-use Rattle.std.specs.Prelude.{◌≡◌, ℕ, List, ◌∷◌, Bool}
+use Rattle.std.specs.Prelude.{◌≡◌, ℕ, List, ◌∷◌, Bool, Some}
 use Rattle.proof_graph.specs.declared.graph.Graph.{Graph}
 use Rattle.proof_server.specs.Jobs.{Past}
-use Rattle.proof_server.specs.Values.{Run, concluded}
-use Rattle.proof_server.specs.Answers.{name_of, held_of, run_line, outcome_of, may_lack}
+use Rattle.operations.specs.Means.{sense, Fits}
+use Rattle.proof_server.specs.Answers.{Run, outcome_in, value_in, name_of, held_of, run_line, outcome_of, may_lack}
 use Rattle.proof_server.specs.Replying.{reply_line, is_ok_reply}
-use Rattle.proof_server.specs.Means.{Means, IsStore}
+use Rattle.proof_server.specs.Means.{IsStore}
 use Rattle.proof_server.specs.declared.store.Store.{Store}
 use Rattle.proof_server.specs.declared.store.Conclusion.{Conclusion}
 use Rattle.proof_server.specs.declared.reply.Shown.{Shown}
@@ -18,8 +18,9 @@ job_of line lacked = record { line = line; lacked = lacked }
 -- what came of a run, with what the job holds
 pub record IsConcluded (g : Graph) (c : Conclusion) (r : Run) : Type 0 where
   pub lawful : may_lack c.lacked r
-  pub outcome_is : c.outcome ≡ (concluded c.lacked r).outcome
-  pub means : Means g c.held (concluded c.lacked r).value
+  pub outcome_is : c.outcome ≡ outcome_in c.lacked r
+  pub means : sense c.held ≡ Some (value_in c.lacked r)
+  pub fits : Fits g c.held
 
 -- what is shown of a line is the answer to it, and the store knows what the job holds
 pub record IsAnswered (shown : Shown) (store : Store) (line : List ℕ) (earlier : List Past) : Type 0 where

@@ -1,13 +1,35 @@
-//! The laws of the proofs that jobs hold. The function does nothing: its contract is the laws.
-ghost use Rattle.std.specs.Prelude.{List};
+//! The laws of what is answered. Each function does nothing: its contract is the law.
+ghost use Rattle.std.specs.Prelude.{◌≡◌, ◌++◌, ℕ, List};
+ghost use Rattle.reply_lines.specs.OneLine.{IsOneLine};
 ghost use Rattle.proof_server.specs.Jobs.{Past};
-ghost use Rattle.proof_server.specs.Answers.{held_of};
-ghost use Rattle.proof_server.specs.Asked.{AreProofs, HoldsProofs, HoldsProblems};
+ghost use Rattle.proof_server.specs.Answers.{held_of, IsLawful};
+ghost use Rattle.proof_server.specs.Claimed.{AreClaimed, HoldsSound};
+ghost use Rattle.proof_server.specs.Replying.{reply_line};
+ghost use Rattle.proof_server.specs.Session.{out, flags_of, memory_flags, IsPartOfNext, Replies};
 
-/// Each proof that a name stands for is valid, and each problem that a name stands for is such as is read. Each proof that is answered is
-/// a valid proof of the sequent that its job asks for.
+use job_lang::laws::formed_readings;
+use operations::laws::{claims, replies as answers_shown};
+use reply_lines::laws::lines;
+
+/// Each value that a name stands for is sound: a proof is valid, and a problem is such as is read. What each job makes is what its
+/// operation claims.
 pub fn held_proofs()
-    ensures held { (earlier : List Past) → HoldsProofs (held_of earlier) }
-    ensures problems { (earlier : List Past) → HoldsProblems (held_of earlier) }
-    ensures answered { (jobs : List Past) → AreProofs jobs }
-{}
+    ensures held { (earlier : List Past) → HoldsSound (held_of earlier) }
+    ensures claimed { (jobs : List Past) → AreClaimed jobs }
+{
+    formed_readings();
+    claims();
+    answers_shown();
+}
+
+/// A reply line is one line, so the bytes of replies tell which jobs lacked memory, and bytes are the replies of at most one list of jobs
+/// to the same lines.
+pub fn replies()
+    ensures one_line { (earlier : List Past) (job : Past) → IsOneLine (reply_line earlier job) }
+    ensures told { (done : List Past) (waiting : List (List ℕ)) (part : List ℕ) → IsLawful done → IsPartOfNext done waiting part
+        → flags_of done ≡ memory_flags (out done ++ part) }
+    ensures one_list { (asked : List (List ℕ)) (written : List ℕ) (a b : Replies asked written) → a.done ≡ b.done }
+{
+    lines();
+    answers_shown();
+}

@@ -1,16 +1,14 @@
 //! The names that jobs have taken, with what the jobs hold.
-ghost use Rattle.std.specs.Prelude.{◌≡◌, ◌∷◌, [], ℕ, List, Some, IfOk, OnOk, option_copied, option_map, unwrap_or};
+ghost use Rattle.std.specs.Prelude.{◌≡◌, ◌∷◌, [], List, Some, IfOk, OnOk, option_copied, unwrap_or};
 ghost use Rattle.std.specs.HashMap.{get_by_text};
 ghost use Rattle.proof_graph.specs.declared.graph.Graph.{Graph};
+ghost use Rattle.operations.specs.declared.held.Held.TheVariants.{Unknown};
+ghost use Rattle.operations.specs.Means.{sense, Fits};
 ghost use Rattle.proof_server.specs.Jobs.{Past};
-ghost use Rattle.proof_server.specs.Values.{concluded};
-ghost use Rattle.proof_server.specs.Naming.{without as without_suffix, pair_name as pair_of};
-ghost use Rattle.proof_server.specs.Answers.{name_of, run_line, held_of, is_taken as is_taken_by};
-ghost use Rattle.proof_server.specs.Means.{Means, Knows};
-ghost use Rattle.proof_server.specs.Given.{base_name as base_of, IsGiven};
-ghost use Rattle.proof_server.specs.declared.held.Held.TheVariants.{Unknown};
+ghost use Rattle.proof_server.specs.Answers.{name_of, run_line, held_of, value_in, is_taken as is_taken_by};
+ghost use Rattle.proof_server.specs.Means.{value_named, Knows};
 
-use crate::held::Held;
+use operations::Held;
 use std::alloc::{AllocError, Global};
 use std::collections::HashMap;
 
@@ -18,32 +16,6 @@ use std::collections::HashMap;
 #[derive(Drop)]
 pub struct Names {
     pub held: HashMap<String, Held>,
-}
-
-fn without<'t>(text: &'t str, suffix: &str) -> Option<&'t str>
-    ensures { option_map (λ name. name.now) result ≡ without_suffix suffix.now text.now }
-{
-    text.strip_suffix(suffix)
-}
-
-/// The name of the pair that a name with the suffix `.first` or `.second` is about.
-pub fn pair_name(text: &str) -> Option<&str>
-    ensures { option_map (λ name. name.now) result ≡ pair_of text.now }
-{
-    match without(text, ".first") {
-        Some(name) => Some(name),
-        None => without(text, ".second"),
-    }
-}
-
-// The name of the job that a field with this text is about.
-fn base_name(text: &str) -> &str
-    ensures { result.now ≡ base_of text.now }
-{
-    match pair_name(text) {
-        Some(name) => name,
-        None => text,
-    }
 }
 
 // What a name stands for, where the job with it holds this.
@@ -80,17 +52,17 @@ impl Names {
         self.held.contains_key(name)
     }
 
-    /// The value that a field with this text names. Of a proof of a pair, which is named by a suffix, it is what the pair's name stands for.
-    pub fn value(&self, alloc: Global, text: &str) -> Result<Held, AllocError>
-        ensures { (g : Graph) (earlier : List Past) → Knows g self.now earlier → IfOk result (λ h. IsGiven g (held_of earlier) text.now h) }
+    /// The value that a name stands for.
+    pub fn value(&self, alloc: Global, name: &str) -> Result<Held, AllocError>
+        ensures { IfOk result (λ h. h ≡ value_named self.now name.now) }
     {
-        value_of(alloc, self.find(base_name(text)))
+        value_of(alloc, self.find(name))
     }
 
     /// Keeps what a job holds under its name, unless an earlier job has the name.
     pub fn learn(&mut self, alloc: Global, name: &str, held: Held) -> Result<(), AllocError>
         ensures { (g : Graph) (earlier : List Past) (job : Past) → Knows g self.old earlier → name_of job.line ≡ Some name.now
-            → Means g held (concluded job.lacked (run_line (held_of earlier) job.line)).value
+            → sense held ≡ Some (value_in job.lacked (run_line (held_of earlier) job.line)) → Fits g held
             → OnOk result (Knows g self.new (job ∷ earlier)) }
     {
         if self.held.contains_key(name) {

@@ -1,15 +1,17 @@
 //! The reply to a job.
 ghost use Rattle.std.specs.Prelude.{◌≡◌, ◌+◌, ◌<◌, ◌^◌, ◌∷◌, List, ℕ, IfOk, OnOk, length, false, option_copied, Some, Ok};
-ghost use Rattle.proof_server.specs.Values.{concluded};
+ghost use Rattle.job_lang.specs.FormedOps.{IsFormedOp};
+ghost use Rattle.operations.specs.Means.{sense, Fits};
 ghost use Rattle.proof_server.specs.Jobs.{Past, IsKept, is_too_long};
-ghost use Rattle.proof_server.specs.Answers.{name_of, run_read, run_line, held_of};
-ghost use Rattle.proof_server.specs.Means.{Means, graph_in, IsStore, IsSomeStore};
+ghost use Rattle.proof_server.specs.Answers.{name_of, run_read, run_line, held_of, value_in};
+ghost use Rattle.proof_server.specs.Means.{graph_in, IsStore, IsSomeStore};
 ghost use Rattle.proof_server.specs.Shown.{IsConcluded, IsAnswered, IsReply};
 
-use crate::held::Held;
 use crate::store::{Conclusion, Store, refusal};
+use job_lang::laws::formed_readings;
 use job_lang::{Job, JobError, Op, read_job};
 use job_words::Name;
+use operations::Held;
 use reply_lines::{Outcome, Reply, reply_line};
 use std::alloc::{AllocError, Global};
 use std::sync::Wait;
@@ -39,7 +41,8 @@ fn run_job<R: Wait>(
     name: &Name,
     op: &Op,
 ) -> Result<Conclusion, AllocError>
-    requires { IsSomeStore store.old }
+    requires store { IsSomeStore store.old }
+    requires op { IsFormedOp op.now }
     ensures ran { (earlier : List Past) → IsStore store.old earlier
         → IfOk result (λ c. IsConcluded (graph_in store.new) c (run_read (held_of earlier) (Some name.now) (Ok op.now))) }
     ensures kept { (earlier : List Past) → IsStore store.old earlier → IsStore store.new earlier }
@@ -66,6 +69,7 @@ fn conclude_line<R: Wait>(
         → IfOk result (λ answer. IsConcluded (graph_in store.new) answer.1 (run_line (held_of earlier) line.now)) }
     ensures kept { (earlier : List Past) → IsStore store.old earlier → IsStore store.new earlier }
 {
+    formed_readings();
     match read_job(alloc, texts, line) {
         Ok(Job { name, op }) => {
             let conclusion = run_job(store, rt, alloc, &name, &op)?;
@@ -86,7 +90,7 @@ fn learn(
     held: Held,
 ) -> Result<(), AllocError>
     ensures { (earlier : List Past) (job : Past) → IsStore store.old earlier → name_of job.line ≡ option_copied name.entry
-        → Means (graph_in store.old) held (concluded job.lacked (run_line (held_of earlier) job.line)).value
+        → sense held ≡ Some (value_in job.lacked (run_line (held_of earlier) job.line)) → Fits (graph_in store.old) held
         → OnOk result (IsStore store.new (job ∷ earlier)) }
 {
     match name {

@@ -5,6 +5,7 @@ ghost use Rattle.proof_server.specs.Jobs.{max_input};
 ghost use Rattle.proof_server.specs.Turn.{ended_of, Finishes, IsBehind};
 
 use crate::ending::Ended;
+use crate::laws::{held_proofs, replies};
 use crate::session::{Session, Stop};
 use edge_io::{LineReader, Next, Sink, Source, next_line};
 use std::alloc::Global;
@@ -50,6 +51,8 @@ fn serve_lines<R: Wait, S: Source, K: Sink>(
     ensures ends { Ends result max_input (S.faults source.old) (S.faults source.new) (K.faults sink.old) (K.faults sink.new)
         (S.left source.old) (S.left source.new) (K.written sink.old) (K.written sink.new) (K.flushed sink.new) }
 {
+    held_proofs();
+    replies();
     'lines: loop {
         match next_line(reader, source, MAX_LINE) {
             Next::Line(line) => match session.take(rt, alloc, sink, Some(line.as_slice())) {

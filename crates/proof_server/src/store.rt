@@ -1,20 +1,20 @@
 //! The store of a session, and running operations over what it knows.
-ghost use Rattle.std.specs.Prelude.{◌≡◌, [], ◌∷◌, List, IfOk};
+ghost use Rattle.std.specs.Prelude.{◌≡◌, [], List, IfOk, map};
 ghost use Rattle.proof_graph.specs.declared.graph.Graph.{Graph};
+ghost use Rattle.job_lang.specs.FormedOps.{IsFormedOp};
+ghost use Rattle.operations.specs.Answers.{Answer};
+ghost use Rattle.operations.specs.Given.{names_in, base_name as base_of};
+ghost use Rattle.operations.specs.Running.{run as run_of};
+ghost use Rattle.operations.specs.Means.{Fits, IsAnswerOf};
 ghost use Rattle.proof_server.specs.Jobs.{Past};
-ghost use Rattle.proof_server.specs.Values.{Run, fault};
-ghost use Rattle.proof_server.specs.Operations.{run as run_of};
-ghost use Rattle.proof_server.specs.Answers.{held_of};
-ghost use Rattle.proof_server.specs.Means.{graph_in, IsStore, IsSomeStore};
-ghost use Rattle.proof_server.specs.Given.{IsGiven, names_in, AreGiven, IsAnswerOf, IsHeldRun};
+ghost use Rattle.proof_server.specs.Answers.{JobFault, faulty, answered, shown_fault, values_for, held_of};
+ghost use Rattle.proof_server.specs.Means.{value_named, graph_in, IsStore, IsSomeStore};
 ghost use Rattle.proof_server.specs.Shown.{IsConcluded};
 
-use crate::answering::answer;
-use crate::held::Held;
 use crate::names::Names;
 use cut_elim::{Desk, DeskPass};
 use job_lang::Op;
-use job_words::Utf8Text;
+use operations::{Held, answer, base_name, name_at};
 use reply_lines::Outcome;
 use std::alloc::{AllocError, Global};
 use std::sync::Wait;
@@ -35,9 +35,9 @@ pub struct Conclusion {
     pub lacked: bool,
 }
 
-/// A job that is refused.
+/// A job that asks for no operation.
 pub fn refusal(outcome: Outcome) -> Conclusion
-    ensures { (g : Graph) → IsConcluded g result (fault outcome) }
+    ensures { (g : Graph) (f : JobFault) → outcome ≡ shown_fault f → IsConcluded g result (faulty f) }
 {
     Conclusion {
         outcome,
@@ -48,7 +48,7 @@ pub fn refusal(outcome: Outcome) -> Conclusion
 
 // What came of a job that was run. Want of memory is answered where there is none for the name that a refusal shows.
 fn conclude(answer: (Outcome, Held)) -> Result<Conclusion, AllocError>
-    ensures { (g : Graph) (r : Run) → IsHeldRun r → IsAnswerOf g answer r → IfOk result (λ c. IsConcluded g c r) }
+    ensures { (g : Graph) (a : Answer) → IsAnswerOf answer a → Fits g answer.1 → IfOk result (λ c. IsConcluded g c (answered a)) }
 {
     let (outcome, held) = answer;
     match &held {
@@ -79,46 +79,24 @@ impl Store {
         })
     }
 
-    // The value that a field with this text names.
-    fn value(&self, alloc: Global, text: &Utf8Text) -> Result<Held, AllocError>
-        ensures { (earlier : List Past) → IsStore self.now earlier → IfOk result (λ h. IsGiven (graph_in self.now) (held_of earlier) text.now h) }
-    {
-        self.names.value(alloc, text.as_str())
-    }
-
-    // The value that is named in a lone field.
-    fn value_alone(&self, alloc: Global, text: &Utf8Text) -> Result<Vec<Held>, AllocError>
-        ensures { (earlier : List Past) → IsStore self.now earlier → IfOk result (λ hs. AreGiven (graph_in self.now) (held_of earlier) (text.now ∷ []) hs.items) }
-    {
-        let value = self.value(alloc, text)?;
-        Ok(vec![in alloc; value]?)
-    }
-
     // The values that the names of jobs in an operation stand for, in the order in which its fields are read.
     fn values(&self, alloc: Global, op: &Op) -> Result<Vec<Held>, AllocError>
-        ensures { (earlier : List Past) → IsStore self.now earlier → IfOk result (λ hs. AreGiven (graph_in self.now) (held_of earlier) (names_in op.now) hs.items) }
+        ensures { IfOk result (λ hs. hs.items ≡ map (λ text. value_named self.now.names (base_of text)) (names_in op.now)) }
     {
-        match op {
-            Op::Lk { .. } | Op::Problem { .. } => Ok(Vec::new(alloc)),
-            Op::Show { of } => self.value_alone(alloc, of),
-            Op::Measure { proof } => self.value_alone(alloc, proof),
-            Op::Subst { proof, .. } => self.value_alone(alloc, proof),
-            Op::Cutelim { proof, .. } => self.value_alone(alloc, proof),
-            Op::Resolution { problem, .. } => self.value_alone(alloc, problem),
-            Op::Proves { proof, problem } => {
-                let first = self.value(alloc, proof)?;
-                let goal = self.value(alloc, problem)?;
-                Ok(vec![in alloc; first, goal]?)
-            }
+        let mut given = Vec::new(alloc);
+        'names: while let Some(name) = name_at(op, given.len()) {
+            given.push(self.names.value(alloc, base_name(name))?)?;
         }
+        Ok(given)
     }
 
     /// Runs an operation over what the jobs that it names hold. Want of memory is answered where a name can't be looked up, or can't be
     /// shown in a refusal; where memory runs out later, the operation has lacked it.
     pub fn run<R: Wait>(&mut self, rt: &R, alloc: Global, op: &Op) -> Result<Conclusion, AllocError>
-        requires { IsSomeStore self.old }
+        requires store { IsSomeStore self.old }
+        requires op { IsFormedOp op.now }
         ensures ran { (earlier : List Past) → IsStore self.old earlier
-            → IfOk result (λ c. IsConcluded (graph_in self.new) c (run_of (held_of earlier) op.now)) }
+            → IfOk result (λ c. IsConcluded (graph_in self.new) c (answered (run_of op.now (values_for (held_of earlier) op.now)))) }
         ensures kept { (earlier : List Past) → IsStore self.old earlier → IsStore self.new earlier }
     {
         let given = self.values(alloc, op)?;

@@ -1,3 +1,5 @@
 pub mod Printable
 pub mod Adding
 pub mod ReplyTexts
+pub mod OneLines
+pub mod Wants

@@ -3,6 +3,7 @@
 
 mod answers;
 mod json_text;
+pub mod laws;
 mod lines;
 mod members;
 mod replies;

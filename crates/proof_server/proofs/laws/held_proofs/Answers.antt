@@ -1,13 +1,11 @@
--- The laws are lemmas.
-use Rattle.proof_server.proofs.HeldProblems.{holds_problems}
-use Rattle.proof_server.proofs.AskedProofs.{holds_proofs, all_asked}
+-- The laws are lemmas, over those of operations and of readings.
+use Rattle.proof_server.proofs.Claiming.{holds_sound, all_claimed}
 use Rattle.proof_server.proofs.laws.held_proofs.Goals as goal
 
 pub returns-clause-held : goal.returns-clause-held
-returns-clause-held c earlier = holds_proofs earlier
+returns-clause-held c earlier =
+    holds_sound c.claims.ensures.claimed c.claims.ensures.valid c.claims.ensures.sound (λ a. (c.replies.ensures.ok a).0) c.formed_readings.ensures earlier
 
-pub returns-clause-problems : goal.returns-clause-problems
-returns-clause-problems c earlier = holds_problems earlier
-
-pub returns-clause-answered : goal.returns-clause-answered
-returns-clause-answered c jobs = all_asked jobs
+pub returns-clause-claimed : goal.returns-clause-claimed
+returns-clause-claimed c jobs =
+    all_claimed c.claims.ensures.claimed c.claims.ensures.valid c.claims.ensures.sound (λ a. (c.replies.ensures.ok a).0) c.formed_readings.ensures jobs

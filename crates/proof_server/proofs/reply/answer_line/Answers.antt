@@ -9,5 +9,5 @@ returns g c = λ earlier store.
       name_is = c.in_ok-name.ensures.name;
       outcome_is = concluded.outcome_is;
       behind = c.in_ok-learn.ensures earlier (job_of c.args.line.now c.in_ok-name.conclusion.lacked) (c.in_ok-name.ensures.kept earlier store)
-          (sym c.in_ok-name.ensures.name ∙ sym c.as_ref.ensures.value) concluded.means;
+          (sym c.in_ok-name.ensures.name ∙ sym c.as_ref.ensures.value) concluded.means concluded.fits;
     }

@@ -1,7 +1,7 @@
 use Rattle.std.proofs.KnownBytes.{Keeps-refl}
 use Rattle.proof_server.proofs.Turns.{kept_line}
 use Rattle.proof_server.proofs.Midway.{start, go_on}
-use Rattle.proof_server.proofs.Endings.{stop_ends, done_ends, cut_off_ends, full_ends, stopped_reading}
+use Rattle.proof_server.proofs.Endings.{stop_ends, done_ends, cut_off_ends, full_ends, stopped_reading, few_lacking}
 use Rattle.proof_server.proofs.serving.serve_lines.Goals as goal
 
 pub lines-init : goal.lines-init
@@ -24,28 +24,28 @@ returns-in-Err g c =
     let midway = c.lines.invariant in
     let handed = c.in-Line.ensures.answer in
     let kept = kept_line _ _ handed.line c.as_slice.ensures.value handed.told in
-    record { ends = stop_ends _ _ _ _ c.take.new.self c.in-Err.stop c.ended_by.result midway handed c.ended_by.ensures (c.in-Err.ensures.takes midway.done handed.line midway.behind kept) }
+    record { ends = stop_ends c.held_proofs.ensures.claimed c.replies.ensures.told _ _ _ _ c.take.new.self c.in-Err.stop c.ended_by.result midway handed c.ended_by.ensures (c.in-Err.ensures.takes midway.done handed.line midway.behind kept) }
 
 pub returns-in-Err-take : goal.returns-in-Err-take
 returns-in-Err-take g c =
     let midway = c.lines.invariant in
     let handed = c.in-TooLong.ensures.answer in
-    record { ends = stop_ends _ _ _ _ c.take-in-TooLong.new.self c.in-Err-take.stop c.ended_by-in-Err-take.result midway handed c.ended_by-in-Err-take.ensures (c.in-Err-take.ensures.takes midway.done handed.line midway.behind handed.told) }
+    record { ends = stop_ends c.held_proofs.ensures.claimed c.replies.ensures.told _ _ _ _ c.take-in-TooLong.new.self c.in-Err-take.stop c.ended_by-in-Err-take.result midway handed c.ended_by-in-Err-take.ensures (c.in-Err-take.ensures.takes midway.done handed.line midway.behind handed.told) }
 
 pub returns-in-End : goal.returns-in-End
-returns-in-End g c = record { ends = done_ends _ _ c.finish.result c.lines.invariant c.in-End.ensures.answer.0 c.finish.ensures.bytes c.finish.ensures.done }
+returns-in-End g c = record { ends = done_ends c.held_proofs.ensures.claimed c.replies.ensures.told _ _ c.finish.result c.lines.invariant c.in-End.ensures.answer.0 c.finish.ensures.bytes c.finish.ensures.done }
 
 pub returns-in-ReadFault : goal.returns-in-ReadFault
 returns-in-ReadFault g c =
     let fault = c.in-ReadFault.ensures.answer in
-    record { ends = cut_off_ends _ _ c.finish-in-ReadFault.result c.lines.invariant fault.0 fault.1 fault.2 c.finish-in-ReadFault.ensures.bytes c.finish-in-ReadFault.ensures.done }
+    record { ends = cut_off_ends c.held_proofs.ensures.claimed c.replies.ensures.told _ _ c.finish-in-ReadFault.result c.lines.invariant fault.0 fault.1 fault.2 c.finish-in-ReadFault.ensures.bytes c.finish-in-ReadFault.ensures.done }
 
 pub returns-in-InputFull : goal.returns-in-InputFull
 returns-in-InputFull g c =
     let over = c.in-InputFull.ensures.answer in
-    record { ends = full_ends _ _ _ c.finish-in-InputFull.result c.lines.invariant over.0 over.1 c.finish-in-InputFull.ensures.bytes c.finish-in-InputFull.ensures.done }
+    record { ends = full_ends c.held_proofs.ensures.claimed c.replies.ensures.told _ _ _ c.finish-in-InputFull.result c.lines.invariant over.0 over.1 c.finish-in-InputFull.ensures.bytes c.finish-in-InputFull.ensures.done }
 
 pub returns-in-Memory : goal.returns-in-Memory
 returns-in-Memory g c =
     let lacks = c.in-Memory.ensures.answer in
-    record { ends = stopped_reading c.lines.invariant lacks.0 lacks.1.0 lacks.1.1 (Keeps-refl _) }
+    record { ends = stopped_reading c.held_proofs.ensures.claimed c.replies.ensures.told c.lines.invariant lacks.0 lacks.1.taken lacks.1.from (few_lacking lacks.1) (Keeps-refl _) }

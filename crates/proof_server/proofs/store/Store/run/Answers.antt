@@ -1,29 +1,27 @@
-use Rattle.std.proofs.Common.{List, length, sym, ap, ◌∙◌, subst}
-use Rattle.std.specs.List.{All}
-use Rattle.proof_server.specs.declared.held.Held.{Held}
-use Rattle.proof_server.specs.Operations.{run}
-use Rattle.proof_server.specs.Answers.{held_of}
-use Rattle.proof_server.specs.Means.{graph_in}
-use Rattle.proof_server.specs.Given.{names_in, AreGiven, Fits}
-use Rattle.proof_server.proofs.HeldProblems.{holds_problems}
-use Rattle.proof_server.proofs.HeldRuns.{run_held}
-use Rattle.proof_server.proofs.Giving.{values_fit, values_count}
+use Rattle.std.proofs.Common.{List, length, ap, ◌∙◌, subst}
+use Rattle.std.proofs.lemmas.List.{length-map}
+use Rattle.operations.specs.Given.{base_name, names_in}
+use Rattle.operations.specs.Means.{IsAnswerOf}
+use Rattle.operations.specs.Running.{run}
+use Rattle.operations.specs.declared.held.Held.{Held}
+use Rattle.proof_server.specs.Answers.{values_for, held_of}
+use Rattle.proof_server.specs.Means.{value_named, graph_in}
+use Rattle.proof_server.proofs.Standing.{values_mean, values_fit}
 use Rattle.proof_server.proofs.store.Store.run.Goals as goal
 
 pub answer-requires-clause-count : goal.answer-requires-clause-count
 answer-requires-clause-count g c =
-    let earlier = c.requires.0 in
-    ap (λ (hs : List Held). length hs) c.deref.ensures.value
-    ∙ values_count (graph_in c.args.self.now) (held_of earlier) (names_in c.args.op.now) c.in_ok-given.given.items (c.in_ok-given.ensures earlier c.requires.1)
+    ap (λ (hs : List Held). length hs) (c.deref.ensures.value ∙ c.in_ok-given.ensures)
+    ∙ length-map (names_in c.args.op.now) (λ text. value_named c.args.self.now.names (base_name text))
 
 pub answer-requires-clause-fits : goal.answer-requires-clause-fits
 answer-requires-clause-fits g c =
-    let earlier = c.requires.0 in
-    subst (λ (hs : List Held). All (Fits (graph_in c.args.self.now)) hs) (sym c.deref.ensures.value)
-    (values_fit (graph_in c.args.self.now) (held_of earlier) (names_in c.args.op.now) c.in_ok-given.given.items (holds_problems earlier) (c.in_ok-given.ensures earlier c.requires.1))
+    values_fit (graph_in c.args.self.now) c.args.self.now.names c.requires.store.0 c.requires.store.1.known c.args.op.now _ (c.deref.ensures.value ∙ c.in_ok-given.ensures)
 
 pub returns-clause-ran : goal.returns-clause-ran
 returns-clause-ran g c = λ earlier store.
-    c.conclude.ensures (graph_in c.args.self.now) (run (held_of earlier) c.args.op.now) (run_held (held_of earlier) c.args.op.now)
-    (c.answer.ensures.answered (held_of earlier)
-    (subst (λ (hs : List Held). AreGiven (graph_in c.args.self.now) (held_of earlier) (names_in c.args.op.now) hs) (sym c.deref.ensures.value) (c.in_ok-given.ensures earlier store)))
+    let op = c.args.op.now in
+    c.conclude.ensures (graph_in c.args.self.now) (run op (values_for (held_of earlier) op))
+    (subst (λ vs. IsAnswerOf c.answer.result (run op vs))
+    (values_mean (graph_in c.args.self.now) c.args.self.now.names earlier store.known op _ (c.deref.ensures.value ∙ c.in_ok-given.ensures)) c.answer.ensures.answered)
+    c.answer.ensures.fits

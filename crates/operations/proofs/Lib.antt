@@ -1,0 +1,9 @@
+pub mod Suffixes
+pub mod Givings
+pub mod Eliminated
+pub mod Refuted
+pub mod Making
+pub mod Sound
+pub mod Claimed
+pub mod Shows
+pub mod Examples

@@ -1,0 +1,170 @@
+-- What an operation makes, by what it is given.
+use Rattle.std.proofs.Common.{◌≡◌, ℕ, Bool, true, false, cond, List, [], ◌∷◌, ◌++◌, length, drop_of_length-le, append-nil, Option, Some, None, Result, Ok, Err, refl, ap, ◌∙◌, subst, arith}
+use Rattle.std.specs.Prelude.{◌^◌, is_some, IfSome}
+use Rattle.std.specs.List.{All, list_all}
+use Rattle.std.specs.FinMap as fin
+use Rattle.std.proofs.lemmas.Bool.{ltb-true}
+use Rattle.std.proofs.lemmas.List.Elements.{All-cons, All-head, All-tail}
+use Rattle.fol.specs.Formed.{IsFormed}
+use Rattle.substitution.specs.Image.{IsFormedMap}
+use Rattle.substitution.specs.Maps.{Map}
+use Rattle.lk_rules.specs.declared.rule.Step.{Step}
+use Rattle.lk_rules.specs.Rules.{IsFormedRule}
+use Rattle.lk_rules.specs.Sequents.{image_sequent}
+use Rattle.lk_rules.proofs.Subsequents.{and_left, and_right}
+use Rattle.proof_trees.specs.Trees.{Tree, concl, IsValid}
+use Rattle.proof_trees.specs.Substitution.{sub}
+use Rattle.proof_trees.proofs.Substituted.{concl-sub, sub_valid}
+use Rattle.contraction_laws.proofs.Contracted.{con_valid}
+use Rattle.elimination_laws.specs.Elimination.{elimination}
+use Rattle.elimination_laws.proofs.Kept.{result_end, result_valid}
+use Rattle.elimination_laws.proofs.Reached.{least_reached}
+use Rattle.refutations.specs.declared.clause.Clause.{Clause}
+use Rattle.refutations.specs.declared.step.ResStep.{ResStep}
+use Rattle.refutations.specs.declared.step.ResCause.{ResCause}
+use Rattle.refutations.specs.Clauses.{IsClauseOf, closure_of, closures}
+use Rattle.refutations.specs.Refutations.{refutation, AreFormedSteps}
+use Rattle.refutations.proofs.InputTrees.{few_variables}
+use Rattle.refutations.proofs.Refuting.{end_of_refutation, valid_refutation}
+use Rattle.lk_check.specs.declared.admission.AdmitFault.{AdmitFault}
+use Rattle.lk_check.specs.declared.admission.AdmitFault.TheVariants as admission
+use Rattle.lk_check.specs.Checking.{last_end}
+use Rattle.lk_check.specs.Admission.{admission as admission_of}
+use Rattle.lk_check.proofs.Admissions.{valid_admission, end_of_admission}
+use Rattle.tptp_problem.specs.declared.problems.Problem.{Problem}
+use Rattle.tptp_problem.specs.ProblemClauses.{clauses_of, IsReadProblem}
+use Rattle.tptp_problem.proofs.ReadClauses.{all_clauses}
+use Rattle.operations.specs.declared.answers.Refusal.TheVariants.{Kind}
+use Rattle.operations.specs.Values.{Value, IsSound}
+use Rattle.operations.specs.Values as values
+use Rattle.operations.specs.Answers.{Product, proof, reduced, Answer, lacking, product}
+use Rattle.operations.specs.Given.{pair_name, Found, missing, wanting, found, proof_given, problem_given, first_of}
+use Rattle.operations.specs.Running.{over, over_both, admits, eliminates, has_closure, refuted, refutes}
+use Rattle.operations.specs.Claims.{IsProofOf, AProof, AReducedProof, IsEliminated}
+
+-- a field that is given something
+whole_is : {A : Type 0} (text : List ℕ) (b : Bool) (a x : A) → cond b (missing (Kind text)) (found a) ≡ found x → a ≡ x
+whole_is text true a x is = cc
+whole_is text false a x is = cc
+
+pub proof_is : (text : List ℕ) (v : Option Value) (t : Tree) → proof_given text v ≡ found t → v ≡ Some (values.proof t)
+proof_is text None t is = cc
+proof_is text (Some values.nothing) t is = cc
+proof_is text (Some values.refused) t is = cc
+proof_is text (Some values.lacking) t is = cc
+proof_is text (Some (values.proof u)) t is = ap (λ w. Some (values.proof w)) (whole_is text (is_some (pair_name text)) u t is)
+proof_is text (Some (values.problem p)) t is = cc
+
+pub problem_is : (text : List ℕ) (v : Option Value) (p : Problem) → problem_given text v ≡ found p → v ≡ Some (values.problem p)
+problem_is text None p is = cc
+problem_is text (Some values.nothing) p is = cc
+problem_is text (Some values.refused) p is = cc
+problem_is text (Some values.lacking) p is = cc
+problem_is text (Some (values.proof t)) p is = cc
+problem_is text (Some (values.problem q)) p is = ap (λ w. Some (values.problem w)) (whole_is text (is_some (pair_name text)) q p is)
+
+-- something is made only of what is found
+pub over_made : {A : Type 0} (f : Found A) (k : A → Answer) (made : Product) → over f k ≡ product made → (a : A) × (f ≡ found a) × (k a ≡ product made)
+over_made (missing r) k made is = cc
+over_made wanting k made is = cc
+over_made (found a) k made is = (a, refl, is)
+
+pub over_both_made : {A B : Type 0} (f : Found A) (s : Found B) (k : A → B → Answer) (made : Product) → over_both f s k ≡ product made
+    → (a : A) × (b : B) × (f ≡ found a) × (s ≡ found b) × (k a b ≡ product made)
+over_both_made (missing r) s k made is = cc
+over_both_made wanting s k made is = let one = over_made s (λ b. lacking) made is in let none = one.2 in cc
+over_both_made (found a) s k made is = let one = over_made s (k a) made is in (a, one.0, refl, one.1, one.2)
+
+pub first_sound : (vs : List (Option Value)) → All (λ v. IfSome v IsSound) vs → IfSome (first_of vs) IsSound
+first_sound [] sound = tt
+first_sound (v ∷ vs) sound = All-head (λ v. IfSome v IsSound) v vs sound
+
+-- the product is this proof
+this_proof : (t : Tree) (made : Product) (P : Tree → Type 0) → product (proof t) ≡ product made → P t → AProof made P
+this_proof t made P is h = let same : proof t ≡ made = cc in subst (λ p. AProof p P) same h
+
+-- a list of steps
+lk_by : (list : List Step) (made : Product) (r : Result Tree AdmitFault) → All (λ s. IsFormedRule s.rule) list → admission_of list ≡ r → admits r ≡ product made
+    → AProof made (λ t. IsProofOf t (last_end list))
+lk_by list made (Ok t) formed admitted is = this_proof t made _ is (record { valid = valid_admission list t formed admitted; ends = end_of_admission list t admitted })
+lk_by list made (Err admission.Empty) formed admitted is = cc
+lk_by list made (Err (admission.Step i cause)) formed admitted is = cc
+lk_by list made (Err admission.Memory) formed admitted is = cc
+
+pub lk_made : (list : List Step) (made : Product) → All (λ s. IsFormedRule s.rule) list → admits (admission_of list) ≡ product made → AProof made (λ t. IsProofOf t (last_end list))
+lk_made list made formed is = lk_by list made (admission_of list) formed refl is
+
+-- a proof under a map
+pub subst_made : (of : List ℕ) (m : Map) (v : Option Value) (made : Product) → IsFormedMap (fin.get m) → IfSome v IsSound
+    → over (proof_given of v) (λ t. product (proof (sub t m))) ≡ product made
+    → (t : Tree) × (v ≡ Some (values.proof t)) × AProof made (λ u. IsProofOf u (image_sequent (fin.get m) (concl t)))
+subst_made of m v made formed sound is =
+    let one = over_made (proof_given of v) (λ t. product (proof (sub t m))) made is in
+    let given = proof_is of v one.0 one.1 in
+    let valid : IsValid one.0 = subst (λ o. IfSome o IsSound) given sound in
+    (one.0, given, this_proof (sub one.0 m) made _ one.2 (record { valid = sub_valid one.0 m formed valid; ends = concl-sub one.0 m }))
+
+-- an elimination of cuts
+eliminated_by : (t : Tree) (n : ℕ) (made : Product) (r : Option (Tree × ℕ)) → IsValid t → elimination t n ≡ r → eliminates r ≡ product made
+    → AReducedProof made (λ u k. IsEliminated t n u k)
+eliminated_by t n made None valid by is = cc
+eliminated_by t n made (Some p) valid by is =
+    let reached = (least_reached t n p.0 p.1).0 by in
+    let eliminated : IsEliminated t n p.0 p.1 = record {
+      right = record { valid = result_valid con_valid t p.0 p.1 n valid by; ends = result_end t p.0 p.1 n by };
+      cut_free = reached.0.done;
+      reached = reached.0;
+      within = reached.1;
+    } in
+    let same : reduced p.0 p.1 ≡ made = cc in subst (λ q. AReducedProof q (λ u k. IsEliminated t n u k)) same eliminated
+
+pub cutelim_made : (of : List ℕ) (n : ℕ) (v : Option Value) (made : Product) → IfSome v IsSound
+    → over (proof_given of v) (λ t. eliminates (elimination t n)) ≡ product made
+    → (t : Tree) × (v ≡ Some (values.proof t)) × AReducedProof made (λ u k. IsEliminated t n u k)
+cutelim_made of n v made sound is =
+    let one = over_made (proof_given of v) (λ t. eliminates (elimination t n)) made is in
+    let given = proof_is of v one.0 one.1 in
+    let valid : IsValid one.0 = subst (λ o. IfSome o IsSound) given sound in
+    (one.0, given, eliminated_by one.0 n made (elimination one.0 n) valid refl one.2)
+
+-- the clauses of a problem that is read
+read_clauses : (p : Problem) → IsReadProblem p → All IsClauseOf (clauses_of p.entries)
+read_clauses p read =
+    let cs = clauses_of p.entries in
+    all_clauses p.entries p.entries cs (length p.entries) refl (omega arith)
+    (ap (λ es. cs ++ clauses_of es) (drop_of_length-le p.entries (omega arith)) ∙ append-nil cs) read.entries
+
+-- a clause with few variables has a well-formed closure
+closure_formed : (c : Clause) → IsClauseOf c → has_closure c ≡ true → IsFormed (closure_of c)
+closure_formed c h few = few_variables c.vars c.matrix _ refl h.shape h.formed (ltb-true (length c.vars) (2 ^ 32) few)
+
+closures_formed : (cs : List Clause) → All IsClauseOf cs → list_all has_closure cs ≡ true → All (λ c. IsFormed (closure_of c)) cs
+closures_formed [] h few = λ k d l. absurd (omega arith)
+closures_formed (c ∷ cs) h few =
+    All-cons (λ d. IsFormed (closure_of d)) c cs (closure_formed c (All-head IsClauseOf c cs h) (and_left (has_closure c) (list_all has_closure cs) few))
+    (closures_formed cs (All-tail IsClauseOf c cs h) (and_right (has_closure c) (list_all has_closure cs) few))
+
+-- a refutation
+refuted_by : (p : Problem) (list : List ResStep) (made : Product) (r : Result Tree (ℕ × ResCause)) → IsReadProblem p → AreFormedSteps list
+    → list_all has_closure (clauses_of p.entries) ≡ true → refutation (clauses_of p.entries) list ≡ r → refuted r ≡ product made
+    → AProof made (λ t. IsProofOf t (closures (clauses_of p.entries)))
+refuted_by p list made (Err (i, cause)) read formed closed by is = cc
+refuted_by p list made (Ok t) read formed closed by is =
+    let cs = clauses_of p.entries in
+    let each = read_clauses p read in
+    this_proof t made _ is (record { valid = valid_refutation cs list t each (closures_formed cs each closed) formed by; ends = end_of_refutation cs list t each formed by })
+
+refutes_by : (p : Problem) (list : List ResStep) (made : Product) (b : Bool) → IsReadProblem p → AreFormedSteps list
+    → list_all has_closure (clauses_of p.entries) ≡ b → cond b (refuted (refutation (clauses_of p.entries) list)) lacking ≡ product made
+    → AProof made (λ t. IsProofOf t (closures (clauses_of p.entries)))
+refutes_by p list made true read formed closed is = refuted_by p list made (refutation (clauses_of p.entries) list) read formed closed refl is
+refutes_by p list made false read formed closed is = cc
+
+pub resolution_made : (of : List ℕ) (list : List ResStep) (v : Option Value) (made : Product) → AreFormedSteps list → IfSome v IsSound
+    → over (problem_given of v) (refutes list) ≡ product made
+    → (p : Problem) × (v ≡ Some (values.problem p)) × AProof made (λ t. IsProofOf t (closures (clauses_of p.entries)))
+resolution_made of list v made formed sound is =
+    let one = over_made (problem_given of v) (refutes list) made is in
+    let given = problem_is of v one.0 one.1 in
+    let read : IsReadProblem one.0 = subst (λ o. IfSome o IsSound) given sound in
+    (one.0, given, refutes_by one.0 list made (list_all has_closure (clauses_of one.0.entries)) read formed refl one.2)

@@ -1,0 +1,47 @@
+-- What is replied tells what an operation came to.
+use Rattle.std.proofs.Common.{◌≡◌, Bool, true, false, refl, sym, ap, ◌∙◌}
+use Rattle.reply_lines.specs.Replies.{is_ok_outcome}
+use Rattle.reply_lines.specs.OneLine.{is_want}
+use Rattle.operations.specs.declared.answers.Refusal.TheVariants.{UnknownName, Kind, Empty, Step}
+use Rattle.operations.specs.declared.answers.Failure.TheVariants.{Budget, Refutation}
+use Rattle.operations.specs.Answers.{Product, proof, reduced, problem, proves, steps, sizes, Answer, refused, failed, lacking, product, shown, with_lack, may_lack}
+
+-- a reply is want of memory just where memory ran out
+pub want_by : (lacked : Bool) (a : Answer) → may_lack lacked a → is_want (shown (with_lack lacked a)) ≡ lacked
+want_by lacked (refused (UnknownName text)) may = sym may
+want_by lacked (refused (Kind text)) may = sym may
+want_by lacked (refused Empty) may = sym may
+want_by lacked (refused (Step i cause)) may = sym may
+want_by lacked lacking may = sym may
+want_by true (failed f) may = refl
+want_by true (product p) may = refl
+want_by false (failed Budget) may = refl
+want_by false (failed (Refutation i cause)) may = refl
+want_by false (product (proof t)) may = refl
+want_by false (product (reduced t n)) may = refl
+want_by false (product (problem p)) may = refl
+want_by false (product (proves b)) may = refl
+want_by false (product (steps list)) may = refl
+want_by false (product (sizes cuts nodes quants size)) may = refl
+
+-- a reply that is no error shows a product
+pub ok_by : (a : Answer) → is_ok_outcome (shown a) ≡ true → (p : Product) × (a ≡ product p)
+ok_by (refused (UnknownName text)) ok = cc
+ok_by (refused (Kind text)) ok = cc
+ok_by (refused Empty) ok = cc
+ok_by (refused (Step i cause)) ok = cc
+ok_by (failed Budget) ok = cc
+ok_by (failed (Refutation i cause)) ok = cc
+ok_by lacking ok = cc
+ok_by (product p) ok = (p, refl)
+
+shown_ok : (p : Product) → is_ok_outcome (shown (product p)) ≡ true
+shown_ok (proof t) = refl
+shown_ok (reduced t n) = refl
+shown_ok (problem p) = refl
+shown_ok (proves b) = refl
+shown_ok (steps list) = refl
+shown_ok (sizes cuts nodes quants size) = refl
+
+pub product_ok : (a : Answer) (p : Product) → a ≡ product p → is_ok_outcome (shown a) ≡ true
+product_ok a p is = ap (λ b. is_ok_outcome (shown b)) is ∙ shown_ok p

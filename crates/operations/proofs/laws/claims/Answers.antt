@@ -1,0 +1,14 @@
+-- The laws are lemmas.
+use Rattle.operations.specs.Running.{run}
+use Rattle.operations.proofs.Sound.{made_sound, proofs_valid, held_sound}
+use Rattle.operations.proofs.Claimed.{claimed}
+use Rattle.operations.proofs.laws.claims.Goals as goal
+
+pub returns-clause-claimed : goal.returns-clause-claimed
+returns-clause-claimed c op vs made formed count sound is = claimed op vs made formed count sound is
+
+pub returns-clause-valid : goal.returns-clause-valid
+returns-clause-valid c op vs made formed sound is = proofs_valid made (made_sound op vs made formed sound is)
+
+pub returns-clause-sound : goal.returns-clause-sound
+returns-clause-sound c op vs formed sound = held_sound (run op vs) (λ made is. made_sound op vs made formed sound is)

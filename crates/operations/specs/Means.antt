@@ -1,0 +1,112 @@
+-- What the program's values and answers stand for, over the graph that the proofs share.
+--     sense      what a value means, and nothing for a name that no job has
+--     Fits      the value may be given to an operation over this graph
+--     made_of      what a product of the program means
+--     Comes      what an operation came to stands for an answer
+--     IsAnswerOf      an outcome and a value are what is answered
+use Rattle.std.specs.Prelude.{◌≡◌, ◌⊎◌, Option, Some, None, Result, Ok, Err}
+use Rattle.proof_graph.specs.declared.graph.Graph.{Graph}
+use Rattle.proof_graph.specs.Graphs.{IsOf}
+use Rattle.tptp_problem.specs.ProblemClauses.{IsReadProblem}
+use Rattle.reply_lines.specs.declared.replies.Outcome.{Outcome}
+use Rattle.reply_lines.specs.declared.replies.Outcome.TheVariants.{Memory}
+use Rattle.operations.specs.declared.answers.Refusal.{Refusal}
+use Rattle.operations.specs.declared.answers.Refusal.TheVariants.{UnknownName, Kind, Empty, Step}
+use Rattle.operations.specs.declared.held.Held.{Held}
+use Rattle.operations.specs.declared.held.Held.TheVariants as held
+use Rattle.operations.specs.declared.answers.Made.{Made}
+use Rattle.operations.specs.declared.answers.Made.TheVariants as made
+use Rattle.operations.specs.declared.answers.Ran.{Ran}
+use Rattle.operations.specs.declared.answers.Ran.TheVariants as ran
+use Rattle.operations.specs.Values.{Value, nothing, refused, lacking, proof, problem}
+use Rattle.operations.specs.Answers.{Product, Answer, shown_refusal, shown_failure, shown_product, held_product}
+use Rattle.operations.specs.Answers as answers
+use Rattle.operations.specs.Given.{Found}
+use Rattle.operations.specs.Given as given
+use Rattle.operations.specs.declared.answers.Absent.{Absent}
+use Rattle.operations.specs.declared.answers.Absent.TheVariants as absent
+
+abbrev pub sense : Held → Option Value
+sense held.Nothing = Some nothing
+sense held.Refused = Some refused
+sense held.Unheld = Some lacking
+sense held.Unknown = None
+sense (held.Proof r) = Some (proof r.tree)
+sense (held.Problem p) = Some (problem p)
+
+-- a reference is of the graph, and a problem is such as is read
+abbrev pub Fits : Graph → Held → Type 0
+Fits g held.Nothing = Unit {0}
+Fits g held.Refused = Unit {0}
+Fits g held.Unheld = Unit {0}
+Fits g held.Unknown = Unit {0}
+Fits g (held.Proof r) = IsOf g r
+Fits g (held.Problem p) = IsReadProblem p
+
+-- what a product of the program means
+abbrev pub made_of : Made → Product
+made_of (made.Proof r) = answers.proof r.tree
+made_of (made.Reduced r n) = answers.reduced r.tree n
+made_of (made.Problem p) = answers.problem p
+made_of (made.Proves b) = answers.proves b
+made_of (made.Steps list) = answers.steps list
+made_of (made.Sizes cuts nodes quants size) = answers.sizes cuts nodes quants size
+
+-- its references are of the graph, and a problem is such as is read
+abbrev pub FitsMade : Graph → Made → Type 0
+FitsMade g (made.Proof r) = IsOf g r
+FitsMade g (made.Reduced r n) = IsOf g r
+FitsMade g (made.Problem p) = IsReadProblem p
+FitsMade g (made.Proves b) = Unit {0}
+FitsMade g (made.Steps list) = Unit {0}
+FitsMade g (made.Sizes cuts nodes quants size) = Unit {0}
+
+-- the refusal shows a name
+abbrev pub ShowsName : Refusal → Type 0
+ShowsName (UnknownName text) = Unit {0}
+ShowsName (Kind text) = Unit {0}
+ShowsName Empty = ⊥
+ShowsName (Step i cause) = ⊥
+
+-- the field is given nothing, and refused so, unless there is no memory for the name that the refusal shows
+abbrev pub IsAbsent : Absent → Refusal → Type 0
+IsAbsent (absent.Refused r) wanted = r ≡ wanted
+IsAbsent absent.Unnamed wanted = ShowsName wanted
+IsAbsent absent.Wanting wanted = ⊥
+
+-- what a field was given, in the program: what `of` says of it, or why there is nothing
+abbrev pub Finds : {T A : Type 0} → (T → A) → Result T Absent → Found A → Type 0
+Finds of (Ok x) wanted = wanted ≡ given.found (of x)
+Finds of (Err (absent.Refused r)) wanted = wanted ≡ given.missing r
+Finds of (Err absent.Unnamed) (given.missing r) = ShowsName r
+Finds of (Err absent.Unnamed) wanted = ⊥
+Finds of (Err absent.Wanting) wanted = wanted ≡ given.wanting
+
+-- what an operation comes to, in the program, where a field is given nothing
+abbrev pub without : Absent → Ran
+without (absent.Refused r) = ran.Refused r
+without absent.Unnamed = ran.Unnamed
+without absent.Wanting = ran.Lacking
+
+-- What running an operation came to. A refusal lacks memory at most for the name that it shows, and what is done or failed may lack it.
+abbrev pub Comes : Graph → Ran → Answer → Type 0
+Comes g (ran.Refused r) wanted = wanted ≡ answers.refused r
+Comes g ran.Unnamed (answers.refused r) = ShowsName r
+Comes g ran.Unnamed wanted = ⊥
+Comes g (ran.Failed f) wanted = wanted ≡ answers.failed f
+Comes g ran.Lacking (answers.refused r) = ⊥
+Comes g ran.Lacking wanted = Unit {0}
+Comes g (ran.Done m) wanted = (wanted ≡ answers.product (made_of m)) × FitsMade g m
+
+-- these two are the outcome and the value that are answered
+abbrev pub Is : Outcome × Held → Outcome → Held → Type 0
+Is answer outcome h = (answer.0 ≡ outcome) × (answer.1 ≡ h)
+
+-- An outcome with what the job holds. Where a refusal shows a name and there is no memory for that, want of memory is answered with the
+-- value of a refusal, which no other answer has. Where memory ran out in the operation, want of it is answered with the value that later
+-- jobs find of it.
+abbrev pub IsAnswerOf : Outcome × Held → Answer → Type 0
+IsAnswerOf answer (answers.refused r) = Is answer (shown_refusal r) held.Refused ⊎ (ShowsName r × Is answer Memory held.Refused)
+IsAnswerOf answer (answers.failed f) = Is answer (shown_failure f) held.Refused ⊎ Is answer Memory held.Unheld
+IsAnswerOf answer answers.lacking = Is answer Memory held.Unheld
+IsAnswerOf answer (answers.product p) = ((answer.0 ≡ shown_product p) × (sense answer.1 ≡ Some (held_product p))) ⊎ Is answer Memory held.Unheld

@@ -1,0 +1,99 @@
+-- What each operation comes to, over the values that its names of jobs stand for.
+use Rattle.std.specs.Prelude.{ℕ, ◌^◌, nat_lt, length, Bool, if◌then◌else◌, List, Option, Some, None, Result, Ok, Err}
+use Rattle.std.specs.List.{list_all}
+use Rattle.lk_rules.specs.Sequents.{is_subsequent}
+use Rattle.proof_trees.specs.Trees.{Tree, concl, size, cuts, quants}
+use Rattle.proof_trees.specs.Substitution.{sub}
+use Rattle.elimination_laws.specs.Elimination.{elimination}
+use Rattle.refutations.specs.declared.clause.Clause.{Clause}
+use Rattle.refutations.specs.declared.step.ResStep.{ResStep}
+use Rattle.refutations.specs.declared.step.ResCause.{ResCause}
+use Rattle.refutations.specs.declared.step.ResCause.TheVariants as refutation_causes
+use Rattle.refutations.specs.Refutations.{refutation}
+use Rattle.lk_check.specs.declared.checking.StepCause.{StepCause}
+use Rattle.lk_check.specs.declared.checking.StepCause.TheVariants as causes
+use Rattle.lk_check.specs.declared.admission.AdmitFault.{AdmitFault}
+use Rattle.lk_check.specs.declared.admission.AdmitFault.TheVariants as admission
+use Rattle.lk_check.specs.Admission.{admission as admission_of}
+use Rattle.proof_steps.specs.Places.{steps_of}
+use Rattle.tptp_problem.specs.declared.problems.Problem.{Problem}
+use Rattle.tptp_problem.specs.ProblemClauses.{clauses_of}
+use Rattle.job_lang.specs.declared.jobs.Op.{Op}
+use Rattle.job_lang.specs.declared.jobs.Op.TheVariants as ops
+use Rattle.reply_lines.specs.declared.replies.StepShown.{StepShown}
+use Rattle.reply_lines.specs.declared.replies.StepShown.TheVariants.{Reference, Rule}
+use Rattle.reply_lines.specs.declared.replies.RefutationShown.{RefutationShown}
+use Rattle.reply_lines.specs.declared.replies.RefutationShown.TheVariants as refutation_shows
+use Rattle.operations.specs.declared.answers.Refusal.TheVariants.{Empty, Step}
+use Rattle.operations.specs.declared.answers.Failure.TheVariants.{Budget, Refutation}
+use Rattle.operations.specs.Values.{Value}
+use Rattle.operations.specs.Answers.{Product, proof, reduced, problem, proves, steps, sizes, Answer, refused, failed, lacking, product, capped}
+use Rattle.operations.specs.Given.{Found, missing, wanting, found, proof_given, problem_given, first_of, second_of}
+
+-- what is done with what a field is given
+abbrev pub over : {A : Type 0} → Found A → (A → Answer) → Answer
+over (missing r) k = refused r
+over wanting k = lacking
+over (found a) k = k a
+
+-- What is done with what two fields are given: the first that is refused is refused, and want of memory comes after both.
+abbrev pub over_both : {A B : Type 0} → Found A → Found B → (A → B → Answer) → Answer
+over_both (missing r) second k = refused r
+over_both wanting second k = over second (λ b. lacking)
+over_both (found a) second k = over second (k a)
+
+abbrev pub step_shown : StepCause → StepShown
+step_shown causes.Reference = Reference
+step_shown (causes.Rule f) = Rule f
+
+-- a list of steps: the proof of its last step
+abbrev pub admits : Result Tree AdmitFault → Answer
+admits (Ok t) = product (proof t)
+admits (Err admission.Empty) = refused Empty
+admits (Err (admission.Step i cause)) = refused (Step i (step_shown cause))
+admits (Err admission.Memory) = lacking
+
+-- whether a proof proves a problem: its end sequent is a subsequent of the problem's
+abbrev pub compares : Tree → Problem → Answer
+compares t p = product (proves (is_subsequent (concl t) p.sequent))
+
+-- the sizes of a proof
+abbrev pub sizes_of : Tree → Product
+sizes_of t = sizes (capped (cuts t)) (length (steps_of t)) (capped (quants t)) (capped (size t))
+
+-- an elimination of cuts that found no end within its budget has worked, so it may lack memory
+abbrev pub eliminates : Option (Tree × ℕ) → Answer
+eliminates None = failed Budget
+eliminates (Some p) = product (reduced p.0 p.1)
+
+-- A clause with fewer variables has a closure, each of whose indices fits 32 bits. A line is too short for a clause with more.
+abbrev pub has_closure : Clause → Bool
+has_closure c = nat_lt (length c.vars) (2 ^ 32)
+
+abbrev pub refutation_shown : ResCause → RefutationShown
+refutation_shown refutation_causes.Reference = refutation_shows.Reference
+refutation_shown refutation_causes.AtomMissing = refutation_shows.AtomMissing
+refutation_shown refutation_causes.NotEmpty = refutation_shows.NotEmpty
+
+-- a faulty step of a refutation is found by work
+abbrev pub refuted : Result Tree (ℕ × ResCause) → Answer
+refuted (Ok t) = product (proof t)
+refuted (Err (i, cause)) = failed (Refutation i (refutation_shown cause))
+
+-- the steps as a refutation of the clauses of a problem
+abbrev pub refutes_clauses : List Clause → List ResStep → Answer
+refutes_clauses cs list = if list_all has_closure cs then refuted (refutation cs list) else lacking
+
+abbrev pub refutes : List ResStep → Problem → Answer
+refutes list p = refutes_clauses (clauses_of p.entries) list
+
+-- an operation over the values that its names stand for, one for each, in their order
+abbrev pub run : Op → List (Option Value) → Answer
+run (ops.Lk list) vs = admits (admission_of list)
+run (ops.Problem p) vs = product (problem p)
+run (ops.Proves of goal) vs = over_both (proof_given of (first_of vs)) (problem_given goal (second_of vs)) compares
+run (ops.Show of) vs = over (proof_given of (first_of vs)) (λ t. product (steps (steps_of t)))
+run (ops.Measure of) vs = over (proof_given of (first_of vs)) (λ t. product (sizes_of t))
+run (ops.Subst of m) vs = over (proof_given of (first_of vs)) (λ t. product (proof (sub t m)))
+run (ops.Cutelim of n) vs = over (proof_given of (first_of vs)) (λ t. eliminates (elimination t n))
+run (ops.Resolution of list) vs = over (problem_given of (first_of vs)) (refutes list)

@@ -1,0 +1,128 @@
+//! Answering an operation over the values that its names of jobs stand for.
+ghost use Rattle.std.specs.Prelude.{◌≡◌, length, map};
+ghost use Rattle.std.specs.List.{All};
+ghost use mathlib.Core.List.{IsPrefix};
+ghost use Rattle.proof_graph.specs.declared.graph.Graph.{Graph};
+ghost use Rattle.proof_graph.specs.Graphs.{history};
+ghost use Rattle.proof_subst.specs.Benches.{graph_of, pass_in};
+ghost use Rattle.cut_elim.specs.Desks.{bench_of, pass_in as bench_pass_in, IsDeskPassOf};
+ghost use Rattle.tptp_problem.specs.ProblemClauses.{IsReadProblem};
+ghost use Rattle.job_lang.specs.FormedOps.{IsFormedOp};
+ghost use Rattle.operations.specs.declared.answers.Refusal.{Refusal as Refused};
+ghost use Rattle.operations.specs.Answers.{refused, product, problem as problem_made};
+ghost use Rattle.operations.specs.Given.{names_in};
+ghost use Rattle.operations.specs.Running.{run};
+ghost use Rattle.operations.specs.Means.{sense, Fits, Comes, IsAnswerOf};
+
+use crate::answers::{Made, Ran};
+use crate::concluding::conclude;
+use crate::given::{first, second};
+use crate::held::Held;
+use crate::proofs::{admit_steps, eliminate_in, substitute_in};
+use crate::readings::{measure, prove, show};
+use crate::refuting::refute;
+use cut_elim::{Desk, DeskPass};
+use job_lang::Op;
+use reply_lines::Outcome;
+use std::alloc::Global;
+use std::sync::Wait;
+use tptp_problem::Problem;
+
+// A problem, as it is read.
+fn hold(alloc: Global, problem: &Problem) -> Ran
+    requires { IsReadProblem problem.now }
+    ensures { (g : Graph) → Comes g result (product (problem_made problem.now)) }
+{
+    match problem.copy(alloc) {
+        Ok(problem) => Ran::Done(Made::Problem(problem)),
+        Err(_) => Ran::Lacking,
+    }
+}
+
+// What running an operation over the values comes to.
+fn run_given<R: Wait>(
+    rt: &R,
+    alloc: Global,
+    desk: &Desk,
+    pass: &mut DeskPass,
+    op: &Op,
+    given: &[Held],
+) -> Ran
+    requires pass { IsDeskPassOf desk.now pass.old }
+    requires count { length given.now ≡ length (names_in op.now) }
+    requires op { IsFormedOp op.now }
+    requires fits { All (Fits (graph_of (bench_of desk.now))) given.now }
+    ensures ran { Comes (graph_of (bench_of desk.now)) result (run op.now (map sense given.now)) }
+    ensures unchanged { (r : Refused) → run op.now (map sense given.now) ≡ refused r
+        → history (pass_in (bench_pass_in pass.new)) ≡ history (pass_in (bench_pass_in pass.old)) }
+    ensures grown { IsPrefix (history (pass_in (bench_pass_in pass.old))) (history (pass_in (bench_pass_in pass.new))) }
+    ensures pass_stays { IsDeskPassOf desk.now pass.new }
+{
+    let bench = desk.bench();
+    let graph = bench.graph();
+    match op {
+        Op::Lk { steps } => {
+            admit_steps(rt, alloc, bench, Desk::bench_pass(pass), steps.as_slice())
+        }
+        Op::Problem { problem } => hold(alloc, problem),
+        Op::Proves { proof, problem } => {
+            prove(graph, alloc, proof, first(given), problem, second(given))
+        }
+        Op::Show { of } => show(graph, alloc, of, first(given)),
+        Op::Measure { proof } => measure(graph, alloc, proof, first(given)),
+        Op::Subst { proof, map } => substitute_in(
+            rt,
+            alloc,
+            bench,
+            Desk::bench_pass(pass),
+            proof,
+            first(given),
+            map.as_subst(),
+        ),
+        Op::Cutelim { proof, budget } => {
+            eliminate_in(rt, alloc, desk, pass, proof, first(given), budget.get())
+        }
+        Op::Resolution { problem, steps } => refute(
+            rt,
+            alloc,
+            bench,
+            Desk::bench_pass(pass),
+            problem,
+            first(given),
+            steps.as_slice(),
+        ),
+    }
+}
+
+/// Runs an operation over the values that its names of jobs stand for: `given` has one for each, in the order in which the fields are read
+/// (none for `Lk` and `Problem`, the proof and then the problem for `Proves`, and one for the others). The answer is the outcome with what
+/// the job holds.
+///
+/// A value that has a fault is refused, the first such value alone: at `Unknown` by `UnknownName`, and by `Kind` at another kind of value
+/// than the field takes, or at any where the text has the suffix `.first` or `.second`. `Unheld` is no fault: where no value has one and one is `Unheld`,
+/// the answer is `Outcome::Memory` with `Held::Unheld`, as it is where memory runs out in the operation. Each refusal holds `Held::Refused`.
+/// Where there is no memory for the name that a refusal shows, the answer is `Outcome::Memory` with `Held::Refused`, which is the answer in
+/// no other case.
+pub fn answer<R: Wait>(
+    rt: &R,
+    alloc: Global,
+    desk: &Desk,
+    pass: &mut DeskPass,
+    op: &Op,
+    given: &[Held],
+) -> (Outcome, Held)
+    requires pass { IsDeskPassOf desk.now pass.old }
+    requires count { length given.now ≡ length (names_in op.now) }
+    requires op { IsFormedOp op.now }
+    requires fits { All (Fits (graph_of (bench_of desk.now))) given.now }
+    ensures answered { IsAnswerOf result (run op.now (map sense given.now)) }
+    ensures fits { Fits (graph_of (bench_of desk.now)) result.1 }
+    // A refusal comes before any work.
+    ensures unchanged { (r : Refused) → run op.now (map sense given.now) ≡ refused r
+        → history (pass_in (bench_pass_in pass.new)) ≡ history (pass_in (bench_pass_in pass.old)) }
+    ensures grown { IsPrefix (history (pass_in (bench_pass_in pass.old))) (history (pass_in (bench_pass_in pass.new))) }
+    ensures pass_stays { IsDeskPassOf desk.now pass.new }
+{
+    let ran = run_given(rt, alloc, desk, pass, op, given);
+    conclude(desk.bench().graph(), alloc, ran)
+}

@@ -1,0 +1,127 @@
+//! What is replied to a job and what the job holds, by what its operation came to.
+ghost use Rattle.std.specs.Prelude.{◌≡◌, IfOk};
+ghost use Rattle.proof_graph.specs.declared.graph.Graph.{Graph as GraphMeaning};
+ghost use Rattle.proof_graph.specs.Graphs.{IsOf};
+ghost use Rattle.tptp_problem.specs.ProblemClauses.{IsReadProblem};
+ghost use Rattle.operations.specs.Answers.{Answer, product, proof as proof_made, reduced as reduced_made, problem as problem_made, summary_of, shown_refusal as refusal_shown, shown_failure as failure_shown};
+ghost use Rattle.operations.specs.Means.{Fits, FitsMade, made_of, Comes, IsAnswerOf};
+
+use crate::answers::{Failure, Made, Ran, Refusal};
+use crate::held::Held;
+use proof_graph::{Graph, ProofRef};
+use proof_steps::{cuts, quants};
+use reply_lines::{Outcome, Summary};
+use std::alloc::{AllocError, Global};
+use tptp_problem::Problem;
+
+fn shown_refusal(refusal: Refusal) -> Outcome
+    ensures { result ≡ refusal_shown refusal }
+{
+    match refusal {
+        Refusal::UnknownName(text) => Outcome::UnknownName(text),
+        Refusal::Kind(text) => Outcome::Kind(text),
+        Refusal::Empty => Outcome::Empty,
+        Refusal::Step { step, cause } => Outcome::Step { step, cause },
+    }
+}
+
+fn shown_failure(failure: Failure) -> Outcome
+    ensures { result ≡ failure_shown failure }
+{
+    match failure {
+        Failure::Budget => Outcome::Budget,
+        Failure::Refutation { step, cause } => Outcome::Refutation { step, cause },
+    }
+}
+
+// A proof in short.
+fn summary(graph: &Graph, alloc: Global, proof: &ProofRef) -> Result<Summary, AllocError>
+    requires { IsOf graph.now proof.now }
+    ensures { IfOk result (λ s. s ≡ summary_of proof.now.tree) }
+{
+    let cuts = cuts(graph, alloc, proof)?;
+    let quants = quants(graph, alloc, proof)?;
+    let end = graph.get(proof).end.copy()?;
+    Ok(Summary { cuts, end, quants })
+}
+
+fn hold_proof(graph: &Graph, alloc: Global, proof: ProofRef) -> (Outcome, Held)
+    requires { IsOf graph.now proof }
+    ensures answered { IsAnswerOf result (product (proof_made proof.tree)) }
+    ensures fits { Fits graph.now result.1 }
+{
+    match summary(graph, alloc, &proof) {
+        Ok(summary) => (Outcome::Proof(summary), Held::Proof(proof)),
+        Err(_) => (Outcome::Memory, Held::Unheld),
+    }
+}
+
+fn hold_reduced(graph: &Graph, alloc: Global, proof: ProofRef, reductions: u64) -> (Outcome, Held)
+    requires { IsOf graph.now proof }
+    ensures answered { IsAnswerOf result (product (reduced_made proof.tree reductions)) }
+    ensures fits { Fits graph.now result.1 }
+{
+    match summary(graph, alloc, &proof) {
+        Ok(summary) => (Outcome::Reduced(summary, reductions), Held::Proof(proof)),
+        Err(_) => (Outcome::Memory, Held::Unheld),
+    }
+}
+
+fn hold_problem(problem: Problem) -> (Outcome, Held)
+    requires { IsReadProblem problem }
+    ensures answered { IsAnswerOf result (product (problem_made problem)) }
+    ensures fits { (g : GraphMeaning) → Fits g result.1 }
+{
+    let entries = problem.entries.as_slice().len() as u64;
+    match problem.sequent.copy() {
+        Ok(sequent) => (
+            Outcome::Entries { entries, sequent },
+            Held::Problem(problem),
+        ),
+        Err(_) => (Outcome::Memory, Held::Unheld),
+    }
+}
+
+// What is replied to a job whose operation is done, with what the job holds.
+fn hold(graph: &Graph, alloc: Global, made: Made) -> (Outcome, Held)
+    requires { FitsMade graph.now made }
+    ensures answered { IsAnswerOf result (product (made_of made)) }
+    ensures fits { Fits graph.now result.1 }
+{
+    match made {
+        Made::Proof(proof) => hold_proof(graph, alloc, proof),
+        Made::Reduced(proof, reductions) => hold_reduced(graph, alloc, proof, reductions),
+        Made::Problem(problem) => hold_problem(problem),
+        Made::Proves(proves) => (Outcome::Proves(proves), Held::Nothing),
+        Made::Steps(steps) => (Outcome::Steps(steps), Held::Nothing),
+        Made::Sizes {
+            cuts,
+            nodes,
+            quants,
+            size,
+        } => (
+            Outcome::Measure {
+                cuts,
+                nodes,
+                quants,
+                size,
+            },
+            Held::Nothing,
+        ),
+    }
+}
+
+/// What is replied to a job, with what the job holds.
+pub fn conclude(graph: &Graph, alloc: Global, ran: Ran) -> (Outcome, Held)
+    requires { (wanted : Answer) × Comes graph.now ran wanted }
+    ensures answered { (wanted : Answer) → Comes graph.now ran wanted → IsAnswerOf result wanted }
+    ensures fits { Fits graph.now result.1 }
+{
+    match ran {
+        Ran::Refused(refusal) => (shown_refusal(refusal), Held::Refused),
+        Ran::Unnamed => (Outcome::Memory, Held::Refused),
+        Ran::Failed(failure) => (shown_failure(failure), Held::Refused),
+        Ran::Lacking => (Outcome::Memory, Held::Unheld),
+        Ran::Done(made) => hold(graph, alloc, made),
+    }
+}

@@ -1,0 +1,157 @@
+//! What the names of jobs in an operation are given.
+ghost use Rattle.std.specs.Prelude.{◌≡◌, ◌<◌, IfOk, is_some, length, map, option_map, slice_get};
+ghost use Rattle.std.specs.List.{All};
+ghost use Rattle.proof_graph.specs.declared.graph.Graph.{Graph};
+ghost use Rattle.operations.specs.declared.answers.Refusal.TheVariants.{UnknownName, Kind as OtherKind};
+ghost use Rattle.operations.specs.Given.{names_in, without as without_suffix, pair_name as pair_of, base_name as base_of, proof_given as proof_found, problem_given as problem_found, first_of, second_of};
+ghost use Rattle.operations.specs.Means.{sense, Fits, Finds, IsAbsent};
+ghost use Rattle.operations.specs.declared.held.Held.TheVariants.{Proof as ProofHeld, Problem as ProblemHeld};
+
+use crate::answers::{Absent, Refusal};
+use crate::held::Held;
+use job_lang::Op;
+use job_words::Utf8Text;
+use proof_graph::ProofRef;
+use std::alloc::{AllocError, Global};
+use tptp_problem::Problem;
+
+/// The name of a job that is written in an operation, by its place among them, in the order in which the fields are read.
+pub fn name_at(op: &Op, place: usize) -> Option<&str>
+    ensures { option_map (λ name. name.now) result ≡ slice_get (names_in op.now) place }
+{
+    match op {
+        Op::Lk { .. } | Op::Problem { .. } => None,
+        Op::Proves { proof, problem } => match place {
+            0 => Some(proof.as_str()),
+            1 => Some(problem.as_str()),
+            _ => None,
+        },
+        Op::Show { of: text }
+        | Op::Measure { proof: text }
+        | Op::Subst { proof: text, .. }
+        | Op::Cutelim { proof: text, .. }
+        | Op::Resolution { problem: text, .. } => match place {
+            0 => Some(text.as_str()),
+            _ => None,
+        },
+    }
+}
+
+fn without<'t>(text: &'t str, suffix: &str) -> Option<&'t str>
+    ensures { option_map (λ name. name.now) result ≡ without_suffix suffix.now text.now }
+{
+    text.strip_suffix(suffix)
+}
+
+// The name of the pair that a name with the suffix `.first` or `.second` is about.
+fn pair_name(text: &str) -> Option<&str>
+    ensures { option_map (λ name. name.now) result ≡ pair_of text.now }
+{
+    match without(text, ".first") {
+        Some(name) => Some(name),
+        None => without(text, ".second"),
+    }
+}
+
+/// The name of the job that a field with this text is about: without the suffix `.first` or `.second`, where it has one.
+pub fn base_name(text: &str) -> &str
+    ensures { result.now ≡ base_of text.now }
+{
+    match pair_name(text) {
+        Some(name) => name,
+        None => text,
+    }
+}
+
+fn is_of_pair(text: &Utf8Text) -> bool
+    ensures { result ≡ is_some (pair_of text.now) }
+{
+    pair_name(text.as_str()).is_some()
+}
+
+fn text_copy(alloc: Global, text: &Utf8Text) -> Result<Utf8Text, AllocError>
+    ensures { IfOk result (λ copy. copy ≡ text.now) }
+{
+    Ok(Utf8Text::from_string(String::from_str(alloc, text.as_str())?))
+}
+
+// No earlier job has the name in a field.
+fn unknown(alloc: Global, text: &Utf8Text) -> Absent
+    ensures { IsAbsent result (UnknownName text.now) }
+{
+    match text_copy(alloc, text) {
+        Ok(text) => Absent::Refused(Refusal::UnknownName(text)),
+        Err(_) => Absent::Unnamed,
+    }
+}
+
+// The job that is named in a field holds another kind of value.
+fn other_kind(alloc: Global, text: &Utf8Text) -> Absent
+    ensures { IsAbsent result (OtherKind text.now) }
+{
+    match text_copy(alloc, text) {
+        Ok(text) => Absent::Refused(Refusal::Kind(text)),
+        Err(_) => Absent::Unnamed,
+    }
+}
+
+/// The proof that a field with this text is given, or why there is none.
+pub fn proof_given<'h>(
+    alloc: Global,
+    text: &Utf8Text,
+    value: &'h Held,
+) -> Result<&'h ProofRef, Absent>
+    ensures value { IfOk result (λ r. value.now ≡ ProofHeld r.now) }
+    ensures found { Finds (λ r. r.now.tree) result (proof_found text.now (sense value.now)) }
+{
+    match value {
+        Held::Unknown => Err(unknown(alloc, text)),
+        Held::Unheld => Err(Absent::Wanting),
+        Held::Proof(proof) => {
+            if is_of_pair(text) {
+                return Err(other_kind(alloc, text));
+            }
+            Ok(proof)
+        }
+        Held::Nothing | Held::Refused | Held::Problem(_) => Err(other_kind(alloc, text)),
+    }
+}
+
+/// The problem that a field with this text is given, or why there is none.
+pub fn problem_given<'h>(
+    alloc: Global,
+    text: &Utf8Text,
+    value: &'h Held,
+) -> Result<&'h Problem, Absent>
+    ensures value { IfOk result (λ p. value.now ≡ ProblemHeld p.now) }
+    ensures found { Finds (λ p. p.now) result (problem_found text.now (sense value.now)) }
+{
+    match value {
+        Held::Unknown => Err(unknown(alloc, text)),
+        Held::Unheld => Err(Absent::Wanting),
+        Held::Problem(problem) => {
+            if is_of_pair(text) {
+                return Err(other_kind(alloc, text));
+            }
+            Ok(problem)
+        }
+        Held::Nothing | Held::Refused | Held::Proof(_) => Err(other_kind(alloc, text)),
+    }
+}
+
+/// The value of the first name.
+pub fn first(given: &[Held]) -> &Held
+    requires { 0 < length given.now }
+    ensures value { sense result.now ≡ first_of (map sense given.now) }
+    ensures fits { (g : Graph) → All (Fits g) given.now → Fits g result.now }
+{
+    &given[0]
+}
+
+/// The value of the second name.
+pub fn second(given: &[Held]) -> &Held
+    requires { 1 < length given.now }
+    ensures value { sense result.now ≡ second_of (map sense given.now) }
+{
+    &given[1]
+}

@@ -1,0 +1,29 @@
+//! The laws of the operations. Each function does nothing: its contract is the laws.
+ghost use Rattle.std.specs.Prelude.{◌≡◌, ◌↔◌, Bool, true, length, List, Option, IfSome};
+ghost use Rattle.std.specs.List.{All};
+ghost use Rattle.proof_trees.specs.Trees.{IsValid};
+ghost use Rattle.job_lang.specs.declared.jobs.Op.{Op as Operation};
+ghost use Rattle.job_lang.specs.FormedOps.{IsFormedOp};
+ghost use Rattle.reply_lines.specs.Replies.{is_ok_outcome};
+ghost use Rattle.reply_lines.specs.OneLine.{is_want};
+ghost use Rattle.operations.specs.Values.{Value, IsSound};
+ghost use Rattle.operations.specs.Answers.{Product as Made, Answer, product, shown, held, proofs_in, with_lack, may_lack};
+ghost use Rattle.operations.specs.Given.{names_in};
+ghost use Rattle.operations.specs.Running.{run};
+ghost use Rattle.operations.specs.Claims.{Claims};
+
+/// Over sound values each operation makes what it claims, each proof in its product is valid, and what the job holds is sound.
+pub fn claims()
+    ensures claimed { (op : Operation) (vs : List (Option Value)) (made : Made) → IsFormedOp op → length vs ≡ length (names_in op)
+        → All (λ v. IfSome v IsSound) vs → run op vs ≡ product made → Claims op vs made }
+    ensures valid { (op : Operation) (vs : List (Option Value)) (made : Made) → IsFormedOp op → All (λ v. IfSome v IsSound) vs
+        → run op vs ≡ product made → All IsValid (proofs_in made) }
+    ensures sound { (op : Operation) (vs : List (Option Value)) → IsFormedOp op → All (λ v. IfSome v IsSound) vs
+        → IsSound (held (run op vs)) }
+{}
+
+/// What is replied is want of memory exactly where memory ran out, and no error exactly where it shows a product.
+pub fn replies()
+    ensures want { (lacked : Bool) (a : Answer) → may_lack lacked a → is_want (shown (with_lack lacked a)) ≡ lacked }
+    ensures ok { (a : Answer) → (is_ok_outcome (shown a) ≡ true) ↔ ((made : Made) × (a ≡ product made)) }
+{}

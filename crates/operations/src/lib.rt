@@ -1,0 +1,16 @@
+//! The operations that jobs ask for, over the values that earlier jobs hold.
+#![tactic(auto)]
+
+mod answering;
+mod answers;
+mod concluding;
+mod given;
+mod held;
+pub mod laws;
+mod proofs;
+mod readings;
+mod refuting;
+
+pub use answering::answer;
+pub use given::{base_name, name_at};
+pub use held::Held;
