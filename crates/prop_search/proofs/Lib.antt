@@ -1,4 +1,14 @@
+pub mod BitSets
+pub mod SideMembers
+pub mod PartsListed
+pub mod Numbers
+pub mod Rooted
+pub mod SequentsOf
+pub mod LeastFormulas
+pub mod Picked
 pub mod Extended
 pub mod Walking
 pub mod ProofParts
 pub mod Taking
+pub mod PartsOf
+pub mod Choosing

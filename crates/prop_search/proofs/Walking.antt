@@ -7,7 +7,7 @@ use Rattle.lk_rules.specs.declared.rule.Rule.{Rule}
 use Rattle.lk_rules.specs.Rules.{needs}
 use Rattle.proof_trees.specs.Trees.{Tree, node, none, more, size}
 use Rattle.search_laws.specs.Truth.{Assignment}
-use Rattle.search_laws.specs.Search.{Walk, proved, falsified, Walks, all_proved, one_falsified, visits, premise_at, premises_from, after_first, with_first, walk_each, inferred, by_rule, rule_at, left_atoms, walk}
+use Rattle.search_laws.specs.Search.{Walk, proved, falsified, Walks, all_proved, one_falsified, visits, premises_from, after_first, with_first, walk_each, inferred, by_rule, rule_at, left_atoms, walk}
 use Rattle.prop_search.specs.declared.fault.SearchFault.{SearchFault}
 use Rattle.prop_search.specs.declared.fault.SearchFault.TheVariants.{Falsified, Budget, Memory}
 use Rattle.prop_search.specs.Deciding.{verdict, found, Decides, visits_each, WalksTo, WalkInTurn}
@@ -29,8 +29,8 @@ some_visited s e =
     ])
 
 -- a false sequent
-pub at_leaf : (s : Sequent) (a : Assignment) (n m : ℕ) → walk s ≡ by_rule walk s (rule_at s) → None ≡ rule_at s → a ≡ left_atoms s → 0 < n → WalksTo (Err (Falsified a)) n m (walk s)
-at_leaf s a n m e untaken is some = (1, e ∙ ap (by_rule walk s) (sym untaken) ∙ ap (falsified 1) (sym is), omega arith)
+pub at_leaf : (s : Sequent) (a : Assignment) (n m : ℕ) → walk s ≡ by_rule walk s (rule_at s) → rule_at s ≡ None → a ≡ left_atoms s → 0 < n → WalksTo (Err (Falsified a)) n m (walk s)
+at_leaf s a n m e untaken is some = (1, e ∙ ap (by_rule walk s) untaken ∙ ap (falsified 1) (sym is), omega arith)
 
 inferred_to : (r : Rule) (s : Sequent) (result : Result (Unit {0}) SearchFault) (n k m : ℕ) (ws : Walks) → n ≡ suc k → WalkInTurn result k m ws → WalksTo result n m (inferred r s ws)
 inferred_to r s (Ok u) n k m ws one h = (node r s h.0, ap (inferred r s) h.1, omega (arith, h.2))
@@ -39,18 +39,25 @@ inferred_to r s (Err Budget) n k m ws one h = let all = visited r s ws in omega 
 inferred_to r s (Err (Falsified a)) n k m ws one h = (suc h.0, ap (inferred r s) h.1, omega (arith, h.2))
 
 -- a sequent with premises
-pub by_premises : (s : Sequent) (r : Rule) (result : Result (Unit {0}) SearchFault) (n k m : ℕ) → walk s ≡ by_rule walk s (rule_at s) → Some r ≡ rule_at s → n ≡ suc k
+pub by_premises : (s : Sequent) (r : Rule) (result : Result (Unit {0}) SearchFault) (n k m : ℕ) → walk s ≡ by_rule walk s (rule_at s) → rule_at s ≡ Some r → n ≡ suc k
     → WalkInTurn result k m (walk_each walk (premises_from r s 0 (needs r))) → WalksTo result n m (walk s)
 by_premises s r result n k m e taken one h =
-    subst (WalksTo result n m) (sym (e ∙ ap (by_rule walk s) (sym taken))) (inferred_to r s result n k m (walk_each walk (premises_from r s 0 (needs r))) one h)
+    subst (WalksTo result n m) (sym (e ∙ ap (by_rule walk s) taken)) (inferred_to r s result n k m (walk_each walk (premises_from r s 0 (needs r))) one h)
+
+-- a sequent without
+pub closed : (s : Sequent) (r : Rule) (n k : ℕ) → walk s ≡ by_rule walk s (rule_at s) → rule_at s ≡ Some r → needs r ≡ 0 → n ≡ suc k → WalksTo (Ok tt) n k (walk s)
+closed s r n k e taken none_needed one =
+    by_premises s r (Ok tt) n k k e taken one (subst (λ i. WalkInTurn (Ok tt) k k (walk_each walk (premises_from r s 0 i))) (sym none_needed) (none, refl, omega arith))
 
 -- the walks at premises in turn
 
--- no premise is left
-pub none_left : (r : Rule) (s : Sequent) (i n : ℕ) → i ≡ needs r → WalkInTurn (Ok tt) n n (walk_each walk (premises_from r s i (needs r - i)))
-none_left r s i n all =
-    let over : needs r - i ≡ 0 = omega arith in
-    (none, ap (λ k. walk_each walk (premises_from r s i k)) over, omega arith)
+-- at just one
+pub alone : (result : Result (Unit {0}) SearchFault) (n m : ℕ) (w : Walk) → WalksTo result n m w → WalkInTurn result n m (with_first w (all_proved none))
+alone (Ok u) n m w h = (more h.0 none, ap (λ v. with_first v (all_proved none)) h.1, omega (arith, h.2))
+alone (Err Memory) n m w h = tt
+alone (Err Budget) n m (proved t) h = omega arith
+alone (Err Budget) n m (falsified j a) h = h
+alone (Err (Falsified a)) n m w h = (h.0, ap (λ v. with_first v (all_proved none)) h.1, h.2)
 
 then_rest : (t : Tree) (result : Result (Unit {0}) SearchFault) (n k m : ℕ) (ws : Walks) → n ≡ k + size t → WalkInTurn result k m ws → WalkInTurn result n m (after_first t ws)
 then_rest t (Ok u) n k m ws first h = (more t h.0, ap (after_first t) h.1, omega (arith, h.2))
@@ -59,31 +66,19 @@ then_rest t (Err Budget) n k m (all_proved ts) first h = omega arith
 then_rest t (Err Budget) n k m (one_falsified j a) first h = omega arith
 then_rest t (Err (Falsified a)) n k m ws first h = (size t + h.0, ap (after_first t) h.1, omega (arith, h.2))
 
-fails_first : (fault : SearchFault) (n m : ℕ) (w : Walk) (ws : Walks) → WalksTo (Err fault) n m w → WalkInTurn (Err fault) n m (with_first w ws)
+-- the walk at the first ends at a fault
+pub fails_first : (fault : SearchFault) (n m : ℕ) (w : Walk) (ws : Walks) → WalksTo (Err fault) n m w → WalkInTurn (Err fault) n m (with_first w ws)
 fails_first Memory n m w ws h = tt
 fails_first Budget n m (proved t) (all_proved ts) h = omega arith
 fails_first Budget n m (proved t) (one_falsified j a) h = omega arith
 fails_first Budget n m (falsified j a) ws h = h
 fails_first (Falsified a) n m w ws h = (h.0, ap (λ v. with_first v ws) h.1, h.2)
 
-module _ (r : Rule) (s : Sequent) (i : ℕ) (here : i < needs r) (p : Sequent) (is : p ≡ premise_at r s i) where
-  unrolled : with_first (walk p) (walk_each walk (premises_from r s (i + 1) (needs r - (i + 1)))) ≡ walk_each walk (premises_from r s i (needs r - i))
-  unrolled =
-      let many : suc (needs r - (i + 1)) ≡ needs r - i = omega arith in
-      let next : i + 1 ≡ suc i = omega arith in
-      (λ j. with_first (walk (is j)) (walk_each walk (premises_from r s (next j) (needs r - (i + 1)))))
-      ∙ ap (λ k. walk_each walk (premises_from r s i k)) many
-
-  -- the walk at the next premise ends at a fault
-  pub first_fails : (fault : SearchFault) (n m : ℕ) → WalksTo (Err fault) n m (walk p) → WalkInTurn (Err fault) n m (walk_each walk (premises_from r s i (needs r - i)))
-  first_fails fault n m h = subst (WalkInTurn (Err fault) n m) unrolled (fails_first fault n m (walk p) _ h)
-
-  -- or it finds a proof, and the others follow
-  pub others_follow : (result : Result (Unit {0}) SearchFault) (n k m : ℕ) → WalksTo (Ok tt) n k (walk p) → WalkInTurn result k m (walk_each walk (premises_from r s (i + 1) (needs r - (i + 1))))
-      → WalkInTurn result n m (walk_each walk (premises_from r s i (needs r - i)))
-  others_follow result n k m first h =
-      subst (WalkInTurn result n m) (ap (λ w. with_first w (walk_each walk (premises_from r s (i + 1) (needs r - (i + 1))))) (sym first.1) ∙ unrolled)
-      (then_rest first.0 result n k m _ first.2 h)
+-- or it finds a proof, and the other follows
+pub other_follows : (result : Result (Unit {0}) SearchFault) (n k m : ℕ) (w v : Walk) → WalksTo (Ok tt) n k w → WalksTo result k m v → WalkInTurn result n m (with_first w (with_first v (all_proved none)))
+other_follows result n k m w v first h =
+    subst (λ u. WalkInTurn result n m (with_first u (with_first v (all_proved none)))) (sym first.1)
+    (then_rest first.0 result n k m (with_first v (all_proved none)) first.2 (alone result k m v h))
 
 -- the whole walk within a budget
 

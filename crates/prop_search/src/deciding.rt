@@ -1,60 +1,80 @@
 //! Whether a sequent is a tautology, by the search for its proof.
-ghost use Rattle.std.specs.Prelude.{◌≡◌, ◌-◌, ◌≤◌, true, Some, Err, IfOk};
+ghost use Rattle.std.specs.Prelude.{◌≡◌, true, Err, IfOk};
 ghost use Rattle.std.specs.List.{list_all};
 ghost use Rattle.finite.specs.Finite as set;
-ghost use Rattle.lk_rules.specs.Rules.{IsFormedRule, has_shape, needs as needed};
 ghost use Rattle.refutations.specs.Clauses.{is_atom};
 ghost use Rattle.search_laws.specs.Truth.{Assignment, IsPropositional, IsTautology, falsifies};
-ghost use Rattle.search_laws.specs.Search.{premises_from, rule_at as rule_taken, walk_each, walk};
+ghost use Rattle.search_laws.specs.Search.{walk_each, walk};
 ghost use Rattle.prop_search.specs.Deciding.{found, Decides, WalksTo, WalkInTurn};
+ghost use Rattle.prop_search.specs.Formulas.{sequent_of, IsFit};
+ghost use Rattle.prop_search.specs.Premises.{AreWithin, premises_by};
 
+use crate::choices::{Choice, choose};
+use crate::connective::Parts;
 use crate::fault::SearchFault;
-use crate::premises::{left_atoms, needs, premise_at};
-use crate::rules::rule_at;
-use lk_rules::{Rule, Sequent};
+use crate::numbered::Numbered;
+use crate::numbering::Numbering;
+use crate::sides::{left_atoms, numbered};
+use lk_rules::Sequent;
 use search_laws::laws;
 use std::alloc::Global;
 
 // The search from a sequent, where so many sequents may be visited.
 #[cycle(decide)]
-fn decide_at(alloc: Global, sequent: &Sequent, left: &mut u64) -> Result<(), SearchFault>
-    ensures { WalksTo result left.old left.new (walk sequent.now) }
+fn decide_at(
+    alloc: Global,
+    numbering: &Numbering,
+    sequent: Numbered,
+    left: &mut u64,
+) -> Result<(), SearchFault>
+    requires { IsFit numbering.now sequent }
+    ensures { WalksTo result left.old left.new (walk (sequent_of numbering.now sequent)) }
 {
     laws::steps();
     if *left == 0 {
         return Err(SearchFault::Budget);
     }
     *left -= 1;
-    match rule_at(alloc, sequent)? {
-        Some(rule) => decide_premises(alloc, &rule, sequent, 0, left),
-        None => Err(SearchFault::Falsified(left_atoms(alloc, sequent)?)),
+    match choose(numbering, &sequent) {
+        Some(Choice::Close) => Ok(()),
+        Some(Choice::Main(main)) => {
+            let parts = numbering.root(main.number).parts(main.side);
+            let mut rest = sequent;
+            numbering.take(&mut rest, main.side, main.number);
+            decide_parts(alloc, numbering, rest, parts, left)
+        }
+        None => Err(SearchFault::Falsified(left_atoms(alloc, numbering, sequent)?)),
     }
 }
 
-// The searches from the premises of a sequent from a place on.
+// The searches from the premises that have these parts.
 #[cycle(decide)]
-fn decide_premises(
+fn decide_parts(
     alloc: Global,
-    rule: &Rule,
-    sequent: &Sequent,
-    place: u64,
+    numbering: &Numbering,
+    rest: Numbered,
+    parts: Parts,
     left: &mut u64,
 ) -> Result<(), SearchFault>
-    requires taken { rule_taken sequent.now ≡ Some rule.now }
-    requires formed { IsFormedRule rule.now }
-    requires shape { has_shape rule.now ≡ true }
-    requires place { place ≤ needed rule.now }
-    ensures { WalkInTurn result left.old left.new (walk_each walk (premises_from rule.now sequent.now place (needed rule.now - place))) }
+    requires fit { IsFit numbering.now rest }
+    requires within { AreWithin numbering.now parts }
+    ensures { WalkInTurn result left.old left.new (walk_each walk (premises_by numbering.now (sequent_of numbering.now rest) parts)) }
 {
-    laws::steps();
-    if place == needs(rule) {
-        return Ok(());
+    let mut last = rest;
+    match parts {
+        Parts::One(part) => numbering.add(&mut last, part),
+        Parts::Both(part, other) => {
+            numbering.add(&mut last, part);
+            numbering.add(&mut last, other);
+        }
+        Parts::Either(part, other) => {
+            let mut first = last.copy(alloc)?;
+            numbering.add(&mut first, part);
+            decide_at(alloc, numbering, first, left)?;
+            numbering.add(&mut last, other);
+        }
     }
-    let premise = premise_at(alloc, rule, sequent, place)?;
-    match decide_at(alloc, &premise, left) {
-        Ok(()) => decide_premises(alloc, rule, sequent, place + 1, left),
-        Err(fault) => Err(fault),
-    }
+    decide_at(alloc, numbering, last, left)
 }
 
 /// Decides whether a sequent without quantifiers is true under every assignment, by a search for a proof in Gentzen's manner: from the
@@ -70,6 +90,8 @@ pub fn decide(alloc: Global, sequent: &Sequent, budget: u64) -> Result<(), Searc
     ensures atoms { (a : Assignment) → result ≡ Err (SearchFault.Falsified a) → list_all is_atom (set.listing a) ≡ true }
 {
     laws::searches();
+    let numbering = Numbering::new(alloc, sequent)?;
+    let start = numbered(alloc, &numbering, sequent)?;
     let mut left = budget;
-    decide_at(alloc, sequent, &mut left)
+    decide_at(alloc, &numbering, start, &mut left)
 }

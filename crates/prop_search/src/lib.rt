@@ -1,12 +1,19 @@
 //! Search for proofs of sequents without quantifiers: a proof without cuts, or an assignment under which the sequent is false.
 #![tactic(auto)]
 
+mod bits;
+mod choices;
+mod connective;
 mod deciding;
 mod fault;
+mod numbered;
+mod numbering;
+mod parts;
 mod premises;
 mod proving;
 mod quantifiers;
 mod rules;
+mod sides;
 
 pub use deciding::decide;
 pub use fault::SearchFault;

@@ -1,5 +1,5 @@
--- Truth of formulas without quantifiers, and sequents that are true under every assignment.
---     Assignment, value      which atoms are true, and which formulas are then
+-- Truth of formulas by their connectives, and sequents that are true under every assignment.
+--     Assignment, value      which atoms and quantified formulas are true, and which formulas are then
 --     has_quantifier, IsPropositional      formulas with a quantifier; sequents that have no such formula
 --     falsifies, IsTautology      an assignment makes a sequent false; none does
 use Rattle.std.specs.Prelude.{◌≡◌, Bool, true, false, ◌&&◌, ◌||◌, not as negated}
@@ -9,11 +9,11 @@ use Rattle.finite.specs.Finite as set
 use Rattle.lk_rules.specs.declared.sequent.Sequent.{Sequent}
 use Rattle.lk_rules.specs.Formulas.{FormulaSet}
 
--- a finite set of atoms, which are true; all others are false
+-- a finite set of atoms and of formulas with an outermost quantifier, which are true; all others of these are false
 abbrev pub Assignment : Type 0
 Assignment = FormulaSet
 
--- the value of a formula without quantifiers
+-- the value of a formula, in which parts that begin with a quantifier count as atoms do
 abbrev pub value : Assignment → Formula → Bool
 value a (atom s ts) = set.has a (atom s ts)
 value a top = true
@@ -22,8 +22,8 @@ value a (not f) = negated (value a f)
 value a (and f g) = value a f && value a g
 value a (or f g) = value a f || value a g
 value a (imp f g) = negated (value a f) || value a g
-value a (all f) = false
-value a (ex f) = false
+value a (all f) = set.has a (all f)
+value a (ex f) = set.has a (ex f)
 
 -- whether a formula has a quantifier
 abbrev pub has_quantifier : Formula → Bool

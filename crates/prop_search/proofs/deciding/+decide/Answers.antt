@@ -1,19 +1,24 @@
--- The walks at the premises in turn.
-use Rattle.std.proofs.Common.{◌<◌, ◌∙◌, arith}
-use Rattle.lk_rules.specs.Rules.{needs}
-use Rattle.prop_search.proofs.Walking.{none_left, first_fails, others_follow}
+-- The rule of a compound formula, and the walks at its premises.
+use Rattle.std.proofs.Common.{◌≡◌, suc, ◌-◌, Some, sym, subst, ◌∙◌, arith}
+use Rattle.search_laws.specs.Search.{walk_each, walk}
+use Rattle.prop_search.specs.Deciding.{WalkInTurn}
+use Rattle.prop_search.specs.declared.choices.Choice.TheVariants.{Main}
+use Rattle.prop_search.specs.Choices.{IsChoice}
+use Rattle.prop_search.specs.Formulas.{formula_at, sequent_of}
+use Rattle.prop_search.specs.Premises.{rule_with, premises_by}
+use Rattle.prop_search.proofs.PartsOf.{rule_is, premises_are}
+use Rattle.prop_search.proofs.Walking.{by_premises}
 use Rattle.prop_search.proofs.deciding.+decide.Goals as goal
 
-pub decide_premises-returns-then-place-needs : goal.decide_premises-returns-then-place-needs
-decide_premises-returns-then-place-needs t c =
-    none_left c.args.rule.now c.args.sequent.now c.args.place c.args.left.now (c.if-place-needs.true ∙ c.needs.ensures)
-
-pub decide_premises-returns : goal.decide_premises-returns
-decide_premises-returns t c =
-    let here : c.args.place < needs c.args.rule.now = omega arith in
-    first_fails c.args.rule.now c.args.sequent.now c.args.place here c.in_ok-premise.premise c.in_ok-premise.ensures c.in-Err.fault c.args.left.now c.decide_at.new.left c.in-Err.ensures
-
-pub decide_premises-returns-in-Ok : goal.decide_premises-returns-in-Ok
-decide_premises-returns-in-Ok t c =
-    let here : c.args.place < needs c.args.rule.now = omega arith in
-    others_follow c.args.rule.now c.args.sequent.now c.args.place here c.in_ok-premise.premise c.in_ok-premise.ensures c.decide_premises.result c.args.left.now c.decide_at.new.left c.decide_premises.new.left c.in-Ok.ensures c.decide_premises.ensures
+pub decide_at-returns-in-Some-Main : goal.decide_at-returns-in-Some-Main
+decide_at-returns-in-Some-Main t c =
+    let fs = c.args.numbering.now in
+    let s = sequent_of fs c.args.sequent in
+    let side = c.in-Some-Main.main.side in
+    let f = formula_at fs c.in-Some-Main.main.number in
+    let chosen : IsChoice fs s (Some (Main c.in-Some-Main.main)) = rw c.in-Some-Main.field-0-is at c.in-Some-Main.ensures in
+    let one : c.args.left.now ≡ suc (c.args.left.now - 1) = omega arith in
+    by_premises s (rule_with side c.root.result f) c.decide_parts.result c.args.left.now (c.args.left.now - 1) c.decide_parts.new.left (c.steps.ensures.walk s)
+    (chosen.2 ∙ rule_is fs side c.root.result f c.root.ensures) one
+    (subst (λ ps. WalkInTurn c.decide_parts.result (c.args.left.now - 1) c.decide_parts.new.left (walk_each walk ps))
+    ((λ i. premises_by fs (c.take.ensures.sequent i) (c.parts-parts.ensures i)) ∙ sym (premises_are fs side c.root.result f c.root.ensures s)) c.decide_parts.ensures)

@@ -1,10 +1,9 @@
--- The connectives get fewer, or the premises.
-use Rattle.std.proofs.Common.{◌+◌, ◌-◌, ◌*◌}
-use Rattle.search_laws.specs.Search.{weight}
+-- The budget gets smaller.
+use Rattle.std.proofs.Common.{◌+◌, ◌*◌}
 use Rattle.prop_search.proofs.deciding.+decide.Given as goal
 
 abbrev pub decreases-decide_at : goal.decreases-decide_at
-decreases-decide_at l = 4 * weight l.sequent.now + 3
+decreases-decide_at l = 2 * l.left.now + 1
 
-abbrev pub decreases-decide_premises : goal.decreases-decide_premises
-decreases-decide_premises l = 4 * weight l.sequent.now + (2 - l.place)
+abbrev pub decreases-decide_parts : goal.decreases-decide_parts
+decreases-decide_parts l = 2 * l.left.now + 2

@@ -1,0 +1,22 @@
+use Rattle.std.proofs.Common.{take, drop, ◌∙◌}
+use Rattle.finite.specs.Finite as set
+use Rattle.prop_search.specs.Bits.{has_number}
+use Rattle.prop_search.specs.Formulas.{sequent_of}
+use Rattle.prop_search.proofs.LeastFormulas.{IsLeastFormula, least_axiom}
+use Rattle.prop_search.proofs.numbering.Numbering.axiom.Goals as goal
+
+least : (c : goal.After-first_common) → IsLeastFormula c.args.self.now (set.has (sequent_of c.args.self.now c.args.sequent.now).right) (has_number c.args.sequent.now) c.first_common.result
+least c =
+    let at = c.split_at.ensures in
+    let width = c.width-width.ensures.width in
+    let words = c.words.ensures in
+    let h = c.first_common.ensures in
+    least_axiom c.args.self.now c.known.ensures c.args.sequent.now c.requires c.split_at.result.0.now c.split_at.result.1.now c.first_common.result
+    (at.front ∙ (λ i. take (width i) (words i))) (at.back ∙ (λ i. drop (width i) (words i))) (at.front_len ∙ width)
+    (record { within = h.within; found = h.found; least = h.least; none = h.none })
+
+pub returns-clause-within : goal.returns-clause-within
+returns-clause-within c = (least c).within
+
+pub returns-clause-least : goal.returns-clause-least
+returns-clause-least c = (least c).least
