@@ -11,4 +11,10 @@ pub mod NodeWalk
 pub mod RootWalk
 pub mod Counting
 pub mod Arranged
+pub mod SamePairs
+pub mod Listed
+pub mod RisingLists
+pub mod TableTrees
+pub mod Entered
+pub mod Written
 mod Examples

@@ -28,7 +28,7 @@ children (Not m) = m ∷ []
 children (And m n) = m ∷ n ∷ []
 children (Or m n) = m ∷ n ∷ []
 children (Imp m n) = m ∷ n ∷ []
-children (Weak f is) = map (λ i. i.1) is.items
+children (Weak f is) = map (λ i. i.1) is
 children (Strong f y m) = m ∷ []
 
 -- whether the formulas, terms and variables that a node names are well formed
@@ -39,7 +39,7 @@ is_formed_node (Not m) = true
 is_formed_node (And m n) = true
 is_formed_node (Or m n) = true
 is_formed_node (Imp m n) = true
-is_formed_node (Weak f is) = is_formed f && list_all (λ i. is_formed_term i.0) is.items
+is_formed_node (Weak f is) = is_formed f && list_all (λ i. is_formed_term i.0) is
 is_formed_node (Strong f y m) = is_formed f && is_formed_var y
 
 -- the tree at a place, and a formula that is never used where there is none
@@ -58,7 +58,7 @@ tree_over ts (Not m) = neg (tree_at ts m)
 tree_over ts (And m n) = conj (tree_at ts m) (tree_at ts n)
 tree_over ts (Or m n) = disj (tree_at ts m) (tree_at ts n)
 tree_over ts (Imp m n) = impl (tree_at ts m) (tree_at ts n)
-tree_over ts (Weak f is) = weak f (insts_of (sorted term_cmp (λ i. i.term) (map (inst_at ts) is.items)))
+tree_over ts (Weak f is) = weak f (insts_of (sorted term_cmp (λ i. i.term) (map (inst_at ts) is)))
 tree_over ts (Strong f y m) = strong f y (tree_at ts m)
 
 -- the trees of earlier nodes, and those of the nodes after them

@@ -11,3 +11,7 @@ pub mod RootReading
 pub mod Sequents
 pub mod Reads
 pub mod Instances
+pub mod Subtrees
+pub mod Writing
+pub mod Tables
+pub mod SameNodes

@@ -24,7 +24,7 @@ pub record StandsRightly (e : ExpSequent) : Type 0 where
   pub right : list_all (stands Right) e.right ≡ true
 
 pub record IsWithoutFault (flat : FlatExp) : Type 0 where
-  pub nodes : IsWithoutNodeFault flat.nodes.items
+  pub nodes : IsWithoutNodeFault flat.nodes
   pub roots : IsWithoutRootFault flat
 
 -- the first faulty root, or want of memory
@@ -38,7 +38,7 @@ IsRootOrMemory flat fault.Memory = Unit {0}
 -- means. Numbers of nodes are cut off at the largest budget
 abbrev pub Reads : Result ExpSequent NodesFault → FlatExp → ℕ → Type 0
 Reads (Ok e) flat budget = IsWithoutFault flat × (expansion_of e ≡ expansion_over flat) × (capped (total (expansion_over flat)) ≤ budget)
-Reads (Err (fault.Node i cause)) flat budget = IsFirstNodeFault flat.nodes.items i cause
-Reads (Err (fault.Root n cause)) flat budget = IsWithoutNodeFault flat.nodes.items × IsFirstRootFault flat n cause
+Reads (Err (fault.Node i cause)) flat budget = IsFirstNodeFault flat.nodes i cause
+Reads (Err (fault.Root n cause)) flat budget = IsWithoutNodeFault flat.nodes × IsFirstRootFault flat n cause
 Reads (Err fault.Budget) flat budget = IsWithoutFault flat × (budget < capped (total (expansion_over flat)))
 Reads (Err fault.Memory) flat budget = Unit {0}

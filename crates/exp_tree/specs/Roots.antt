@@ -41,9 +41,9 @@ IsRightSideBefore ts side roots k = (j : ℕ) → j < k → side_fault_at ts sid
 -- the fault of the root with this number, where the left roots are counted before the right ones
 abbrev pub root_fault_at : FlatExp → ℕ → Option RootCause
 root_fault_at flat n =
-    if nat_lt n (length flat.left.items)
-    then side_fault_at (trees_of flat.nodes.items) Left flat.left.items n
-    else side_fault_at (trees_of flat.nodes.items) Right flat.right.items (n - length flat.left.items)
+    if nat_lt n (length flat.left)
+    then side_fault_at (trees_of flat.nodes) Left flat.left n
+    else side_fault_at (trees_of flat.nodes) Right flat.right (n - length flat.left)
 
 -- no root before this number is faulty
 abbrev pub AreRightRootsBefore : FlatExp → ℕ → Type 0
@@ -56,7 +56,7 @@ pub record IsFirstRootFault (flat : FlatExp) (n : ℕ) (cause : RootCause) : Typ
 
 -- no root is faulty
 abbrev pub IsWithoutRootFault : FlatExp → Type 0
-IsWithoutRootFault flat = AreRightRootsBefore flat (length flat.left.items + length flat.right.items)
+IsWithoutRootFault flat = AreRightRootsBefore flat (length flat.left + length flat.right)
 
 -- the trees of roots by rising formula
 abbrev pub side_over : List Tree → List ℕ → List Tree
@@ -64,7 +64,7 @@ side_over ts roots = sorted formula_cmp shallow (map (tree_at ts) roots)
 
 -- the trees of the roots of both sides
 abbrev pub expansion_over : FlatExp → Expansion
-expansion_over flat = record { left = side_over (trees_of flat.nodes.items) flat.left.items; right = side_over (trees_of flat.nodes.items) flat.right.items }
+expansion_over flat = record { left = side_over (trees_of flat.nodes) flat.left; right = side_over (trees_of flat.nodes) flat.right }
 
 -- how many nodes some trees have together
 abbrev pub nodes_each : List Tree → ℕ

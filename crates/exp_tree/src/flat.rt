@@ -2,7 +2,10 @@
 ghost use Rattle.std.specs.Prelude.{◌≡◌};
 ghost use Rattle.exp_tree.specs.declared.flat.NodesFault.TheVariants.{Memory as NoMemory};
 
-use fol::{Formula, Term, Var};
+use crate::flat_insts::FlatInsts;
+use crate::nodes::ExpNodes;
+use fol::{Formula, Var};
+use lk_rules::Numbers;
 use std::alloc::AllocError;
 
 /// A node of a flat list. It names its children by the places of earlier nodes, counted from 0.
@@ -17,7 +20,7 @@ pub enum ExpNode {
     Or(u64, u64),
     Imp(u64, u64),
     /// A weak quantifier's formula, with the terms of the instances that are used, in any order, and their nodes.
-    Weak(Formula, Vec<(Term, u64)>),
+    Weak(Formula, FlatInsts),
     /// A strong quantifier's formula, its variable, and the node of the instance by that.
     Strong(Formula, Var, u64),
 }
@@ -25,9 +28,9 @@ pub enum ExpNode {
 /// Expansion trees for the two sides of a sequent: a list of nodes, and which of them are the roots on the left and on the right.
 #[derive(Drop)]
 pub struct FlatExp {
-    pub nodes: Vec<ExpNode>,
-    pub left: Vec<u64>,
-    pub right: Vec<u64>,
+    pub nodes: ExpNodes,
+    pub left: Numbers,
+    pub right: Numbers,
 }
 
 /// What is wrong with a node: the first fault in this order.

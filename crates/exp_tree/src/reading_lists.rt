@@ -62,13 +62,13 @@ fn count_nodes(trees: &[Exp]) -> u64
 
 // The trees of the roots.
 fn read_roots(alloc: Global, trees: &[Exp], flat: &FlatExp) -> Result<ExpSequent, NodesFault>
-    requires { trees.now ≡ trees_of flat.now.nodes.items }
+    requires { trees.now ≡ trees_of flat.now.nodes }
     ensures ok { IfOk result (λ e. expansion_of e ≡ expansion_over flat.now) }
     ensures stand { IfOk result StandsRightly }
     ensures right { IfOk result (λ _. IsWithoutRootFault flat.now) }
     ensures err { IfErr result (IsRootOrMemory flat.now) }
 {
-    let left = match read_side(alloc, trees, Side::Left, &flat.left, 0) {
+    let left = match read_side(alloc, trees, Side::Left, flat.left.as_slice(), 0) {
         Ok(left) => left,
         Err(fault) => return Err(fault),
     };
@@ -76,8 +76,8 @@ fn read_roots(alloc: Global, trees: &[Exp], flat: &FlatExp) -> Result<ExpSequent
         alloc,
         trees,
         Side::Right,
-        &flat.right,
-        flat.left.len() as u64,
+        flat.right.as_slice(),
+        flat.left.as_slice().len() as u64,
     ) {
         Ok(right) => Ok(ExpSequent { left, right }),
         Err(fault) => Err(fault),
@@ -88,11 +88,10 @@ fn read_roots(alloc: Global, trees: &[Exp], flat: &FlatExp) -> Result<ExpSequent
 /// `Budget` is answered where there is none and the unfolded trees of the roots have more than `budget` nodes; nothing is unfolded to
 /// count them.
 pub fn read_nodes(alloc: Global, flat: &FlatExp, budget: u64) -> Result<ExpSequent, NodesFault>
-    requires formed { list_all is_formed_node flat.now.nodes.items ≡ true }
     ensures exact { Reads result flat.now budget }
     ensures stand { IfOk result StandsRightly }
 {
-    let trees = match read_trees(alloc, &flat.nodes) {
+    let trees = match read_trees(alloc, flat.nodes.as_slice()) {
         Ok(trees) => trees,
         Err(fault) => return Err(fault),
     };

@@ -1,5 +1,7 @@
 //! Expansion trees for the two sides of a sequent.
-ghost use Rattle.std.specs.Prelude.{◌≡◌};
+ghost use Rattle.std.specs.Prelude.{◌≡◌, true};
+ghost use Rattle.std.specs.List.{All};
+ghost use Rattle.expansion_laws.specs.Building.{is_built};
 ghost use Rattle.exp_tree.specs.Sequents.{AreArranged};
 
 use crate::expansion::Exp;
@@ -50,4 +52,16 @@ impl Exps {
 pub struct ExpSequent {
     pub left: Exps,
     pub right: Exps,
+}
+
+impl ExpSequent {
+    /// Each tree is rightly built.
+    #[tactic(auto, using(crate::proofs::Arranged::each_passes))]
+    pub fn known(&self)
+        ensures left { All (λ e. is_built e ≡ true) self.now.left }
+        ensures right { All (λ e. is_built e ≡ true) self.now.right }
+    {
+        let _left = self.left.as_slice();
+        let _right = self.right.as_slice();
+    }
 }
