@@ -3,17 +3,17 @@ use Rattle.std.proofs.Common.{◌≡◌, ℕ, ◌<◌, List, refl, sym, ap, ◌�
 use Rattle.std.specs.Prelude.{Some}
 use Rattle.fol.specs.declared.symbols.Sym.{Sym}
 use Rattle.fol.specs.Syntax as fol
-use Rattle.fol.specs.Syntax.{Term, Terms, Formula}
+use Rattle.fol.specs.Syntax.{Term, Terms, Pred, Formula}
 use Rattle.arena.specs.declared.task.Change.{Change}
 use Rattle.arena.specs.declared.task.Change.TheVariants as change
 use Rattle.arena_cells.specs.declared.key.Parts.TheVariants.{Zero, One, Two}
 use Rattle.arena_cells.specs.declared.key.Key.{Key}
-use Rattle.arena_cells.specs.declared.key.Key.TheVariants.{Symbol, Free, Bound, App, Nil, Cons, Atom, Top, Bot, Not, And, Or, Imp, All as Forall, Ex, Variables, Map, Side, Sequent, Tree}
+use Rattle.arena_cells.specs.declared.key.Key.TheVariants.{Symbol, Free, Bound, App, Nil, Cons, Atom, Defined, Top, Bot, Not, And, Or, Imp, All as Forall, Ex, Variables, Map, Side, Sequent, Tree}
 use Rattle.arena_cells.specs.Items.{Item, term, terms, formula}
 use Rattle.arena_cells.specs.Standing.{Stands, Extends, item_at, term_at, terms_at, formula_at, HasTerm, HasTerms, HasFormula, IsTermAt, IsTermsAt, IsFormulaAt, IsThere}
 use Rattle.arena_cells.specs.Meaning.{meaning, HasParts, AreBelow}
 use Rattle.arena.specs.Changes.{Operation, instance, image, binding, on_term, on_terms, on_formula, changed, deeper, inside, parts_of, with_parts, operation_at, deeper_change, change_inside, HasChange, FitsChange, IsWalked}
-use Rattle.arena_cells.proofs.Staying.{item_is, is_term, is_terms, is_formula, symbol_stays, symbol_there}
+use Rattle.arena_cells.proofs.Staying.{item_is, is_term, is_terms, is_formula, symbol_stays, symbol_there, formula_stays, formula_there}
 use Rattle.arena_cells.proofs.Facts as facts
 use Rattle.arena.proofs.Results.{item_stays, operation_stays}
 
@@ -33,7 +33,7 @@ on_cons (instance u k) t ts = refl
 on_cons (image m) t ts = refl
 on_cons (binding v k) t ts = refl
 
-on_atom : (o : Operation) (s : Sym) (ts : Terms) → on_formula o (fol.atom s ts) ≡ fol.atom s (on_terms o ts)
+on_atom : (o : Operation) (s : Pred) (ts : Terms) → on_formula o (fol.atom s ts) ≡ fol.atom s (on_terms o ts)
 on_atom (instance u k) s ts = refl
 on_atom (image m) s ts = refl
 on_atom (binding v k) s ts = refl
@@ -87,6 +87,7 @@ unchanged a o (App s ts) w e = cc
 unchanged a o Nil w e = ap terms (sym (on_nil o))
 unchanged a o (Cons t ts) w e = cc
 unchanged a o (Atom s ts) w e = cc
+unchanged a o (Defined s f ts) w e = cc
 unchanged a o Top w e = ap formula (sym (on_top o))
 unchanged a o Bot w e = ap formula (sym (on_bot o))
 unchanged a o (Not f) w e = cc
@@ -124,6 +125,7 @@ part a n m p t h lt e = subst (λ (x : ℕ). IsPart a n x) e (record { stands = 
 pub one_part : (a : List Item) (n : ℕ) (k : Key) (p : ℕ) → HasParts a k → AreBelow n k → parts_of k ≡ One p → IsPart a n p
 one_part a n (App s ts) p h b e = part a n ts p _ h.1 b (one_same ts p e)
 one_part a n (Atom s ts) p h b e = part a n ts p _ h.1 b (one_same ts p e)
+one_part a n (Defined s f ts) p h b e = part a n ts p _ h.1.1 b (one_same ts p e)
 one_part a n (Not f) p h b e = part a n f p _ h b (one_same f p e)
 one_part a n (Forall f) p h b e = part a n f p _ h b (one_same f p e)
 one_part a n (Ex f) p h b e = part a n f p _ h b (one_same f p e)
@@ -199,7 +201,15 @@ module _ (a b : List Item) (grown : Extends a b) (o : Operation) where
       let made = list_part ts p x h.1 (one_same ts p e) s' in
       record {
         parts = (symbol_there a b grown s h.0, facts.terms_there b x _ made);
-        means = (λ i. formula (fol.atom (symbol_stays a b grown s h.0 i) (is_terms b x _ made i))) ∙ ap formula (sym (on_atom o _ _));
+        means = (λ i. formula (fol.atom (fol.plain (symbol_stays a b grown s h.0 i)) (is_terms b x _ made i))) ∙ ap formula (sym (on_atom o _ _));
+      }
+  one_changed (Defined s f ts) p x h e s' =
+      let made = list_part ts p x h.1.1 (one_same ts p e) s' in
+      record {
+        parts = (symbol_there a b grown s h.0, (formula_there a b grown f h.1.0, facts.terms_there b x _ made));
+        means =
+            (λ i. formula (fol.atom (fol.pred (symbol_stays a b grown s h.0 i) (fol.defined (formula_stays a b grown f h.1.0 i))) (is_terms b x _ made i)))
+            ∙ ap formula (sym (on_atom o _ _));
       }
   one_changed (Not f) p x h e s' =
       let made = body_part o f p x h (one_same f p e) s' in

@@ -1,24 +1,19 @@
 -- The results that are kept, in a larger arena and with one more.
-use Rattle.std.proofs.Common.{◌≡◌, ℕ, true, false, ◌==◌, if◌then◌else◌, List, [], ◌∷◌, refl, sym, ap, ◌∙◌, subst}
+use Rattle.std.proofs.Common.{◌≡◌, ℕ, nat_eq, Bool, true, false, cond, List, refl, sym, ap, ◌∙◌, subst}
 use Rattle.std.specs.Prelude.{Some}
-use Rattle.std.specs.declared.cmp.Ordering.{Ordering}
-use Rattle.std.specs.declared.cmp.Ordering.TheVariants.{Equal}
-use Rattle.std.specs.Ordering.{eq_by_cmp}
-use Rattle.std.specs.Cmp.{Equal-is}
+use Rattle.std.specs.Cmp.{unsigned_Decides}
 use Rattle.std.specs.FinMap as fin
-use Rattle.std.specs.BTreeMap as ordered
-use Rattle.std.specs.BTreeMap.{BTreeMap, Updates, is_at}
+use Rattle.std.specs.HashMap as hash
+use Rattle.std.specs.HashMap.{HashMap, Updates}
 use Rattle.std.specs.Map.{lookup}
-use Rattle.fol.specs.Syntax.{Formula}
-use Rattle.fol.specs.Keys.{formula_key_cmp}
-use Rattle.fol.proofs.OrderTies.{text_ties}
-use Rattle.fol.proofs.KeyTies.{formula_key_ties}
 use Rattle.lk_rules.specs.Formulas.{image_set}
 use Rattle.arena.specs.declared.task.Change.{Change}
 use Rattle.arena.specs.declared.task.Change.TheVariants as change
 use Rattle.arena.specs.declared.task.Task.{Task}
 use Rattle.arena.specs.declared.task.Task.TheVariants as task
-use Rattle.arena.specs.TaskOrder.{task_head, task_cmp}
+use Rattle.arena.specs.declared.arena.Imported.{Imported}
+use Rattle.arena.specs.TaskKeys.{coded_task, same_task}
+use Rattle.arena_cells.specs.Codes.{same_by_decides}
 use Rattle.arena_cells.specs.Items.{Item, variables, substitution, side, tree}
 use Rattle.arena_cells.specs.Standing.{Stands, Extends, HasFormula, item_at, map_at, IsMapAt, IsThere}
 use Rattle.arena.specs.Changes.{instance, image, binding, changed, operation_at, HasChange}
@@ -29,54 +24,27 @@ use Rattle.arena.specs.Tasks.{vars_item, vars_side, result_of, HasTask, IsResult
 use Rattle.arena_cells.proofs.Reading.{some_same}
 use Rattle.arena_cells.proofs.Staying.{item_is, is_map, term_stays, variable_stays, side_stays, sequent_stays, tree_stays, term_there, variable_there, side_there, sequent_there, tree_there}
 
--- only equal tasks tie
-task_back : List ℕ → Task
-task_back (k ∷ a ∷ b ∷ c ∷ []) =
-    if k == 0 then task.Change (change.Instance a b) c else (
-    if k == 1 then task.Change (change.Image a) c else (
-    if k == 2 then task.Change (change.Bind a b) c else (
-    if k == 3 then task.Variables a else (
-    if k == 4 then task.SideVariables a else (
-    if k == 5 then task.SequentVariables a else (
-    if k == 6 then task.Image a b else (
-    if k == 7 then task.TreeVariables a else task.TreeImage a b)))))))
-task_back ns = task.Variables 0
-
-task_law : (q : Task) → task_back (task_head q) ≡ q
-unfolding task_back
-task_law (task.Change (change.Instance u k) n) = refl
-task_law (task.Change (change.Image m) n) = refl
-task_law (task.Change (change.Bind v k) n) = refl
-task_law (task.Variables n) = refl
-task_law (task.SideVariables n) = refl
-task_law (task.SequentVariables n) = refl
-task_law (task.Image m n) = refl
-task_law (task.TreeVariables n) = refl
-task_law (task.TreeImage m n) = refl
-
-task_ties : (q p : Task) → task_cmp q p ≡ Equal → q ≡ p
-task_ties q p h = sym (task_law q) ∙ ap task_back (text_ties (task_head q) (task_head p) h) ∙ task_law p
-
 -- a map with one more entry, each of whose entries is right
-entries_more : {K : Type 0} {R : K → K → Ordering} → fin.IsAntisymmetric R → (P : K → ℕ → Type 0) (kept grown : BTreeMap K ℕ) (k : K) (n : ℕ)
-    → ((q : K) (m : ℕ) → ordered.get R kept q ≡ Some m → P q m) → Updates R kept grown k (Some n) → P k n
-    → (q : K) (m : ℕ) → ordered.get R grown q ≡ Some m → P q m
-entries_more {K} {R} ties P kept grown k n right updates here q m there =
-    elim (eq_by_cmp R k q) as (λ b. eq_by_cmp R k q ≡ b → P q m) [
-      | true ↦ λ e.
-          let same : k ≡ q = ties k q ((Equal-is (R k q)).0 e) in
-          let value : n ≡ m = some_same n m (sym updates.1 ∙ ap (ordered.get R grown) same ∙ there) in
-          subst (λ (x : K). P x m) same (subst (λ (y : ℕ). P k y) value here)
-      | false ↦ λ e. right q m (sym (updates.2 q e) ∙ there)
-    ] refl
+entries_more : {K V S : Type 0} (eq : K → K → Bool) → ((k q : K) → eq k q ≡ true → k ≡ q) → (P : K → V → Type 0) (kept grown : HashMap K V S) (k : K) (v : V)
+    → ((q : K) (w : V) → hash.get eq kept q ≡ Some w → P q w) → Updates eq kept grown k (Some v) → P k v
+    → (q : K) (w : V) → hash.get eq grown q ≡ Some w → P q w
+entries_more {K} {V} eq same P kept grown k v right updates here q w there = by (eq k q) refl
+  where
+    by : (b : Bool) → eq k q ≡ b → P q w
+    by true e =
+        let value : v ≡ w = some_same v w (sym (updates.0 q ∙ ap (λ b. cond b (Some v) (hash.get eq kept q)) e) ∙ there) in
+        subst (λ (x : K). P x w) (same k q e) (subst (λ (y : V). P k y) value here)
+    by false e = right q w (sym (updates.0 q ∙ ap (λ b. cond b (Some v) (hash.get eq kept q)) e) ∙ there)
 
-pub results_more : (a : List Item) (kept grown : BTreeMap Task ℕ) (q : Task) (n : ℕ) → AreResults a kept → Updates task_cmp kept grown q (Some n) → HasTask a q
+pub results_more : {S : Type 0} (a : List Item) (kept grown : HashMap Task ℕ S) (q : Task) (n : ℕ) → AreResults a kept → Updates same_task kept grown q (Some n) → HasTask a q
     → Stands a n (result_of a q) → AreResults a grown
-results_more a kept grown q n right updates parts stands = entries_more task_ties (IsResult a) kept grown q n right updates (record { parts = parts; stands = stands })
+results_more a kept grown q n right updates parts stands =
+    entries_more same_task (λ p r. (same_by_decides coded_task p r).0) (IsResult a) kept grown q n right updates (record { parts = parts; stands = stands })
 
-pub imported_more : (a : List Item) (kept grown : BTreeMap Formula ℕ) (f : Formula) (n : ℕ) → AreImported a kept → Updates formula_key_cmp kept grown f (Some n)
-    → HasFormula a n f → AreImported a grown
-imported_more a kept grown f n right updates here = entries_more formula_key_ties (λ g m. HasFormula a m g) kept grown f n right updates here
+pub imported_more : {S : Type 0} (a : List Item) (kept grown : HashMap ℕ Imported S) (fingerprint : ℕ) (f : Imported) → AreImported a kept → Updates nat_eq kept grown fingerprint (Some f)
+    → HasFormula a f.number f.formula → AreImported a grown
+imported_more a kept grown fingerprint f right updates here =
+    entries_more nat_eq (λ m n. (unsigned_Decides m n).0) (λ _ g. HasFormula a g.number g.formula) kept grown fingerprint f right updates here
 
 module _ (a b : List Item) (grown : Extends a b) where
   pub map_stays : (n : ℕ) → IsMapAt a n → map_at b n ≡ map_at a n
@@ -119,17 +87,17 @@ module _ (a b : List Item) (grown : Extends a b) where
   task_there (task.TreeVariables n) h = tree_there a b grown n h
   task_there (task.TreeImage m n) h = (map_there m h.0, tree_there a b grown n h.1)
 
-pub results_stay : (a b : List Item) (kept : BTreeMap Task ℕ) → AreResults a kept → Extends a b → AreResults b kept
+pub results_stay : {S : Type 0} (a b : List Item) (kept : HashMap Task ℕ S) → AreResults a kept → Extends a b → AreResults b kept
 results_stay a b kept right grown q n there =
     let old = right q n there in
     record { parts = task_there a b grown q old.parts; stands = grown n _ old.stands ∙ ap Some (sym (result_stays a b grown q old.parts)) }
 
-pub imported_stay : (a b : List Item) (kept : BTreeMap Formula ℕ) → AreImported a kept → Extends a b → AreImported b kept
-imported_stay a b kept right grown f n there = grown n _ (right f n there)
+pub imported_stay : {S : Type 0} (a b : List Item) (kept : HashMap ℕ Imported S) → AreImported a kept → Extends a b → AreImported b kept
+imported_stay a b kept right grown fingerprint f there = grown f.number _ (right fingerprint f there)
 
 -- with the same entries the same is kept
-pub results_same : (a : List Item) (kept same : BTreeMap Task ℕ) → AreResults a kept → same.entries ≡ kept.entries → AreResults a same
-results_same a kept same right entries q n there = right q n (ap (lookup (is_at (task_cmp q))) (sym entries) ∙ there)
+pub results_same : {S : Type 0} (a : List Item) (kept same : HashMap Task ℕ S) → AreResults a kept → same.entries ≡ kept.entries → AreResults a same
+results_same a kept same right entries q n there = right q n (ap (lookup (same_task q)) (sym entries) ∙ there)
 
-pub imported_same : (a : List Item) (kept same : BTreeMap Formula ℕ) → AreImported a kept → same.entries ≡ kept.entries → AreImported a same
-imported_same a kept same right entries f n there = right f n (ap (lookup (is_at (formula_key_cmp f))) (sym entries) ∙ there)
+pub imported_same : {S : Type 0} (a : List Item) (kept same : HashMap ℕ Imported S) → AreImported a kept → same.entries ≡ kept.entries → AreImported a same
+imported_same a kept same right entries fingerprint f there = right fingerprint f (ap (lookup (nat_eq fingerprint)) (sym entries) ∙ there)

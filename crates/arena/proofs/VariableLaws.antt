@@ -8,7 +8,7 @@ use Rattle.free_variables.specs.Occurrence.{var_list_term, var_list_terms, var_l
 use Rattle.free_variables.specs.Union.{union_of}
 use Rattle.arena_cells.specs.declared.key.Parts.TheVariants.{Zero, One, Two}
 use Rattle.arena_cells.specs.declared.key.Key.{Key}
-use Rattle.arena_cells.specs.declared.key.Key.TheVariants.{Symbol, Free, Bound, App, Nil, Cons, Atom, Top, Bot, Not, And, Or, Imp, All as Forall, Ex, Variables, Map, Side, Sequent, Tree}
+use Rattle.arena_cells.specs.declared.key.Key.TheVariants.{Symbol, Free, Bound, App, Nil, Cons, Atom, Defined, Top, Bot, Not, And, Or, Imp, All as Forall, Ex, Variables, Map, Side, Sequent, Tree}
 use Rattle.arena_cells.specs.Items.{Item, variables}
 use Rattle.arena_cells.specs.Standing.{Stands, Extends, item_at, term_at, terms_at, formula_at, variables_at, IsThere}
 use Rattle.arena_cells.specs.Meaning.{meaning, HasParts}
@@ -28,6 +28,7 @@ vars_zero a (App s ts) w e = cc
 vars_zero a Nil w e = refl
 vars_zero a (Cons t ts) w e = cc
 vars_zero a (Atom s ts) w e = cc
+vars_zero a (Defined s f ts) w e = cc
 vars_zero a Top w e = refl
 vars_zero a Bot w e = refl
 vars_zero a (Not f) w e = cc
@@ -49,6 +50,7 @@ at_part a n p t h e = ap vars_item (sym (item_is a n t h)) ∙ ap (λ (m : ℕ).
 pub vars_one : (a : List Item) (k : Key) (p : ℕ) → HasParts a k → parts_of k ≡ One p → vars_item (meaning a k) ≡ vars_item (item_at a p)
 vars_one a (App s ts) p h e = at_part a ts p _ h.1 (one_same ts p e)
 vars_one a (Atom s ts) p h e = at_part a ts p _ h.1 (one_same ts p e)
+vars_one a (Defined s f ts) p h e = at_part a ts p _ h.1.1 (one_same ts p e)
 vars_one a (Not f) p h e = at_part a f p _ h (one_same f p e)
 vars_one a (Forall f) p h e = at_part a f p _ h (one_same f p e)
 vars_one a (Ex f) p h e = at_part a f p _ h (one_same f p e)

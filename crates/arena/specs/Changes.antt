@@ -14,7 +14,7 @@ use Rattle.arena.specs.declared.task.Change.TheVariants as change
 use Rattle.arena_cells.specs.declared.key.Parts.{Parts}
 use Rattle.arena_cells.specs.declared.key.Parts.TheVariants.{Zero, One, Two}
 use Rattle.arena_cells.specs.declared.key.Key.{Key}
-use Rattle.arena_cells.specs.declared.key.Key.TheVariants.{Free, Bound, App, Cons, Atom, Not, And, Or, Imp, All, Ex}
+use Rattle.arena_cells.specs.declared.key.Key.TheVariants.{Free, Bound, App, Cons, Atom, Defined, Not, And, Or, Imp, All, Ex}
 use Rattle.arena_cells.specs.Items.{Item, term, terms, formula}
 use Rattle.std.specs.Prelude.{List, Bool, true, false, if◌then◌else◌}
 use Rattle.arena_cells.specs.Standing.{term_at, variable_at, map_at, IsTermAt, IsVariableAt, IsMapAt}
@@ -62,11 +62,12 @@ binds k = false
 abbrev pub inside : Key → Operation → Operation
 inside k o = if binds k then deeper o else o
 
--- the numbers of the terms, lists of terms and formulas of which a key's item is made
+-- the numbers of the terms, lists of terms and formulas of which a key's item is made, but for the body of a symbol: nothing is free in it
 abbrev pub parts_of : Key → Parts
 parts_of (App s ts) = One ts
 parts_of (Cons t ts) = Two t ts
 parts_of (Atom s ts) = One ts
+parts_of (Defined s f ts) = One ts
 parts_of (Not f) = One f
 parts_of (And f g) = Two f g
 parts_of (Or f g) = Two f g
@@ -80,6 +81,7 @@ abbrev pub with_parts : Key → ℕ → ℕ → Key
 with_parts (App s ts) x y = App s x
 with_parts (Cons t ts) x y = Cons x y
 with_parts (Atom s ts) x y = Atom s x
+with_parts (Defined s f ts) x y = Defined s f x
 with_parts (Not f) x y = Not x
 with_parts (And f g) x y = And x y
 with_parts (Or f g) x y = Or x y

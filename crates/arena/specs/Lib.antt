@@ -1,4 +1,4 @@
-pub mod TaskOrder
+pub mod TaskKeys
 pub mod Changes
 pub mod TreeVariables
 pub mod Tasks

@@ -1,10 +1,8 @@
 -- What the tasks ask for whose results an arena keeps, and what it keeps.
-use Rattle.std.specs.Prelude.{◌≡◌, ℕ, List, Some}
+use Rattle.std.specs.Prelude.{◌≡◌, ℕ, nat_eq, List, Some}
 use Rattle.std.specs.FinMap as fin
-use Rattle.std.specs.BTreeMap as ordered
-use Rattle.std.specs.BTreeMap.{BTreeMap}
-use Rattle.fol.specs.Syntax.{Formula}
-use Rattle.fol.specs.Keys.{formula_key_cmp}
+use Rattle.std.specs.HashMap as hash
+use Rattle.std.specs.HashMap.{HashMap}
 use Rattle.finite.specs.Finite as set
 use Rattle.free_variables.specs.Sets.{VarSet}
 use Rattle.free_variables.specs.Occurrence.{var_list_terms, vars_term, vars_formula}
@@ -14,7 +12,8 @@ use Rattle.proof_trees.specs.Substitution.{sub}
 use Rattle.arena.specs.declared.task.Task.{Task}
 use Rattle.arena.specs.declared.task.Task.TheVariants as task
 use Rattle.arena.specs.declared.arena.Arena.TheInside.{Inside}
-use Rattle.arena.specs.TaskOrder.{task_cmp}
+use Rattle.arena.specs.declared.arena.Imported.{Imported}
+use Rattle.arena.specs.TaskKeys.{same_task}
 use Rattle.arena_cells.specs.Items.{Item, term, terms, formula, variables, side, tree}
 use Rattle.arena_cells.specs.Standing.{Stands, HasFormula, item_at, map_at, side_at, sequent_at, tree_at, IsMapAt, IsSideAt, IsSequentAt, IsTreeAt, IsThere}
 use Rattle.arena.specs.Changes.{changed, operation_at, HasChange}
@@ -57,12 +56,12 @@ pub record IsResult (a : List Item) (q : Task) (n : ℕ) : Type 0 where
   pub stands : Stands a n (result_of a q)
 
 -- each result that is kept is right
-abbrev pub AreResults : List Item → BTreeMap Task ℕ → Type 0
-AreResults a kept = (q : Task) (n : ℕ) → ordered.get task_cmp kept q ≡ Some n → IsResult a q n
+abbrev pub AreResults : {S : Type 0} → List Item → HashMap Task ℕ S → Type 0
+AreResults a kept = (q : Task) (n : ℕ) → hash.get same_task kept q ≡ Some n → IsResult a q n
 
 -- each formula that is kept stands at its number
-abbrev pub AreImported : List Item → BTreeMap Formula ℕ → Type 0
-AreImported a kept = (f : Formula) (n : ℕ) → ordered.get formula_key_cmp kept f ≡ Some n → HasFormula a n f
+abbrev pub AreImported : {S : Type 0} → List Item → HashMap ℕ Imported S → Type 0
+AreImported a kept = (fingerprint : ℕ) (f : Imported) → hash.get nat_eq kept fingerprint ≡ Some f → HasFormula a f.number f.formula
 
 -- what an arena keeps beside its cells is right
 pub record IsArena (i : Inside) : Type 0 where

@@ -7,17 +7,25 @@ ghost use Rattle.arena.specs.Tasks.{result_of, HasTask};
 
 use crate::task::Task;
 use arena_cells::{Cells, Key};
-use fol::{Formula, FormulaKey, Sym, Term, Terms};
+use fol::{Formula, Sym, Term, Terms};
 use std::alloc::{AllocError, Global};
-use std::collections::BTreeMap;
+use std::collections::HashMap;
 use std::marker::Model;
+
+/// A formula that was imported, with its number.
+#[derive(Drop)]
+pub(crate) struct Imported {
+    pub formula: Formula,
+    pub number: u32,
+}
 
 /// An arena: what stands at the numbers of one call, each thing once, and the results of what has been asked of it.
 #[derive(Drop)]
 pub struct Arena {
     cells: Cells,
-    results: BTreeMap<Task, u32>,
-    imported: BTreeMap<FormulaKey, u32>,
+    results: HashMap<Task, u32>,
+    // By fingerprint. Of two formulas with one fingerprint the later one is kept.
+    imported: HashMap<u64, Imported>,
 }
 
 impl Model for Arena {
@@ -43,8 +51,8 @@ impl Arena {
     {
         Arena {
             cells: Cells::new(alloc),
-            results: BTreeMap::new(alloc),
-            imported: BTreeMap::new(alloc),
+            results: HashMap::new(alloc),
+            imported: HashMap::new(alloc),
         }
     }
 
@@ -121,7 +129,7 @@ impl Arena {
         self.cells.dangling(number)
     }
 
-    /// The number of the key's item, if that is there. It takes O(log n) comparisons of keys among n things.
+    /// The number of the key's item, if that is there. It takes one look-up by the key's hash.
     pub fn find(&self, key: &Key) -> Option<u32>
         requires { HasParts self.now key.now }
         ensures found { IfSome result (λ n. Stands self.now n (meaning self.now key.now)) }
@@ -130,8 +138,8 @@ impl Arena {
         self.cells.find(key)
     }
 
-    /// The number of the key's item, which is added unless it is there. It takes O(log n) comparisons of keys among n things. More than
-    /// 2^32 things are refused as want of memory.
+    /// The number of the key's item, which is added unless it is there. It takes a look-up by the key's hash. More than 2^32 things are
+    /// refused as want of memory.
     pub fn put(&mut self, alloc: Global, key: Key) -> Result<u32, AllocError>
         requires { HasParts self.old key }
         ensures stands { IfOk result (λ n. Stands self.new n (meaning self.old key)) }
@@ -140,7 +148,7 @@ impl Arena {
         self.cells.put(alloc, key)
     }
 
-    /// The number of a task's result, if that is kept. It takes O(log n) comparisons among n tasks.
+    /// The number of a task's result, if that is kept. It takes one look-up by the task's hash.
     pub fn look_up(&self, task: Task) -> Option<u32>
         ensures { IfSome result (λ n. Stands self.now n (result_of self.now task)) }
     {
@@ -157,23 +165,26 @@ impl Arena {
         Ok(())
     }
 
-    // The number of a formula that was imported.
-    pub(crate) fn look_up_formula(&self, formula: &FormulaKey) -> Option<u32>
+    // The number of a formula, where it was imported and is still kept.
+    pub(crate) fn look_up_formula(&self, formula: &Formula) -> Option<u32>
         ensures { IfSome result (λ n. HasFormula self.now n formula.now) }
     {
-        self.imported.get(formula).copied()
+        let imported = self.imported.get(&formula.fingerprint())?;
+        if imported.formula == *formula {
+            Some(imported.number)
+        } else {
+            None
+        }
     }
 
     // Keeps the number of a formula.
-    pub(crate) fn note_formula(
-        &mut self,
-        formula: FormulaKey,
-        number: u32,
-    ) -> Result<(), AllocError>
+    pub(crate) fn note_formula(&mut self, formula: Formula, number: u32) -> Result<(), AllocError>
         requires { HasFormula self.old number formula }
         ensures { self.new ≡ self.old }
     {
-        self.imported.insert(formula, number)?;
+        let fingerprint = formula.fingerprint();
+        self.imported
+            .insert(fingerprint, Imported { formula, number })?;
         Ok(())
     }
 }

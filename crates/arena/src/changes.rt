@@ -13,12 +13,12 @@ use crate::task::{Change, Task};
 use arena_cells::{Key, Parts};
 use std::alloc::{AllocError, Global};
 
-// The numbers of the terms, lists of terms and formulas of which a key's item is made.
+// The numbers of the terms, lists of terms and formulas of which a key's item is made, but for the body of a symbol.
 pub(crate) fn walked_parts(key: &Key) -> Parts
     ensures { result ≡ parts_of key.now }
 {
     match key {
-        Key::App(_, terms) | Key::Atom(_, terms) => Parts::One(*terms),
+        Key::App(_, terms) | Key::Atom(_, terms) | Key::Defined(_, _, terms) => Parts::One(*terms),
         Key::Not(body) | Key::All(body) | Key::Ex(body) => Parts::One(*body),
         Key::Cons(first, second)
         | Key::And(first, second)
@@ -36,6 +36,7 @@ fn rekeyed(key: &Key, first: u32, second: u32) -> Result<Key, AllocError>
         Key::App(symbol, _) => Key::App(*symbol, first),
         Key::Cons(..) => Key::Cons(first, second),
         Key::Atom(symbol, _) => Key::Atom(*symbol, first),
+        Key::Defined(symbol, body, _) => Key::Defined(*symbol, *body, first),
         Key::Not(_) => Key::Not(first),
         Key::And(..) => Key::And(first, second),
         Key::Or(..) => Key::Or(first, second),

@@ -1,10 +1,11 @@
 //! Terms and formulas that come into an arena.
 ghost use Rattle.std.specs.Prelude.{◌≡◌, IfOk};
+ghost use Rattle.fol.specs.Syntax.{atom};
 ghost use Rattle.arena_cells.specs.Standing.{Extends, HasSymbol, HasVariable, HasTerm, HasTerms, HasFormula};
 
 use crate::arena::Arena;
 use arena_cells::Key;
-use fol::{Formula, FormulaKey, FormulaNode, Sym, Term, TermNode, Terms, TermsLink, Var};
+use fol::{Formula, FormulaNode, Predicate, Sym, Term, TermNode, Terms, TermsLink, Var};
 use std::alloc::{AllocError, Global};
 
 impl Arena {
@@ -59,31 +60,30 @@ impl Arena {
         }
     }
 
-    /// The number of a formula. One that was imported before costs one look-up among n of them, O(log n) comparisons of fingerprints and one
-    /// of formulas; else each node is put into the arena.
+    /// The number of a formula. One that was imported before mostly costs one look-up by its fingerprint and one comparison of formulas;
+    /// else each node is put into the arena.
     pub fn import_formula(&mut self, alloc: Global, formula: &Formula) -> Result<u32, AllocError>
         ensures formula { IfOk result (λ n. HasFormula self.new n formula.now) }
         ensures grown { Extends self.old self.new }
     {
-        let key = FormulaKey::new(formula.copy()?);
-        if let Some(number) = self.look_up_formula(&key) {
+        if let Some(number) = self.look_up_formula(formula) {
             return Ok(number);
         }
         let number = self.walk_formula(alloc, formula)?;
-        self.note_formula(key, number)?;
+        self.note_formula(formula.copy()?, number)?;
         Ok(number)
     }
 
     // The number of a formula, each of whose nodes is put into the arena.
+    #[cycle(walk_formula)]
     #[tactic(auto, using(arena_cells::proofs::Facts::places))]
     fn walk_formula(&mut self, alloc: Global, formula: &Formula) -> Result<u32, AllocError>
         ensures formula { IfOk result (λ n. HasFormula self.new n formula.now) }
         ensures grown { Extends self.old self.new }
     {
         let key = match formula.node() {
-            FormulaNode::Atom(symbol, terms) => {
-                let symbol = self.import_symbol(alloc, symbol)?;
-                Key::Atom(symbol, self.import_terms(alloc, terms)?)
+            FormulaNode::Atom(predicate, terms) => {
+                return self.walk_atom(alloc, predicate, terms);
             }
             FormulaNode::Top => Key::Top,
             FormulaNode::Bot => Key::Bot,
@@ -104,5 +104,31 @@ impl Arena {
             FormulaNode::Ex(body) => Key::Ex(self.walk_formula(alloc, body)?),
         };
         self.put(alloc, key)
+    }
+
+    // The number of an atom, whose symbol may have a body.
+    #[cycle(walk_formula)]
+    #[tactic(auto, using(arena_cells::proofs::Facts::places))]
+    fn walk_atom(
+        &mut self,
+        alloc: Global,
+        predicate: &Predicate,
+        terms: &Terms,
+    ) -> Result<u32, AllocError>
+        ensures formula { IfOk result (λ n. HasFormula self.new n (atom predicate.now terms.now)) }
+        ensures grown { Extends self.old self.new }
+    {
+        let symbol = self.import_symbol(alloc, &predicate.symbol)?;
+        match &predicate.body {
+            None => {
+                let terms = self.import_terms(alloc, terms)?;
+                self.put(alloc, Key::Atom(symbol, terms))
+            }
+            Some(body) => {
+                let body = self.walk_formula(alloc, body)?;
+                let terms = self.import_terms(alloc, terms)?;
+                self.put(alloc, Key::Defined(symbol, body, terms))
+            }
+        }
     }
 }

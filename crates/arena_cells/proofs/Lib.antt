@@ -1,4 +1,3 @@
-pub mod KeyTies
 pub mod Reading
 pub mod Staying
 pub mod Facts

@@ -11,6 +11,7 @@ use Rattle.finite.specs.Finite as set
 use Rattle.finite.proofs.Finite.{same_members}
 use Rattle.finite.proofs.Rising.{tail_rises, head_below, below_at, turned_less}
 use Rattle.std.specs.FinMap as fin
+use Rattle.fol.specs.declared.symbols.Sym.{Sym}
 use Rattle.fol.specs.declared.symbols.Var.{Var}
 use Rattle.fol.specs.Syntax as fol
 use Rattle.fol.specs.Syntax.{Term, Terms, Formula}
@@ -25,7 +26,7 @@ use Rattle.arena_cells.specs.declared.key.RuleKey.TheVariants.{Ax, TopR, BotL, N
 use Rattle.arena_cells.specs.declared.key.Parts.{Parts}
 use Rattle.arena_cells.specs.declared.key.Parts.TheVariants.{Zero, One, Two}
 use Rattle.arena_cells.specs.declared.key.Key.{Key}
-use Rattle.arena_cells.specs.declared.key.Key.TheVariants.{Symbol, Free, Bound, App, Nil, Cons, Atom, Top, Bot, Not, And, Or, Imp, All as Forall, Ex, Variables, Map, Side, Sequent, Tree}
+use Rattle.arena_cells.specs.declared.key.Key.TheVariants.{Symbol, Free, Bound, App, Nil, Cons, Atom, Defined, Top, Bot, Not, And, Or, Imp, All as Forall, Ex, Variables, Map, Side, Sequent, Tree}
 use Rattle.arena_cells.specs.Items.{Item, symbol, term, terms, formula, variables, substitution, side, sequent, tree}
 use Rattle.arena_cells.specs.Standing.{Stands, IsDistinct, HasSymbol, HasTerm, HasVariable, HasTerms, HasFormula, HasSide, HasSequent, HasTree, variable_at, term_at, formula_at, IsTermAt, IsVariableAt, IsFormulaAt}
 use Rattle.arena_cells.specs.Meaning.{rule_at, trees_at, formulas_of, vars_of, bindings, meaning, HasRuleParts, HasPremises, AreRisingVariables, AreRisingFormulas, AreBindings, HasParts}
@@ -59,16 +60,25 @@ NamesTrees a none ps = ps ≡ Zero
 NamesTrees a (more t none) ps = (p : ℕ) × (ps ≡ One p) × HasTree a p t
 NamesTrees a (more t (more u us)) ps = (p : ℕ) × (q : ℕ) × (ps ≡ Two p q) × HasTree a p t × HasTree a q u
 
+-- k has the numbers of what the atom is made of
+NamesBody : List Item → Sym → fol.Body → Terms → Key → Type 0
+NamesBody a s fol.undefined ts k = (m : ℕ) × (n : ℕ) × (k ≡ Atom m n) × HasSymbol a m s × HasTerms a n ts
+NamesBody a s (fol.defined f) ts k = (l : ℕ) × (m : ℕ) × (n : ℕ) × (k ≡ Defined l m n) × HasSymbol a l s × HasFormula a m f × HasTerms a n ts
+
+NamesAtom : List Item → fol.Pred → Terms → Key → Type 0
+unfolding NamesBody
+NamesAtom a (fol.pred s b) ts k = NamesBody a s b ts k
+
 -- k is a key of the item
 Names : List Item → Item → Key → Type 0
-unfolding NamesRule NamesTrees
+unfolding NamesRule NamesTrees NamesAtom
 Names a (symbol s) k = k ≡ Symbol s
 Names a (term (fol.free v)) k = k ≡ Free v
 Names a (term (fol.bound i)) k = k ≡ Bound i
 Names a (term (fol.app s ts)) k = (m : ℕ) × (n : ℕ) × (k ≡ App m n) × HasSymbol a m s × HasTerms a n ts
 Names a (terms fol.nil) k = k ≡ Nil
 Names a (terms (fol.cons t ts)) k = (m : ℕ) × (n : ℕ) × (k ≡ Cons m n) × HasTerm a m t × HasTerms a n ts
-Names a (formula (fol.atom s ts)) k = (m : ℕ) × (n : ℕ) × (k ≡ Atom m n) × HasSymbol a m s × HasTerms a n ts
+Names a (formula (fol.atom p ts)) k = NamesAtom a p ts k
 Names a (formula fol.top) k = k ≡ Top
 Names a (formula fol.bot) k = k ≡ Bot
 Names a (formula (fol.not f)) k = (m : ℕ) × (k ≡ Not m) × HasFormula a m f
@@ -111,7 +121,7 @@ trees_named a (Two p q) h = (p, q, refl, h.0, h.1)
 
 -- a key whose parts stand is a key of what it means
 named : (a : List Item) (k : Key) → HasParts a k → Names a (meaning a k) k
-unfolding Names
+unfolding Names NamesAtom NamesBody
 named a (Symbol s) h = refl
 named a (Free v) h = refl
 named a (Bound i) h = refl
@@ -119,6 +129,7 @@ named a (App s ts) h = (s, ts, refl, h.0, h.1)
 named a Nil h = refl
 named a (Cons t ts) h = (t, ts, refl, h.0, h.1)
 named a (Atom s ts) h = (s, ts, refl, h.0, h.1)
+named a (Defined s f ts) h = (s, f, ts, refl, h.0, h.1.0, h.1.1)
 named a Top h = refl
 named a Bot h = refl
 named a (Not f) h = (f, refl, h)
@@ -140,6 +151,11 @@ module _ (a : List Item) (distinct : IsDistinct a) where
 
   by_two : {K : Type 0} (make : ℕ → ℕ → K) (k l : K) (m n x y : ℕ) (t u : Item) → k ≡ make m x → Stands a m t → Stands a x u → l ≡ make n y → Stands a n t → Stands a y u → k ≡ l
   by_two make k l m n x y t u e p s f q r = e ∙ (λ i. make (distinct m n t p q i) (distinct x y u s r i)) ∙ sym f
+
+  by_three : {K : Type 0} (make : ℕ → ℕ → ℕ → K) (k l : K) (m n x y z w : ℕ) (t u v : Item) → k ≡ make m x z → Stands a m t → Stands a x u → Stands a z v
+      → l ≡ make n y w → Stands a n t → Stands a y u → Stands a w v → k ≡ l
+  by_three make k l m n x y z w t u v e p s c f q r d =
+      e ∙ (λ i. make (distinct m n t p q i) (distinct x y u s r i) (distinct z w v c d i)) ∙ sym f
 
   one_rule : (r : Rule) (q p : RuleKey) → NamesRule a r q → NamesRule a r p → q ≡ p
   unfolding NamesRule
@@ -237,6 +253,16 @@ module _ (a : List Item) (distinct : IsDistinct a) where
       let second : ts ≡ ws = values_once vs ts ws h.variables.rises h.variables.members h.values g.values h.lengths (ap length first ∙ g.lengths) (λ q. ap (λ m. fin.get m q) (e ∙ ap (λ (ns : List ℕ). bindings (map (variable_at a) ns) (map (term_at a) ws)) (sym first))) in
       λ i. Map (first i) (second i)
 
+  one_body : (s : Sym) (b : fol.Body) (ts : Terms) (k l : Key) → NamesBody a s b ts k → NamesBody a s b ts l → k ≡ l
+  unfolding NamesBody
+  one_body s fol.undefined ts k l x y = by_two Atom k l x.0 y.0 x.1 y.1 _ _ x.2 x.3 x.4 y.2 y.3 y.4
+  one_body s (fol.defined f) ts k l x y =
+      by_three Defined k l x.0 y.0 x.1 y.1 x.2 y.2 _ _ _ x.3 x.4 x.5 x.6 y.3 y.4 y.5 y.6
+
+  one_atom : (p : fol.Pred) (ts : Terms) (k l : Key) → NamesAtom a p ts k → NamesAtom a p ts l → k ≡ l
+  unfolding NamesAtom
+  one_atom (fol.pred s b) ts k l x y = one_body s b ts k l x y
+
   -- a thing has one key
   names_one : (t : Item) (k l : Key) → Names a t k → Names a t l → k ≡ l
   unfolding Names
@@ -246,7 +272,7 @@ module _ (a : List Item) (distinct : IsDistinct a) where
   names_one (term (fol.app s ts)) k l x y = by_two App k l x.0 y.0 x.1 y.1 _ _ x.2 x.3 x.4 y.2 y.3 y.4
   names_one (terms fol.nil) k l x y = x ∙ sym y
   names_one (terms (fol.cons t ts)) k l x y = by_two Cons k l x.0 y.0 x.1 y.1 _ _ x.2 x.3 x.4 y.2 y.3 y.4
-  names_one (formula (fol.atom s ts)) k l x y = by_two Atom k l x.0 y.0 x.1 y.1 _ _ x.2 x.3 x.4 y.2 y.3 y.4
+  names_one (formula (fol.atom p ts)) k l x y = one_atom p ts k l x y
   names_one (formula fol.top) k l x y = x ∙ sym y
   names_one (formula fol.bot) k l x y = x ∙ sym y
   names_one (formula (fol.not f)) k l x y = by_one Not k l x.0 y.0 _ x.1 x.2 y.1 y.2

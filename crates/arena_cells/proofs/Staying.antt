@@ -21,7 +21,7 @@ use Rattle.arena_cells.specs.declared.key.RuleKey.TheVariants.{Ax, TopR, BotL, N
 use Rattle.arena_cells.specs.declared.key.Parts.{Parts}
 use Rattle.arena_cells.specs.declared.key.Parts.TheVariants.{Zero, One, Two}
 use Rattle.arena_cells.specs.declared.key.Key.{Key}
-use Rattle.arena_cells.specs.declared.key.Key.TheVariants.{Symbol, Free, Bound, App, Nil, Cons, Atom, Top, Bot, Not, And, Or, Imp, All as Forall, Ex, Variables, Map, Side, Sequent, Tree}
+use Rattle.arena_cells.specs.declared.key.Key.TheVariants.{Symbol, Free, Bound, App, Nil, Cons, Atom, Defined, Top, Bot, Not, And, Or, Imp, All as Forall, Ex, Variables, Map, Side, Sequent, Tree}
 use Rattle.arena_cells.specs.Items.{Item, symbol, term, terms, formula, variables, substitution, side, sequent, tree}
 use Rattle.arena_cells.specs.Standing.{Stands, Extends, HasSymbol, HasTerm, HasVariable, HasTerms, HasFormula, HasSide, HasSequent, HasTree, HasMap, HasVariables, symbol_of, term_of, variable_of, terms_of, formula_of, side_of, sequent_of, tree_of, map_of, variables_of, item_at, symbol_at, term_at, variable_at, terms_at, formula_at, side_at, sequent_at, tree_at, map_at, variables_at, IsSymbolAt, IsTermAt, IsVariableAt, IsTermsAt, IsFormulaAt, IsSideAt, IsSequentAt, IsTreeAt}
 use Rattle.arena_cells.specs.Meaning.{rule_at, trees_at, bindings, meaning, HasRuleParts, HasPremises, AreRisingVariables, AreRisingFormulas, HasParts, ArePartsBelow, AreBelow}
@@ -135,7 +135,9 @@ module _ (a b : List Item) (grown : Extends a b) where
   meaning_stays (App s ts) h = λ i. term (fol.app (symbol_stays s h.0 i) (terms_stay ts h.1 i))
   meaning_stays Nil h = refl
   meaning_stays (Cons t ts) h = λ i. terms (fol.cons (term_stays t h.0 i) (terms_stay ts h.1 i))
-  meaning_stays (Atom s ts) h = λ i. formula (fol.atom (symbol_stays s h.0 i) (terms_stay ts h.1 i))
+  meaning_stays (Atom s ts) h = λ i. formula (fol.atom (fol.plain (symbol_stays s h.0 i)) (terms_stay ts h.1 i))
+  meaning_stays (Defined s f ts) h =
+      λ i. formula (fol.atom (fol.pred (symbol_stays s h.0 i) (fol.defined (formula_stays f h.1.0 i))) (terms_stay ts h.1.1 i))
   meaning_stays Top h = refl
   meaning_stays Bot h = refl
   meaning_stays (Not f) h = λ i. formula (fol.not (formula_stays f h i))
@@ -213,6 +215,7 @@ module _ (a b : List Item) (grown : Extends a b) where
   parts_there Nil h = tt
   parts_there (Cons t ts) h = (term_there t h.0, terms_there ts h.1)
   parts_there (Atom s ts) h = (symbol_there s h.0, terms_there ts h.1)
+  parts_there (Defined s f ts) h = (symbol_there s h.0, (formula_there f h.1.0, terms_there ts h.1.1))
   parts_there Top h = tt
   parts_there Bot h = tt
   parts_there (Not f) h = formula_there f h
@@ -252,6 +255,7 @@ parts_below a (App s ts) h = within a ts _ h.1
 parts_below a Nil h = tt
 parts_below a (Cons t ts) h = (within a t _ h.0, within a ts _ h.1)
 parts_below a (Atom s ts) h = within a ts _ h.1
+parts_below a (Defined s f ts) h = within a ts _ h.1.1
 parts_below a Top h = tt
 parts_below a Bot h = tt
 parts_below a (Not f) h = within a f _ h

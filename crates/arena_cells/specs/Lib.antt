@@ -1,3 +1,4 @@
+pub mod Codes
 pub mod Keys
 pub mod TreeCodes
 pub mod Items

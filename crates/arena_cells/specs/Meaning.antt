@@ -21,7 +21,7 @@ use Rattle.arena_cells.specs.declared.key.RuleKey.TheVariants.{Ax, TopR, BotL, N
 use Rattle.arena_cells.specs.declared.key.Parts.{Parts}
 use Rattle.arena_cells.specs.declared.key.Parts.TheVariants.{Zero, One, Two}
 use Rattle.arena_cells.specs.declared.key.Key.{Key}
-use Rattle.arena_cells.specs.declared.key.Key.TheVariants.{Symbol, Free, Bound, App, Nil, Cons, Atom, Top, Bot, Not, And, Or, Imp, All as Forall, Ex, Variables, Map, Side, Sequent, Tree}
+use Rattle.arena_cells.specs.declared.key.Key.TheVariants.{Symbol, Free, Bound, App, Nil, Cons, Atom, Defined, Top, Bot, Not, And, Or, Imp, All as Forall, Ex, Variables, Map, Side, Sequent, Tree}
 use Rattle.arena_cells.specs.Items.{Item, symbol, term, terms, formula, variables, substitution, side, sequent, tree}
 use Rattle.arena_cells.specs.Standing.{Stands, symbol_at, term_at, variable_at, terms_at, formula_at, side_at, sequent_at, tree_at, IsSymbolAt, IsTermAt, IsVariableAt, IsTermsAt, IsFormulaAt, IsSideAt, IsSequentAt, IsTreeAt}
 
@@ -72,7 +72,8 @@ meaning a (Bound i) = term (fol.bound i)
 meaning a (App s ts) = term (fol.app (symbol_at a s) (terms_at a ts))
 meaning a Nil = terms fol.nil
 meaning a (Cons t ts) = terms (fol.cons (term_at a t) (terms_at a ts))
-meaning a (Atom s ts) = formula (fol.atom (symbol_at a s) (terms_at a ts))
+meaning a (Atom s ts) = formula (fol.atom (fol.plain (symbol_at a s)) (terms_at a ts))
+meaning a (Defined s f ts) = formula (fol.atom (fol.pred (symbol_at a s) (fol.defined (formula_at a f))) (terms_at a ts))
 meaning a Top = formula fol.top
 meaning a Bot = formula fol.bot
 meaning a (Not f) = formula (fol.not (formula_at a f))
@@ -137,6 +138,7 @@ HasParts a (App s ts) = IsSymbolAt a s × IsTermsAt a ts
 HasParts a Nil = Unit {0}
 HasParts a (Cons t ts) = IsTermAt a t × IsTermsAt a ts
 HasParts a (Atom s ts) = IsSymbolAt a s × IsTermsAt a ts
+HasParts a (Defined s f ts) = IsSymbolAt a s × (IsFormulaAt a f × IsTermsAt a ts)
 HasParts a Top = Unit {0}
 HasParts a Bot = Unit {0}
 HasParts a (Not f) = IsFormulaAt a f
@@ -166,6 +168,7 @@ AreBelow n (App s ts) = ts < n
 AreBelow n Nil = Unit {0}
 AreBelow n (Cons t ts) = (t < n) × (ts < n)
 AreBelow n (Atom s ts) = ts < n
+AreBelow n (Defined s f ts) = ts < n
 AreBelow n Top = Unit {0}
 AreBelow n Bot = Unit {0}
 AreBelow n (Not f) = f < n

@@ -1,4 +1,4 @@
-//! Cells: what stands at the numbers, with an index from keys to numbers.
+//! Cells: what stands at the numbers, in a table in which a key is found by its hash.
 ghost use Rattle.std.specs.Prelude.{◌≡◌, ◌<◌, ℕ, [], length, IfOk, IfSome, IsNone};
 ghost use Rattle.arena_cells.specs.Standing.{Stands, Extends, IsDistinct, item_at, symbol_at, term_at, terms_at, formula_at, IsSymbolAt, IsTermAt, IsTermsAt, IsFormulaAt, IsThere};
 ghost use Rattle.arena_cells.specs.ItemFacts.{is_open_item, item_dangling};
@@ -8,8 +8,8 @@ ghost use Rattle.arena_cells.specs.Cells.{stored_of};
 use crate::key::Key;
 use crate::values::stored_for;
 use fol::{Formula, Sym, Term, Terms};
+use indexmap::IndexMap;
 use std::alloc::{AllocError, Global};
-use std::collections::BTreeMap;
 use std::marker::Model;
 
 /// The value of a cell that is a symbol, a term, a list of terms or a formula. Of other cells only the key is kept.
@@ -34,18 +34,11 @@ impl Drop for Stored {
     }
 }
 
-/// What stands at a number.
-#[derive(Drop, Debug)]
-pub(crate) struct Cell {
-    pub key: Key,
-    pub stored: Stored,
-}
-
 /// What stands at the numbers, each thing once.
 #[derive(Drop)]
 pub struct Cells {
-    cells: Vec<Cell>,
-    places: BTreeMap<Key, u32>,
+    // The number of a key is its place.
+    cells: IndexMap<Key, Stored>,
 }
 
 impl Model for Cells {
@@ -70,8 +63,7 @@ impl Cells {
         ensures { result ≡ [] }
     {
         Cells {
-            cells: Vec::new(alloc),
-            places: BTreeMap::new(alloc),
+            cells: IndexMap::new(alloc),
         }
     }
 
@@ -87,7 +79,10 @@ impl Cells {
         requires { number < length self.now }
         ensures { IsKeyAt self.now number result.now }
     {
-        &self.cells[number as usize].key
+        let Some((key, _)) = self.cells.get_index(number as usize) else {
+            unreachable!()
+        };
+        key
     }
 
     // What is stored of what stands at the number.
@@ -95,7 +90,10 @@ impl Cells {
         requires { number < length self.now }
         ensures { result.now ≡ stored_of (item_at self.now number) }
     {
-        &self.cells[number as usize].stored
+        let Some((_, stored)) = self.cells.get_index(number as usize) else {
+            unreachable!()
+        };
+        stored
     }
 
     /// The symbol at the number.
@@ -180,7 +178,8 @@ impl Cells {
         ensures found { IfSome result (λ n. Stands self.now n (meaning self.now key.now)) }
         ensures absent { IsNone result → (n : ℕ) → ¬ Stands self.now n (meaning self.now key.now) }
     {
-        self.places.get(key).copied()
+        let number = self.cells.get_index_of(key)?;
+        Some(number as u32)
     }
 
     // Adds a key that isn't there, with what is stored of its item. More than 2^32 things are refused as want of memory.
@@ -194,9 +193,7 @@ impl Cells {
         let Ok(number) = u32::try_from(self.cells.len()) else {
             return Err(AllocError);
         };
-        self.cells.reserve(1)?;
-        self.places.insert(key.copy()?, number)?;
-        self.cells.push_reserved(Cell { key, stored });
+        self.cells.insert(key, stored)?;
         Ok(number)
     }
 

@@ -6,6 +6,7 @@
 mod cells;
 mod key;
 mod numbers;
+mod same_keys;
 mod values;
 
 pub use cells::Cells;

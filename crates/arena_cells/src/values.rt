@@ -6,7 +6,7 @@ ghost use Rattle.arena_cells.specs.Cells.{stored_of, IsFormulaKey};
 
 use crate::cells::{Cells, Stored};
 use crate::key::Key;
-use fol::{Formula, Term, Terms};
+use fol::{Formula, Predicate, Term, Terms};
 use std::alloc::{AllocError, Global};
 
 /// What is stored of the key's item.
@@ -31,6 +31,7 @@ pub(crate) fn stored_for(cells: &Cells, alloc: Global, key: &Key) -> Result<Stor
             Stored::Nothing
         }
         Key::Atom(..)
+        | Key::Defined(..)
         | Key::Top
         | Key::Bot
         | Key::Not(_)
@@ -51,6 +52,13 @@ fn formula_for(cells: &Cells, alloc: Global, key: &Key) -> Result<Stored, AllocE
         Key::Atom(symbol, terms) => {
             let symbol = cells.symbol(*symbol).copy()?;
             Formula::atom(alloc, symbol, cells.terms(*terms).copy()?)?
+        }
+        Key::Defined(symbol, body, terms) => {
+            let predicate = Predicate {
+                symbol: cells.symbol(*symbol).copy()?,
+                body: Some(part(cells, *body)?),
+            };
+            Formula::atom_of(alloc, predicate, cells.terms(*terms).copy()?)?
         }
         Key::Top => Formula::top(alloc)?,
         Key::Bot => Formula::bot(alloc)?,

@@ -1,8 +1,8 @@
 -- What a table says stays in a larger arena.
-use Rattle.std.proofs.Common.{ℕ, List, Some, nat_cmp, sym, ap, ◌∙◌}
+use Rattle.std.proofs.Common.{ℕ, List, nat_eq, Some, sym, ap, ◌∙◌}
 use Rattle.std.proofs.lemmas.Option.{IfSome_then}
-use Rattle.std.specs.BTreeMap as ordered
-use Rattle.std.specs.BTreeMap.{BTreeMap}
+use Rattle.std.specs.HashMap as hash
+use Rattle.std.specs.HashMap.{HashMap}
 use Rattle.proof_trees.specs.Trees.{Tree}
 use Rattle.elimination_laws.specs.Elimination.{elimination}
 use Rattle.arena_cells.specs.Items.{Item}
@@ -19,5 +19,5 @@ module _ (a b : List Item) (grown : Extends a b) where
     is = ap (λ (t : Tree). elimination t e.reductions) (tree_stays a b grown n h.tree) ∙ h.is ∙ ap (λ (t : Tree). Some (t, e.reductions)) (sym (tree_stays a b grown e.proof h.result_there));
   }
 
-  pub known_there : (table : BTreeMap ℕ Reduced) → AreEliminated a table → AreEliminated b table
-  known_there table h n = IfSome_then (ordered.get nat_cmp table n) (h n) (λ e k. entry_there n e k)
+  pub known_there : {S : Type 0} (table : HashMap ℕ Reduced S) → AreEliminated a table → AreEliminated b table
+  known_there table h n = IfSome_then (hash.get nat_eq table n) (h n) (λ e k. entry_there n e k)

@@ -1,8 +1,7 @@
 -- What a table of eliminations says.
-use Rattle.std.specs.Prelude.{◌≡◌, ℕ, List, Some, IfSome}
-use Rattle.std.specs.Ordering.{nat_cmp}
-use Rattle.std.specs.BTreeMap as ordered
-use Rattle.std.specs.BTreeMap.{BTreeMap}
+use Rattle.std.specs.Prelude.{◌≡◌, ℕ, nat_eq, List, Some, IfSome}
+use Rattle.std.specs.HashMap as hash
+use Rattle.std.specs.HashMap.{HashMap}
 use Rattle.elimination_laws.specs.Elimination.{elimination}
 use Rattle.arena_cells.specs.Items.{Item}
 use Rattle.arena_cells.specs.Standing.{tree_at, IsTreeAt}
@@ -15,5 +14,5 @@ pub record IsEliminated (a : List Item) (n : ℕ) (e : Reduced) : Type 0 where
   pub is : elimination (tree_at a n) e.reductions ≡ Some (tree_at a e.proof, e.reductions)
 
 -- each entry of a table does
-abbrev pub AreEliminated : List Item → BTreeMap ℕ Reduced → Type 0
-AreEliminated a table = (n : ℕ) → IfSome (ordered.get nat_cmp table n) (IsEliminated a n)
+abbrev pub AreEliminated : {S : Type 0} → List Item → HashMap ℕ Reduced S → Type 0
+AreEliminated a table = (n : ℕ) → IfSome (hash.get nat_eq table n) (IsEliminated a n)

@@ -18,7 +18,7 @@ use arena::{Arena, Parts, RuleKey};
 use arena_proofs::{end, inference, premises, rule};
 use elimination_laws::laws;
 use std::alloc::Global;
-use std::collections::BTreeMap;
+use std::collections::HashMap;
 use std::sync::ledger::Ledger;
 
 // The numbers of proofs without cuts, and how many contractions led to all of them.
@@ -43,7 +43,7 @@ pub(crate) struct Both {
 pub fn eliminate_in<L: Ledger>(
     arena: &mut Arena,
     alloc: Global,
-    table: &mut BTreeMap<u32, Reduced>,
+    table: &mut HashMap<u32, Reduced>,
     proof: u32,
     budget: u64,
     steps: &mut Steps<L>,
@@ -78,7 +78,7 @@ pub fn eliminate_in<L: Ledger>(
 fn eliminate_root<L: Ledger>(
     arena: &mut Arena,
     alloc: Global,
-    table: &mut BTreeMap<u32, Reduced>,
+    table: &mut HashMap<u32, Reduced>,
     proof: u32,
     budget: u64,
     steps: &mut Steps<L>,
@@ -114,7 +114,7 @@ fn eliminate_root<L: Ledger>(
 fn eliminate_cut<L: Ledger>(
     arena: &mut Arena,
     alloc: Global,
-    table: &mut BTreeMap<u32, Reduced>,
+    table: &mut HashMap<u32, Reduced>,
     cut: Cut,
     budget: u64,
     steps: &mut Steps<L>,
@@ -162,7 +162,7 @@ fn eliminate_cut<L: Ledger>(
 fn eliminate_lowest<L: Ledger>(
     arena: &mut Arena,
     alloc: Global,
-    table: &mut BTreeMap<u32, Reduced>,
+    table: &mut HashMap<u32, Reduced>,
     cut: Cut,
     budget: u64,
     steps: &mut Steps<L>,
@@ -200,7 +200,7 @@ fn eliminate_lowest<L: Ledger>(
 fn eliminate_other<L: Ledger>(
     arena: &mut Arena,
     alloc: Global,
-    table: &mut BTreeMap<u32, Reduced>,
+    table: &mut HashMap<u32, Reduced>,
     proof: u32,
     budget: u64,
     steps: &mut Steps<L>,
@@ -242,7 +242,7 @@ fn eliminate_other<L: Ledger>(
 fn eliminate_all<L: Ledger>(
     arena: &mut Arena,
     alloc: Global,
-    table: &mut BTreeMap<u32, Reduced>,
+    table: &mut HashMap<u32, Reduced>,
     proofs: Parts,
     budget: u64,
     steps: &mut Steps<L>,
@@ -288,7 +288,7 @@ fn eliminate_all<L: Ledger>(
 fn eliminate_both<L: Ledger>(
     arena: &mut Arena,
     alloc: Global,
-    table: &mut BTreeMap<u32, Reduced>,
+    table: &mut HashMap<u32, Reduced>,
     left: u32,
     right: u32,
     budget: u64,

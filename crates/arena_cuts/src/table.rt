@@ -8,7 +8,7 @@ use crate::fault::ElimFault;
 use arena::Arena;
 use elimination_laws::laws;
 use std::alloc::AllocError;
-use std::collections::BTreeMap;
+use std::collections::HashMap;
 
 /// The number of a proof without cuts, and how many contractions led to it.
 #[derive(Clone, Copy, Drop, Debug)]
@@ -35,7 +35,7 @@ fn answer(arena: &Arena, proof: u32, entry: Reduced, budget: u64) -> Result<Redu
 /// The elimination in a proof within a budget, where the table has it.
 pub(crate) fn look_up(
     arena: &Arena,
-    table: &BTreeMap<u32, Reduced>,
+    table: &HashMap<u32, Reduced>,
     proof: u32,
     budget: u64,
 ) -> Option<Result<Reduced, ElimFault>>
@@ -53,7 +53,7 @@ pub(crate) fn look_up(
 /// Enters the elimination in a proof.
 pub(crate) fn note(
     arena: &Arena,
-    table: &mut BTreeMap<u32, Reduced>,
+    table: &mut HashMap<u32, Reduced>,
     proof: u32,
     made: Reduced,
 ) -> Result<(), AllocError>

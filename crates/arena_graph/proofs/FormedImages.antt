@@ -1,4 +1,4 @@
--- The conclusions of a tree under a map of well-formed terms have well-formed formulas.
+-- The image of a sequent of well-formed formulas under a map of well-formed terms.
 use Rattle.std.proofs.Common.{◌≡◌, true, List, [], ◌∷◌, map, refl, sym, ◌∙◌}
 use Rattle.std.specs.FinMap as fin
 use Rattle.std.specs.List.{list_all}
@@ -17,11 +17,8 @@ use Rattle.lk_rules.specs.declared.sequent.Sequent.{Sequent}
 use Rattle.lk_rules.specs.Formulas.{FormulaSet, image_set}
 use Rattle.lk_rules.specs.Sequents.{image_sequent}
 use Rattle.lk_rules.proofs.Listings.{alike}
-use Rattle.proof_trees.specs.Trees.{Tree, node, Trees, none, more, IsValid, AllValid}
-use Rattle.proof_trees.specs.Substitution.{premise_map, sub, sub_all}
-use Rattle.proof_trees.proofs.RuleImages.{formed_premise_map}
 use Rattle.arena.proofs.SetLaws.{has-list}
-use Rattle.arena_graph.specs.FormedEnds.{IsFormedSequent, HasFormedEnds, HaveFormedEnds}
+use Rattle.arena_graph.specs.FormedEnds.{IsFormedSequent}
 
 module _ (m : Map) (formed : IsFormedMap (fin.get m)) where
   formed_each : (fs : List Formula) → list_all is_formed fs ≡ true → list_all is_formed (map (image (fin.get m)) fs) ≡ true
@@ -35,15 +32,5 @@ module _ (m : Map) (formed : IsFormedMap (fin.get m)) where
       list_passes formula_total is_formed (alike is_formed) (set.listing (image_set (fin.get m) s)) images (formed_each (set.listing s) h)
       (λ q. sym (has-listing (image_set (fin.get m) s) q) ∙ has-list formula_total formula_ties images q)
 
-  formed_sequent : (s : Sequent) → IsFormedSequent s → IsFormedSequent (image_sequent (fin.get m) s)
-  formed_sequent s h = record { left = formed_set s.left h.left; right = formed_set s.right h.right }
-
-mutual
-  pub formed_sub : (t : Tree) (m : Map) → IsFormedMap (fin.get m) → IsValid t → HasFormedEnds t → HasFormedEnds (sub t m)
-  formed_sub (node r s ts) m formed valid h =
-      let e : Sequent = image_sequent (fin.get m) s in
-      (formed_sequent m formed s h.0, formed_subs ts (premise_map m r e) (formed_premise_map m r e formed valid.0.formed) valid.1 h.1)
-
-  pub formed_subs : (ts : Trees) (m : Map) → IsFormedMap (fin.get m) → AllValid ts → HaveFormedEnds ts → HaveFormedEnds (sub_all ts m)
-  formed_subs none m formed valid h = tt
-  formed_subs (more t ts) m formed valid h = (formed_sub t m formed valid.0 h.0, formed_subs ts m formed valid.1 h.1)
+  pub formed_image_sequent : (s : Sequent) → IsFormedSequent s → IsFormedSequent (image_sequent (fin.get m) s)
+  formed_image_sequent s h = record { left = formed_set s.left h.left; right = formed_set s.right h.right }

@@ -1,8 +1,7 @@
 -- What tables say stays right in a larger arena.
 use Rattle.std.proofs.Common.{ℕ, List, Some, None, IfSome}
-use Rattle.std.specs.Prelude.{Option}
-use Rattle.std.specs.Ordering.{nat_cmp}
-use Rattle.std.specs.BTreeMap as ordered
+use Rattle.std.specs.Prelude.{Option, nat_eq}
+use Rattle.std.specs.HashMap as hash
 use Rattle.proof_graph.specs.declared.graph.Graph.{Graph}
 use Rattle.proof_graph.specs.References.{Reference}
 use Rattle.arena_cells.specs.Items.{Item}
@@ -19,7 +18,7 @@ proof_stays g a b grown n r h = record { of = h.of; tree = grown n _ h.tree; for
 
 pub numbers_stay : (g : Graph) (a b : List Item) (t : Tables) → AreNumbersOf g a t → Extends a b → AreNumbersOf g b t
 numbers_stay g a b t h grown = record {
-  numbers = λ q. if_some_weaker (ordered.get nat_cmp t.numbers q) (λ e. IsProofAt g a e.number e.proof) (λ e. IsProofAt g b e.number e.proof) (λ e. proof_stays g a b grown e.number e.proof) (h.numbers q);
-  proofs = λ q. if_some_weaker (ordered.get nat_cmp t.proofs q) (IsProofAt g a q) (IsProofAt g b q) (proof_stays g a b grown q) (h.proofs q);
-  sides = λ q. if_some_weaker (ordered.get nat_cmp t.sides q) (HasSide a q) (HasSide b q) (λ s. grown q _) (h.sides q);
+  numbers = λ q. if_some_weaker (hash.get nat_eq t.numbers q) (λ e. IsProofAt g a e.number e.proof) (λ e. IsProofAt g b e.number e.proof) (λ e. proof_stays g a b grown e.number e.proof) (h.numbers q);
+  proofs = λ q. if_some_weaker (hash.get nat_eq t.proofs q) (IsProofAt g a q) (IsProofAt g b q) (proof_stays g a b grown q) (h.proofs q);
+  sides = λ q. if_some_weaker (hash.get nat_eq t.sides q) (HasSide a q) (HasSide b q) (λ s. grown q _) (h.sides q);
 }

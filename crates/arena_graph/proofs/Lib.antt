@@ -1,3 +1,4 @@
 pub mod Trees
 pub mod Larger
+pub mod FormedEnds
 pub mod FormedImages

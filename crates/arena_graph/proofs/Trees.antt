@@ -1,4 +1,4 @@
--- A tree by its root and the trees below it: its size, its inference, and the conclusions in it.
+-- A tree by its root and the trees below it: its size and its inference.
 use Rattle.std.proofs.Common.{◌≡◌, ◌+◌, ◌≤◌, refl, sym, subst, arith}
 use Rattle.lk_rules.specs.declared.sequent.Sequent.{Sequent}
 use Rattle.lk_rules.specs.declared.rule.Rule.{Rule}
@@ -7,7 +7,6 @@ use Rattle.lk_rules.specs.Rules.{needs}
 use Rattle.proof_trees.specs.Trees.{Tree, node, Trees, rule_of, concl, below, count, first_end, second_end, IsInference, IsValid}
 use Rattle.proof_trees.proofs.Verdicts.{row_of_verdict}
 use Rattle.proof_graph.specs.Shown.{nodes, nodes_all}
-use Rattle.arena_graph.specs.FormedEnds.{IsFormedSequent, HasFormedEnds, HaveFormedEnds}
 
 pub root_tree : (t : Tree) → node (rule_of t) (concl t) (below t) ≡ t
 root_tree (node r s ts) = refl
@@ -49,7 +48,3 @@ pub few_premises : (t : Tree) → IsValid t → count (below t) ≤ 2
 few_premises (node r s ts) h =
     let number : count ts ≡ needs r = (row_of_verdict r s (count ts) (first_end ts) (second_end ts) h.0.right).premises in
     omega (arith, needs_few r, number)
-
--- the conclusions in a tree, from that of its root and those in the trees below it
-pub formed_over : (t : Tree) → IsFormedSequent (concl t) → HaveFormedEnds (below t) → HasFormedEnds t
-formed_over (node r s ts) end above = (end, above)

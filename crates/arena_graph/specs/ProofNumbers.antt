@@ -1,23 +1,22 @@
 -- What tables say of the proofs of a graph that stand at numbers of an arena.
-use Rattle.std.specs.Prelude.{ℕ, List, IfSome}
-use Rattle.std.specs.Ordering.{nat_cmp}
-use Rattle.std.specs.BTreeMap as ordered
+use Rattle.std.specs.Prelude.{ℕ, nat_eq, List, IfSome}
+use Rattle.std.specs.HashMap as hash
 use Rattle.proof_graph.specs.declared.graph.Graph.{Graph}
 use Rattle.proof_graph.specs.Graphs.{IsOf}
 use Rattle.proof_graph.specs.References.{Reference}
 use Rattle.arena_cells.specs.Items.{Item}
 use Rattle.arena_cells.specs.Standing.{HasSide, HasTree}
 use Rattle.arena_graph.specs.declared.proof_numbers.ProofNumbers.{ProofNumbers as Tables}
-use Rattle.arena_graph.specs.FormedEnds.{HasFormedEnds}
+use Rattle.arena_graph.specs.FormedEnds.{HasFormedEnd}
 
 -- the reference is of the graph, and its tree stands at the number
 pub record IsProofAt (g : Graph) (a : List Item) (n : ℕ) (r : Reference) : Type 0 where
   pub of : IsOf g r
   pub tree : HasTree a n r.tree
-  pub formed : HasFormedEnds r.tree
+  pub formed : HasFormedEnd r.tree
 
 -- each proof of the tables is of the graph, and stands at its number, as does each side
 pub record AreNumbersOf (g : Graph) (a : List Item) (t : Tables) : Type 0 where
-  pub numbers : (q : ℕ) → IfSome (ordered.get nat_cmp t.numbers q) (λ e. IsProofAt g a e.number e.proof)
-  pub proofs : (q : ℕ) → IfSome (ordered.get nat_cmp t.proofs q) (IsProofAt g a q)
-  pub sides : (q : ℕ) → IfSome (ordered.get nat_cmp t.sides q) (HasSide a q)
+  pub numbers : (q : ℕ) → IfSome (hash.get nat_eq t.numbers q) (λ e. IsProofAt g a e.number e.proof)
+  pub proofs : (q : ℕ) → IfSome (hash.get nat_eq t.proofs q) (IsProofAt g a q)
+  pub sides : (q : ℕ) → IfSome (hash.get nat_eq t.sides q) (HasSide a q)

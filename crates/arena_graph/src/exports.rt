@@ -7,7 +7,7 @@ ghost use Rattle.proof_graph.specs.References.{trees_of};
 ghost use Rattle.proof_graph.specs.Graphs.{IsOf, IsPassOf, history};
 ghost use Rattle.arena_cells.specs.Standing.{sequent_at, tree_at, IsSequentAt, IsTreeAt};
 ghost use Rattle.arena_cells.specs.Meaning.{trees_at, HasPremises, ArePartsBelow};
-ghost use Rattle.arena_graph.specs.FormedEnds.{IsFormedSequent, HasFormedEnds, HaveFormedEnds};
+ghost use Rattle.arena_graph.specs.FormedEnds.{IsFormedSequent, HasFormedEnd, HaveFormedEnds};
 ghost use Rattle.arena_graph.specs.ProofNumbers.{AreNumbersOf};
 
 use crate::proof_numbers::ProofNumbers;
@@ -73,7 +73,7 @@ fn export_over<R: Wait>(
     requires numbers { AreNumbersOf graph.now arena.now numbers.old }
     requires there { IsTreeAt arena.now proof }
     requires valid { IsValid (tree_at arena.now proof) }
-    requires formed { HasFormedEnds (tree_at arena.now proof) }
+    requires formed { HasFormedEnd (tree_at arena.now proof) }
     requires premises_of { All (IsOf graph.now) premises.now }
     requires trees { trees_of premises.now ≡ below (tree_at arena.now proof) }
     ensures tree { IfOk result (λ r. r.tree ≡ tree_at arena.now proof) }
@@ -89,6 +89,7 @@ fn export_over<R: Wait>(
 
 // The reference of a tree that isn't known.
 #[cycle(export)]
+#[tactic(auto, using(crate::proofs::FormedEnds::formed_premises))]
 fn export_new<R: Wait>(
     rt: &R,
     alloc: Global,
@@ -102,7 +103,7 @@ fn export_new<R: Wait>(
     requires numbers { AreNumbersOf graph.now arena.now numbers.old }
     requires there { IsTreeAt arena.now proof }
     requires valid { IsValid (tree_at arena.now proof) }
-    requires formed { HasFormedEnds (tree_at arena.now proof) }
+    requires formed { HasFormedEnd (tree_at arena.now proof) }
     ensures tree { IfOk result (λ r. r.tree ≡ tree_at arena.now proof) }
     ensures of { IfOk result (IsOf graph.now) }
     ensures grown { IsPrefix (history pass.old) (history pass.new) }
@@ -153,8 +154,8 @@ fn export_below<R: Wait>(
     }
 }
 
-/// The reference in the graph of a valid tree whose conclusions have well-formed formulas. A tree that is known costs a look-up among n of
-/// them, O(log n) comparisons of numbers. Else each distinct node of it that isn't known is interned, premises before conclusions; a node
+/// The reference in the graph of a valid tree whose end sequent has well-formed formulas, as then all its conclusions have. A tree that is
+/// known costs one look-up by its number. Else each distinct node of it that isn't known is interned, premises before conclusions; a node
 /// that the graph has keeps its number.
 #[cycle(export)]
 pub fn export_proof<R: Wait>(
@@ -170,7 +171,7 @@ pub fn export_proof<R: Wait>(
     requires numbers { AreNumbersOf graph.now arena.now numbers.old }
     requires there { IsTreeAt arena.now proof }
     requires valid { IsValid (tree_at arena.now proof) }
-    requires formed { HasFormedEnds (tree_at arena.now proof) }
+    requires formed { HasFormedEnd (tree_at arena.now proof) }
     ensures tree { IfOk result (λ r. r.tree ≡ tree_at arena.now proof) }
     ensures of { IfOk result (IsOf graph.now) }
     ensures grown { IsPrefix (history pass.old) (history pass.new) }

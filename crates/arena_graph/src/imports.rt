@@ -6,7 +6,7 @@ ghost use Rattle.proof_graph.specs.References.{trees_of};
 ghost use Rattle.proof_graph.specs.Graphs.{IsOf};
 ghost use Rattle.arena_cells.specs.Standing.{Extends, HasTree};
 ghost use Rattle.arena_cells.specs.Meaning.{trees_at, HasPremises};
-ghost use Rattle.arena_graph.specs.FormedEnds.{IsFormedSequent, HasFormedEnds, HaveFormedEnds};
+ghost use Rattle.arena_graph.specs.FormedEnds.{IsFormedSequent, HasFormedEnd};
 ghost use Rattle.arena_graph.specs.ProofNumbers.{AreNumbersOf};
 
 use crate::proof_numbers::ProofNumbers;
@@ -35,9 +35,8 @@ fn import_over(
     requires of { IsOf graph.now proof.now }
     requires there { HasPremises arena.old premises }
     requires trees { trees_at arena.old premises ≡ below proof.now.tree }
-    requires formed { HaveFormedEnds (below proof.now.tree) }
     ensures tree { IfOk result (λ n. HasTree arena.new n proof.now.tree) }
-    ensures formed { HasFormedEnds proof.now.tree }
+    ensures formed { HasFormedEnd proof.now.tree }
     ensures grown { Extends arena.old arena.new }
 {
     let root = graph.get(proof);
@@ -59,7 +58,6 @@ fn import_below(
     requires few { length premises.now ≤ 2 }
     ensures there { IfOk result (HasPremises arena.new) }
     ensures trees { IfOk result (λ parts. trees_at arena.new parts ≡ trees_of premises.now) }
-    ensures formed { IfOk result (λ _. HaveFormedEnds (trees_of premises.now)) }
     ensures grown { Extends arena.old arena.new }
     ensures numbers_stay { AreNumbersOf graph.now arena.new numbers.new }
 {
@@ -90,7 +88,7 @@ fn import_new(
     requires numbers { AreNumbersOf graph.now arena.old numbers.old }
     requires of { IsOf graph.now proof.now }
     ensures tree { IfOk result (λ n. HasTree arena.new n proof.now.tree) }
-    ensures formed { IfOk result (λ _. HasFormedEnds proof.now.tree) }
+    ensures formed { IfOk result (λ _. HasFormedEnd proof.now.tree) }
     ensures grown { Extends arena.old arena.new }
     ensures numbers_stay { AreNumbersOf graph.now arena.new numbers.new }
 {
@@ -99,9 +97,8 @@ fn import_new(
     import_over(arena, alloc, graph, proof, premises)
 }
 
-/// The number of a proof's tree in the arena. A proof that is known costs a look-up among n of them, O(log n) comparisons of numbers. Else
-/// each distinct node of it that isn't known is put, beside what its sequent and its rule cost: formulas that came in before are found by
-/// one look-up each.
+/// The number of a proof's tree in the arena. A proof that is known costs one look-up by its number. Else each distinct node of it that
+/// isn't known is put, beside what its sequent and its rule cost: formulas that came in before are found by one look-up each.
 #[cycle(import)]
 pub fn import_proof(
     arena: &mut Arena,
@@ -113,7 +110,7 @@ pub fn import_proof(
     requires numbers { AreNumbersOf graph.now arena.old numbers.old }
     requires of { IsOf graph.now proof.now }
     ensures tree { IfOk result (λ n. HasTree arena.new n proof.now.tree) }
-    ensures formed { IfOk result (λ _. HasFormedEnds proof.now.tree) }
+    ensures formed { IfOk result (λ _. HasFormedEnd proof.now.tree) }
     ensures grown { Extends arena.old arena.new }
     ensures numbers_stay { AreNumbersOf graph.now arena.new numbers.new }
 {

@@ -7,14 +7,14 @@ ghost use Rattle.proof_graph.specs.declared.graph.Graph.{Graph as ProofGraph};
 ghost use Rattle.proof_graph.specs.Graphs.{IsOf};
 ghost use Rattle.arena_cells.specs.Items.{Item};
 ghost use Rattle.arena_cells.specs.Standing.{HasTree, side_at, IsSideAt};
-ghost use Rattle.arena_graph.specs.FormedEnds.{HasFormedEnds};
+ghost use Rattle.arena_graph.specs.FormedEnds.{HasFormedEnd};
 ghost use Rattle.arena_graph.specs.ProofNumbers.{IsProofAt, AreNumbersOf};
 
 use arena::Arena;
 use lk_rules::Formulas;
 use proof_graph::{Graph, ProofRef};
 use std::alloc::{AllocError, Global};
-use std::collections::BTreeMap;
+use std::collections::HashMap;
 
 /// A proof of a graph, with the number at which its tree stands in an arena.
 #[derive(Drop)]
@@ -27,10 +27,10 @@ pub(crate) struct Numbered {
 /// out are kept as well.
 #[derive(Drop)]
 pub struct ProofNumbers {
-    numbers: BTreeMap<u64, Numbered>,
-    proofs: BTreeMap<u32, ProofRef>,
+    numbers: HashMap<u64, Numbered>,
+    proofs: HashMap<u32, ProofRef>,
     // The sides that went out, so that equal ones share a list.
-    sides: BTreeMap<u32, Formulas>,
+    sides: HashMap<u32, Formulas>,
 }
 
 impl ProofNumbers {
@@ -39,9 +39,9 @@ impl ProofNumbers {
         ensures { (g : ProofGraph) (a : List Item) → AreNumbersOf g a result }
     {
         ProofNumbers {
-            numbers: BTreeMap::new(alloc),
-            proofs: BTreeMap::new(alloc),
-            sides: BTreeMap::new(alloc),
+            numbers: HashMap::new(alloc),
+            proofs: HashMap::new(alloc),
+            sides: HashMap::new(alloc),
         }
     }
 
@@ -50,7 +50,7 @@ impl ProofNumbers {
         requires numbers { AreNumbersOf graph.now arena.now self.now }
         requires of { IsOf graph.now proof.now }
         ensures tree { IfSome result (λ n. HasTree arena.now n proof.now.tree) }
-        ensures formed { IfSome result (λ _. HasFormedEnds proof.now.tree) }
+        ensures formed { IfSome result (λ _. HasFormedEnd proof.now.tree) }
     {
         let _arena = arena;
         match self.numbers.get(&proof.number()) {

@@ -7,7 +7,7 @@ use Rattle.std.specs.FinMap as fin
 use Rattle.fol.specs.declared.symbols.Sym.{Sym}
 use Rattle.fol.specs.declared.symbols.Var.{Var}
 use Rattle.fol.specs.declared.symbols.Var.TheVariants.{Word}
-use Rattle.fol.specs.Syntax.{Term, free, bound, app, nil, cons, Formula, atom, top, bot, and, imp, all, ex}
+use Rattle.fol.specs.Syntax.{Term, free, bound, app, nil, cons, plain, Formula, atom, top, bot, and, imp, all, ex}
 use Rattle.fol.specs.Order.{formula_cmp}
 use Rattle.fol.specs.OrderLaws.{formula_total}
 use Rattle.finite.specs.Finite as set
@@ -50,10 +50,10 @@ step_is l fs e = λ i.
 
 -- the parts of conjunctions
 abbrev p : Formula
-p = atom (record { name = 112 ∷ []; arity = 0 }) nil
+p = atom (plain (record { name = 112 ∷ []; arity = 0 })) nil
 
 abbrev q : Formula
-q = atom (record { name = 113 ∷ []; arity = 0 }) nil
+q = atom (plain (record { name = 113 ∷ []; arity = 0 })) nil
 
 abbrev swapped : Expansion
 swapped = record { left = conj (leaf p) (leaf q) ∷ []; right = conj (leaf q) (leaf p) ∷ [] }
@@ -94,7 +94,7 @@ abbrev predicate : Sym
 predicate = record { name = 112 ∷ []; arity = 1 }
 
 abbrev of : Term → Formula
-of t = atom predicate (cons t nil)
+of t = atom (plain predicate) (cons t nil)
 
 abbrev variable : Var
 variable = Word (69 ∷ 49 ∷ [])

@@ -1,2 +1,1 @@
-pub mod Above
 pub mod LowestCuts

@@ -6,20 +6,19 @@ ghost use Rattle.proof_graph.specs.Graphs.{IsOf, history};
 ghost use Rattle.proof_subst.specs.Benches.{graph_of, pass_in, IsBenchPassOf};
 ghost use Rattle.elimination_laws.specs.Elimination.{elimination};
 ghost use Rattle.arena_cells.specs.Standing.{HasTree, tree_at, IsTreeAt};
-ghost use Rattle.arena_graph.specs.FormedEnds.{HasFormedEnds};
+ghost use Rattle.arena_graph.specs.FormedEnds.{HasFormedEnd};
 ghost use Rattle.arena_graph.specs.ProofNumbers.{AreNumbersOf};
 ghost use Rattle.cut_elim.specs.Desks.{bench_of, pass_in as bench_pass_in, IsDeskPassOf};
 
 use crate::desk::{Desk, DeskPass};
 use arena::Arena;
-use arena_cuts::{ElimFault, eliminate_in};
+use arena_cuts::{ElimFault, Steps, eliminate_in};
 use arena_graph::{ProofNumbers, export_proof, import_proof};
-use cut_contract::Steps;
 use elimination_laws::laws;
 use proof_graph::ProofRef;
 use proof_subst::{Bench, BenchPass};
 use std::alloc::{AllocError, Global};
-use std::collections::BTreeMap;
+use std::collections::HashMap;
 use std::sync::Wait;
 use std::sync::ledger::Ledger;
 
@@ -54,18 +53,19 @@ fn eliminate_tree<L: Ledger>(
     ensures budget { result ≡ Err ElimFault.Budget → elimination proof.now.tree budget ≡ None }
     ensures there { IfOk result (λ made. IsTreeAt arena.new made.proof) }
     ensures valid { IfOk result (λ made. IsValid (tree_at arena.new made.proof)) }
-    ensures formed { IfOk result (λ made. HasFormedEnds (tree_at arena.new made.proof)) }
+    ensures cut_free { IfOk result (λ made. IsCutFree (tree_at arena.new made.proof)) }
+    ensures end { IfOk result (λ made. concl (tree_at arena.new made.proof) ≡ concl proof.now.tree) }
+    ensures formed { IfOk result (λ made. HasFormedEnd (tree_at arena.new made.proof)) }
     ensures numbers_stay { AreNumbersOf (graph_of bench.now) arena.new numbers.new }
     ensures counted_ok { IfOk result (λ made. steps.new ≤ steps.old + made.reductions) }
     ensures counted { steps.new ≤ steps.old + budget }
 {
     laws::results();
-    cut_ends::laws::formed_ends();
     proof.known();
     let Ok(number) = import_proof(arena, alloc, bench.graph(), numbers, proof) else {
         return Err(ElimFault::Memory);
     };
-    let mut table = BTreeMap::new(alloc);
+    let mut table = HashMap::new(alloc);
     match eliminate_in(arena, alloc, &mut table, number, budget, steps) {
         Ok(made) => Ok(Numbered {
             proof: made.proof,
@@ -89,7 +89,7 @@ fn proof_at<R: Wait>(
     requires numbers { AreNumbersOf (graph_of (bench_of desk.now)) arena.now numbers.old }
     requires there { IsTreeAt arena.now number }
     requires valid { IsValid (tree_at arena.now number) }
-    requires formed { HasFormedEnds (tree_at arena.now number) }
+    requires formed { HasFormedEnd (tree_at arena.now number) }
     ensures tree { IfOk result (λ r. r.tree ≡ tree_at arena.now number) }
     ensures of { IfOk result (IsOf (graph_of (bench_of desk.now))) }
     ensures grown { IsPrefix (history (pass_in (bench_pass_in pass.old))) (history (pass_in (bench_pass_in pass.new))) }
@@ -126,7 +126,6 @@ pub fn eliminate<R: Wait, L: Ledger>(
     ensures counted_ok { IfOk result (λ made. steps.new ≤ steps.old + made.reductions) }
     ensures counted { steps.new ≤ steps.old + budget }
 {
-    laws::results();
     let mut arena = Arena::new(alloc);
     let mut numbers = ProofNumbers::new(alloc);
     let bench = desk.bench();

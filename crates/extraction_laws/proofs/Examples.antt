@@ -8,7 +8,7 @@ use Rattle.std.specs.declared.cmp.Ordering.{Ordering}
 use Rattle.fol.specs.declared.symbols.Sym.{Sym}
 use Rattle.fol.specs.declared.symbols.Var.{Var}
 use Rattle.fol.specs.declared.symbols.Var.TheVariants.{Word, Num}
-use Rattle.fol.specs.Syntax.{Term, free, bound, nil, cons, Formula, atom, and, all}
+use Rattle.fol.specs.Syntax.{Term, free, bound, nil, cons, plain, Formula, atom, and, all}
 use Rattle.fol.specs.Order.{var_cmp, term_cmp, formula_cmp}
 use Rattle.fol.specs.OrderLaws.{term_total, formula_total}
 use Rattle.finite.specs.Finite as set
@@ -55,13 +55,13 @@ abbrev predicate : Sym
 predicate = record { name = 112 ∷ []; arity = 1 }
 
 abbrev every : Formula
-every = all (atom predicate (cons (bound 0) nil))
+every = all (atom (plain predicate) (cons (bound 0) nil))
 
 abbrev v0 : Term
 v0 = free (Num 0)
 
 abbrev instance : Formula
-instance = atom predicate (cons v0 nil)
+instance = atom (plain predicate) (cons v0 nil)
 
 abbrev only_every : set.Finite formula_cmp
 only_every = set.adds set.empty every
@@ -97,7 +97,7 @@ terms_are = ap (λ xs. set.listing (set.adds_each (set.empty {R = term_cmp}) (te
 
 left_is : tree_at [] marks on_left ≡ weak every (expansions.more v0 (leaf instance) expansions.none)
 left_is =
-    read-all_left [] marks on_left (atom predicate (cons (bound 0) nil)) (marks_tell all_opened on_left) refl refl
+    read-all_left [] marks on_left (atom (plain predicate) (cons (bound 0) nil)) (marks_tell all_opened on_left) refl refl
     ∙ (ap (λ ts. weak every (instances_by (λ t. tree_at [] marks (via on_left t)) ts)) terms_are
     ∙ ap (λ e. weak every (expansions.more v0 e expansions.none)) (read-flat [] marks (via on_left v0) (marks_tell all_opened (via on_left v0)) refl))
 
@@ -107,7 +107,7 @@ variable_is = refl
 
 right_is : tree_at [] marks on_right ≡ strong every (Num 0) (leaf instance)
 right_is =
-    read-all_right [] marks on_right (atom predicate (cons (bound 0) nil)) (marks_tell all_opened on_right) refl refl
+    read-all_right [] marks on_right (atom (plain predicate) (cons (bound 0) nil)) (marks_tell all_opened on_right) refl refl
     ∙ (ap (λ v. strong every v (tree_at [] marks (via on_right (free v)))) variable_is
     ∙ ap (strong every (Num 0)) (read-flat [] marks (via on_right v0) (marks_tell all_opened (via on_right v0)) refl))
 
@@ -121,10 +121,10 @@ quantified =
     ∙ λ i. record { left = left_is i ∷ []; right = right_is i ∷ [] })
 
 abbrev p : Formula
-p = atom (record { name = 112 ∷ []; arity = 0 }) nil
+p = atom (plain (record { name = 112 ∷ []; arity = 0 })) nil
 
 abbrev q : Formula
-q = atom (record { name = 113 ∷ []; arity = 0 }) nil
+q = atom (plain (record { name = 113 ∷ []; arity = 0 })) nil
 
 -- `p, p & q / p` over an axiom: the auxiliary formula p stands in the conclusion, so the part of `p & q` isn't used
 module _ (e : Sequent) where

@@ -4,7 +4,7 @@ use Rattle.std.specs.FinMap as fin
 use Rattle.std.specs.Ordering.{eq_by_cmp}
 use Rattle.fol.specs.declared.symbols.Sym.{Sym}
 use Rattle.fol.specs.declared.symbols.Var.{Var}
-use Rattle.fol.specs.Syntax.{Term, free, nil, cons, Formula, atom, top, bot, not, and, or, imp, all, ex}
+use Rattle.fol.specs.Syntax.{Term, free, nil, cons, plain, Formula, atom, top, bot, not, and, or, imp, all, ex}
 use Rattle.fol.specs.Order.{var_cmp}
 use Rattle.fol.specs.OrderLaws.{var_total}
 use Rattle.finite.specs.Finite as set
@@ -56,7 +56,7 @@ as_well P Q (Some t) f h = f t h
 term_origin : (y : Var) (m : Map) (t : Term) → is_free_in_term y (image_term (fin.get m) t) ≡ true → Origin y (fin.get m) (λ w. is_free_in_term w t)
 term_origin y m t h =
     let p : Sym = record { name = []; arity = 1 } in
-    let o : Origin y (fin.get m) (λ w. is_free_in_term w t || false) = origin y (fin.get m) (atom p (cons t nil)) (or_first (is_free_in_term y (image_term (fin.get m) t)) false h) in
+    let o : Origin y (fin.get m) (λ w. is_free_in_term w t || false) = origin y (fin.get m) (atom (plain p) (cons t nil)) (or_first (is_free_in_term y (image_term (fin.get m) t)) false h) in
     (o.0, (alone (is_free_in_term o.0 t) o.1.0, o.1.1))
 
 module _ (vs : List Var) where

@@ -7,11 +7,11 @@ use Rattle.std.specs.declared.cmp.Ordering.TheVariants.{Less, Equal, Greater}
 use Rattle.std.specs.Ordering.{nat_cmp, ordering_then, eq_by_cmp, is_eq}
 use Rattle.std.specs.Cmp.Lexicographic.{pointwise}
 use Rattle.fol.specs.declared.symbols.Sym.{Sym}
-use Rattle.fol.specs.Syntax.{Term, Terms, Formula}
-use Rattle.fol.specs.Order.{text_cmp, sym_cmp, term_cmp, terms_cmp, formula_cmp}
+use Rattle.fol.specs.Syntax.{Term, Terms, Pred, Formula}
+use Rattle.fol.specs.Order.{text_cmp, sym_cmp, term_cmp, terms_cmp, pred_cmp, formula_cmp}
 use Rattle.fol.specs.Mixing.{text_fingerprint}
-use Rattle.fol.specs.Facts.{term_fingerprint, terms_fingerprint, formula_fingerprint}
-use Rattle.fol.proofs.OrderTies.{text_ties, term_ties, terms_ties, formula_ties}
+use Rattle.fol.specs.Facts.{term_fingerprint, terms_fingerprint, pred_fingerprint, formula_fingerprint}
+use Rattle.fol.proofs.OrderTies.{text_ties, term_ties, terms_ties, pred_ties, formula_ties}
 
 -- an order in which only equal values tie, and a number of each value
 module _ {K : Type 0} (R : K → K → Ordering) (ties : (x y : K) → R x y ≡ Equal → x ≡ y) (print : K → ℕ) where
@@ -31,6 +31,9 @@ term_apart = apart term_cmp term_ties term_fingerprint
 
 pub terms_apart : (ts us : Terms) (p q : ℕ) → p ≡ terms_fingerprint ts → q ≡ terms_fingerprint us → (p ≡ q → ⊥) → eq_by_cmp terms_cmp ts us ≡ false
 terms_apart = apart terms_cmp terms_ties terms_fingerprint
+
+pub pred_apart : (p q : Pred) (m n : ℕ) → m ≡ pred_fingerprint p → n ≡ pred_fingerprint q → (m ≡ n → ⊥) → eq_by_cmp pred_cmp p q ≡ false
+pred_apart = apart pred_cmp pred_ties pred_fingerprint
 
 pub formula_apart : (f g : Formula) (p q : ℕ) → p ≡ formula_fingerprint f → q ≡ formula_fingerprint g → (p ≡ q → ⊥) → eq_by_cmp formula_cmp f g ≡ false
 formula_apart = apart formula_cmp formula_ties formula_fingerprint

@@ -2,8 +2,8 @@
 use Rattle.std.proofs.Common.{◌≡◌, ℕ, ◌+◌, ◌-◌, ◌^◌, ◌≤◌, ◌⊎◌, inl, inr, min, ltb, ◌==◌, ◌&&◌, refl, ap, arith}
 use Rattle.std.proofs.lemmas.Bool.{cases_lt}
 use Rattle.std.proofs.lemmas.Bool.Decides.{nat_tests}
-use Rattle.fol.specs.Syntax.{Term, free, bound, app, Terms, nil, cons, Formula, atom, top, bot, not, and, or, imp, all, ex}
-use Rattle.fol.specs.Formed.{is_formed_sym, count_terms, is_formed_term_at, are_formed_terms_at, is_formed_at}
+use Rattle.fol.specs.Syntax.{Term, free, bound, app, Terms, nil, cons, pred_symbol, Formula, atom, top, bot, not, and, or, imp, all, ex}
+use Rattle.fol.specs.Formed.{is_formed_sym, is_formed_pred, count_terms, is_formed_term_at, are_formed_terms_at, is_formed_at}
 
 far_bound : (i k m w : ℕ) → w ≤ k → w ≤ m → (ltb i k && ltb i w) ≡ (ltb i m && ltb i w)
 far_bound i k m w deep far = grind (arith, nat_tests)
@@ -19,7 +19,8 @@ mutual
   far_terms (cons t ts) k m deep far = λ i. far_term t k m deep far i && far_terms ts k m deep far i
 
 pub far_formula : (f : Formula) (k m : ℕ) → 2 ^ 32 ≤ k → 2 ^ 32 ≤ m → is_formed_at k f ≡ is_formed_at m f
-far_formula (atom s ts) k m deep far = ap (λ b. is_formed_sym s && (count_terms ts == s.arity) && b) (far_terms ts k m deep far)
+far_formula (atom p ts) k m deep far =
+    ap (λ b. is_formed_pred p && (count_terms ts == (pred_symbol p).arity) && b) (far_terms ts k m deep far)
 far_formula top k m deep far = refl
 far_formula bot k m deep far = refl
 far_formula (not f) k m deep far = far_formula f k m deep far

@@ -3,3 +3,4 @@ pub mod FormedDepth
 pub mod NumberedTexts
 pub mod Fingerprints
 pub mod KeyTies
+pub mod FormedPredicates

@@ -8,9 +8,9 @@ use Rattle.std.proofs.lemmas.Cmp.{ranked, tied_itself}
 use Rattle.fol.specs.declared.symbols.Sym.{Sym}
 use Rattle.fol.specs.declared.symbols.Var.{Var}
 use Rattle.fol.specs.declared.symbols.Var.TheVariants.{Word, Num}
-use Rattle.fol.specs.Syntax.{Term, free, bound, app, Terms, nil, cons, Formula, atom, top, bot, not, and, or, imp, all, ex}
-use Rattle.fol.specs.Order.{text_cmp, sym_cmp, var_cmp, term_cmp, terms_cmp, formula_cmp}
-use Rattle.fol.specs.OrderLaws.{text_total, sym_total, var_total, term_total, terms_total, formula_total}
+use Rattle.fol.specs.Syntax.{Term, free, bound, app, Terms, nil, cons, Pred, pred, Body, undefined, defined, Formula, atom, top, bot, not, and, or, imp, all, ex}
+use Rattle.fol.specs.Order.{text_cmp, sym_cmp, var_cmp, term_cmp, terms_cmp, pred_cmp, body_cmp, formula_cmp}
+use Rattle.fol.specs.OrderLaws.{text_total, sym_total, var_total, term_total, terms_total, pred_total, formula_total}
 
 -- two comparisons in a row tie only where both do
 pub then_ties : (a b : Ordering) → ordering_then a b ≡ Equal → (a ≡ Equal) × (b ≡ Equal)
@@ -55,21 +55,32 @@ mutual
   terms_ties (cons t ts) (cons u us) h =
       let both = then_ties (term_cmp t u) (terms_cmp ts us) h in λ i. cons (term_ties t u both.0 i) (terms_ties ts us both.1 i)
 
-pub formula_ties : (f g : Formula) → formula_cmp f g ≡ Equal → f ≡ g
-formula_ties (atom s ts) (atom r us) h =
-    let both = then_ties (sym_cmp s r) (terms_cmp ts us) h in λ i. atom (sym_ties s r both.0 i) (terms_ties ts us both.1 i)
-formula_ties top top h = refl
-formula_ties bot bot h = refl
-formula_ties (not f) (not g) h = λ i. not (formula_ties f g h i)
-formula_ties (and a b) (and c d) h =
-    let both = then_ties (formula_cmp a c) (formula_cmp b d) h in λ i. and (formula_ties a c both.0 i) (formula_ties b d both.1 i)
-formula_ties (or a b) (or c d) h =
-    let both = then_ties (formula_cmp a c) (formula_cmp b d) h in λ i. or (formula_ties a c both.0 i) (formula_ties b d both.1 i)
-formula_ties (imp a b) (imp c d) h =
-    let both = then_ties (formula_cmp a c) (formula_cmp b d) h in λ i. imp (formula_ties a c both.0 i) (formula_ties b d both.1 i)
-formula_ties (all f) (all g) h = λ i. all (formula_ties f g h i)
-formula_ties (ex f) (ex g) h = λ i. ex (formula_ties f g h i)
-formula_ties f g h = cc
+mutual
+  pub pred_ties : (p q : Pred) → pred_cmp p q ≡ Equal → p ≡ q
+  pred_ties (pred s b) (pred r c) h =
+      let both = then_ties (sym_cmp s r) (body_cmp b c) h in λ i. pred (sym_ties s r both.0 i) (body_ties b c both.1 i)
+
+  pub body_ties : (b c : Body) → body_cmp b c ≡ Equal → b ≡ c
+  body_ties undefined undefined h = refl
+  body_ties undefined (defined g) h = cc
+  body_ties (defined f) undefined h = cc
+  body_ties (defined f) (defined g) h = λ i. defined (formula_ties f g h i)
+
+  pub formula_ties : (f g : Formula) → formula_cmp f g ≡ Equal → f ≡ g
+  formula_ties (atom p ts) (atom q us) h =
+      let both = then_ties (pred_cmp p q) (terms_cmp ts us) h in λ i. atom (pred_ties p q both.0 i) (terms_ties ts us both.1 i)
+  formula_ties top top h = refl
+  formula_ties bot bot h = refl
+  formula_ties (not f) (not g) h = λ i. not (formula_ties f g h i)
+  formula_ties (and a b) (and c d) h =
+      let both = then_ties (formula_cmp a c) (formula_cmp b d) h in λ i. and (formula_ties a c both.0 i) (formula_ties b d both.1 i)
+  formula_ties (or a b) (or c d) h =
+      let both = then_ties (formula_cmp a c) (formula_cmp b d) h in λ i. or (formula_ties a c both.0 i) (formula_ties b d both.1 i)
+  formula_ties (imp a b) (imp c d) h =
+      let both = then_ties (formula_cmp a c) (formula_cmp b d) h in λ i. imp (formula_ties a c both.0 i) (formula_ties b d both.1 i)
+  formula_ties (all f) (all g) h = λ i. all (formula_ties f g h i)
+  formula_ties (ex f) (ex g) h = λ i. ex (formula_ties f g h i)
+  formula_ties f g h = cc
 
 -- an order in which only equal values tie answers `Equal`, and its equality answers `true`, exactly for equal values
 module _ {K : Type 0} {R : K → K → Ordering} (total : IsTotalOrder R) (ties : (x y : K) → R x y ≡ Equal → x ≡ y) where
@@ -122,3 +133,9 @@ formula_order_same = order_same formula_total formula_ties
 
 pub formula_equality_same : (x y : Formula) (r : Bool) → r ≡ eq_by_cmp formula_cmp x y → IsTrue r ↔ (x ≡ y)
 formula_equality_same = equality_same formula_total formula_ties
+
+pub pred_order_same : (p q : Pred) (r : Ordering) → r ≡ pred_cmp p q → (r ≡ Equal) ↔ (p ≡ q)
+pred_order_same = order_same pred_total pred_ties
+
+pub pred_equality_same : (p q : Pred) (r : Bool) → r ≡ eq_by_cmp pred_cmp p q → IsTrue r ↔ (p ≡ q)
+pred_equality_same = equality_same pred_total pred_ties

@@ -6,7 +6,7 @@ use base.Stored.{Gv, gnil, gnum, gcons, num}
 use Rattle.fol.specs.declared.symbols.Sym.{Sym}
 use Rattle.fol.specs.declared.symbols.Var.{Var}
 use Rattle.fol.specs.declared.symbols.Var.TheVariants.{Word, Num}
-use Rattle.fol.specs.Syntax.{Term, free, bound, app, Terms, nil, cons, Formula, atom, top, bot, not, and, or, imp, all, ex}
+use Rattle.fol.specs.Syntax.{Term, free, bound, app, Terms, nil, cons, Pred, pred, Body, undefined, defined, Formula, atom, top, bot, not, and, or, imp, all, ex}
 
 -- a type whose code has a way back is coded
 abbrev pub coded_by_back : {A : Type 0} → (code : A → Gv) → (back : Gv → A) → ((x : A) → back (code x) ≡ x) → Coded A
@@ -84,46 +84,73 @@ mutual
   terms_law nil = refl
   terms_law (cons t ts) = λ i. cons (term_law t i) (terms_law ts i)
 
--- formulas: the number of the kind, then the parts
-abbrev pub formula_code : Formula → Gv
-formula_code (atom s ts) = gcons (gnum 0) (gcons (sym_code s) (terms_code ts))
-formula_code top = gcons (gnum 1) gnil
-formula_code bot = gcons (gnum 2) gnil
-formula_code (not f) = gcons (gnum 3) (formula_code f)
-formula_code (and f g) = gcons (gnum 4) (gcons (formula_code f) (formula_code g))
-formula_code (or f g) = gcons (gnum 5) (gcons (formula_code f) (formula_code g))
-formula_code (imp f g) = gcons (gnum 6) (gcons (formula_code f) (formula_code g))
-formula_code (all f) = gcons (gnum 7) (formula_code f)
-formula_code (ex f) = gcons (gnum 8) (formula_code f)
+-- predicate symbols: the symbol, then the body; formulas: the number of the kind, then the parts
+abbrev mutual
+  pub pred_code : Pred → Gv
+  pred_code (pred s b) = gcons (sym_code s) (body_code b)
 
--- an atom of what stands for its symbol and for its terms
-abbrev pub atom_back : Gv → Gv → Formula
-atom_back gnil ts = top
-atom_back (gnum n) ts = top
-atom_back (gcons name arity) ts = atom (sym_back name arity) (terms_back ts)
+  pub body_code : Body → Gv
+  body_code undefined = gnil
+  body_code (defined f) = gcons gnil (formula_code f)
 
-abbrev pub formula_back : Gv → Formula
-formula_back (gcons (gnum zero) (gcons s ts)) = atom_back s ts
-formula_back (gcons (gnum (suc zero)) gnil) = top
-formula_back (gcons (gnum (suc (suc zero))) gnil) = bot
-formula_back (gcons (gnum (suc (suc (suc zero)))) f) = not (formula_back f)
-formula_back (gcons (gnum (suc (suc (suc (suc zero))))) (gcons f g)) = and (formula_back f) (formula_back g)
-formula_back (gcons (gnum (suc (suc (suc (suc (suc zero)))))) (gcons f g)) = or (formula_back f) (formula_back g)
-formula_back (gcons (gnum (suc (suc (suc (suc (suc (suc zero))))))) (gcons f g)) = imp (formula_back f) (formula_back g)
-formula_back (gcons (gnum (suc (suc (suc (suc (suc (suc (suc zero)))))))) f) = all (formula_back f)
-formula_back (gcons (gnum (suc (suc (suc (suc (suc (suc (suc (suc zero))))))))) f) = ex (formula_back f)
-formula_back v = top
+  pub formula_code : Formula → Gv
+  formula_code (atom p ts) = gcons (gnum 0) (gcons (pred_code p) (terms_code ts))
+  formula_code top = gcons (gnum 1) gnil
+  formula_code bot = gcons (gnum 2) gnil
+  formula_code (not f) = gcons (gnum 3) (formula_code f)
+  formula_code (and f g) = gcons (gnum 4) (gcons (formula_code f) (formula_code g))
+  formula_code (or f g) = gcons (gnum 5) (gcons (formula_code f) (formula_code g))
+  formula_code (imp f g) = gcons (gnum 6) (gcons (formula_code f) (formula_code g))
+  formula_code (all f) = gcons (gnum 7) (formula_code f)
+  formula_code (ex f) = gcons (gnum 8) (formula_code f)
 
-pub formula_law : (f : Formula) → formula_back (formula_code f) ≡ f
-formula_law (atom s ts) = λ i. atom (sym_law s i) (terms_law ts i)
-formula_law top = refl
-formula_law bot = refl
-formula_law (not f) = λ i. not (formula_law f i)
-formula_law (and f g) = λ i. and (formula_law f i) (formula_law g i)
-formula_law (or f g) = λ i. or (formula_law f i) (formula_law g i)
-formula_law (imp f g) = λ i. imp (formula_law f i) (formula_law g i)
-formula_law (all f) = λ i. all (formula_law f i)
-formula_law (ex f) = λ i. ex (formula_law f i)
+-- the symbol of a code
+abbrev pub sym_of_code : Gv → Sym
+sym_of_code gnil = sym_back gnil gnil
+sym_of_code (gnum n) = sym_back gnil gnil
+sym_of_code (gcons name arity) = sym_back name arity
+
+abbrev mutual
+  pub pred_back : Gv → Pred
+  pred_back gnil = pred (sym_back gnil gnil) undefined
+  pred_back (gnum n) = pred (sym_back gnil gnil) undefined
+  pred_back (gcons s b) = pred (sym_of_code s) (body_back b)
+
+  pub body_back : Gv → Body
+  body_back gnil = undefined
+  body_back (gnum n) = undefined
+  body_back (gcons x f) = defined (formula_back f)
+
+  pub formula_back : Gv → Formula
+  formula_back (gcons (gnum zero) (gcons p ts)) = atom (pred_back p) (terms_back ts)
+  formula_back (gcons (gnum (suc zero)) gnil) = top
+  formula_back (gcons (gnum (suc (suc zero))) gnil) = bot
+  formula_back (gcons (gnum (suc (suc (suc zero)))) f) = not (formula_back f)
+  formula_back (gcons (gnum (suc (suc (suc (suc zero))))) (gcons f g)) = and (formula_back f) (formula_back g)
+  formula_back (gcons (gnum (suc (suc (suc (suc (suc zero)))))) (gcons f g)) = or (formula_back f) (formula_back g)
+  formula_back (gcons (gnum (suc (suc (suc (suc (suc (suc zero))))))) (gcons f g)) = imp (formula_back f) (formula_back g)
+  formula_back (gcons (gnum (suc (suc (suc (suc (suc (suc (suc zero)))))))) f) = all (formula_back f)
+  formula_back (gcons (gnum (suc (suc (suc (suc (suc (suc (suc (suc zero))))))))) f) = ex (formula_back f)
+  formula_back v = top
+
+mutual
+  pub pred_law : (p : Pred) → pred_back (pred_code p) ≡ p
+  pred_law (pred s b) = λ i. pred (sym_law s i) (body_law b i)
+
+  pub body_law : (b : Body) → body_back (body_code b) ≡ b
+  body_law undefined = refl
+  body_law (defined f) = λ i. defined (formula_law f i)
+
+  pub formula_law : (f : Formula) → formula_back (formula_code f) ≡ f
+  formula_law (atom p ts) = λ i. atom (pred_law p i) (terms_law ts i)
+  formula_law top = refl
+  formula_law bot = refl
+  formula_law (not f) = λ i. not (formula_law f i)
+  formula_law (and f g) = λ i. and (formula_law f i) (formula_law g i)
+  formula_law (or f g) = λ i. or (formula_law f i) (formula_law g i)
+  formula_law (imp f g) = λ i. imp (formula_law f i) (formula_law g i)
+  formula_law (all f) = λ i. all (formula_law f i)
+  formula_law (ex f) = λ i. ex (formula_law f i)
 
 -- the codes
 abbrev pub coded_term : Coded Term
@@ -131,6 +158,9 @@ coded_term = coded_by_back term_code term_back term_law
 
 abbrev pub coded_terms : Coded Terms
 coded_terms = coded_by_back terms_code terms_back terms_law
+
+abbrev pub coded_pred : Coded Pred
+coded_pred = coded_by_back pred_code pred_back pred_law
 
 abbrev pub coded_formula : Coded Formula
 coded_formula = coded_by_back formula_code formula_back formula_law

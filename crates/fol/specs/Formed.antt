@@ -1,12 +1,13 @@
 -- Which variables, symbols, terms and formulas are well formed.
-use Rattle.std.specs.Prelude.{◌≡◌, ℕ, ◌+◌, ◌^◌, Bool, true, false, ◌==◌, ◌&&◌, ◌||◌, nat_lt, is_none, List, [], ◌∷◌, length}
+use Rattle.std.specs.Prelude.{◌≡◌, ℕ, ◌+◌, ◌^◌, Bool, true, false, not as negated, ◌==◌, ◌&&◌, ◌||◌, nat_lt, nat_le, is_none, List, [], ◌∷◌, length}
 use Rattle.std.specs.List.{list_all}
 use Rattle.std.specs.Char.{is_ascii_uppercase, is_ascii_alphanumeric}
 use Rattle.std.specs.Int.{is_in_range}
 use Rattle.fol.specs.declared.symbols.Sym.{Sym}
 use Rattle.fol.specs.declared.symbols.Var.{Var}
 use Rattle.fol.specs.declared.symbols.Var.TheVariants.{Word, Num}
-use Rattle.fol.specs.Syntax.{Term, free, bound, app, Terms, nil, cons, Formula, atom, top, bot, not, and, or, imp, all, ex}
+use Rattle.fol.specs.Syntax.{Term, free, bound, app, Terms, nil, cons, Pred, pred, pred_symbol, Body, undefined, defined, Formula, atom, top, bot, not, and, or, imp, all, ex}
+use Rattle.fol.specs.Facts.{is_open}
 use Rattle.fol.specs.Numbered.{number_of_text}
 
 -- a printable byte of ASCII, from the space to `~`
@@ -52,17 +53,31 @@ abbrev mutual
   are_formed_terms_at k nil = true
   are_formed_terms_at k (cons t ts) = is_formed_term_at k t && are_formed_terms_at k ts
 
--- whether a formula is well formed inside k quantifiers, in the same way
-abbrev pub is_formed_at : ℕ → Formula → Bool
-is_formed_at k (atom s ts) = is_formed_sym s && count_terms ts == s.arity && are_formed_terms_at k ts
-is_formed_at k top = true
-is_formed_at k bot = true
-is_formed_at k (not f) = is_formed_at k f
-is_formed_at k (and f g) = is_formed_at k f && is_formed_at k g
-is_formed_at k (or f g) = is_formed_at k f && is_formed_at k g
-is_formed_at k (imp f g) = is_formed_at k f && is_formed_at k g
-is_formed_at k (all f) = is_formed_at (k + 1) f
-is_formed_at k (ex f) = is_formed_at (k + 1) f
+-- with how many universal quantifiers a formula begins
+abbrev pub leading_all : Formula → ℕ
+leading_all (all f) = leading_all f + 1
+leading_all f = 0
+
+-- whether a formula is well formed inside k quantifiers, in the same way. The body of a predicate symbol is well formed by itself, no
+-- variable is free in it, and it begins with at least as many universal quantifiers as the symbol has arguments
+abbrev mutual
+  pub is_formed_pred : Pred → Bool
+  is_formed_pred (pred s b) = is_formed_body s.arity b && is_formed_sym s
+
+  pub is_formed_body : ℕ → Body → Bool
+  is_formed_body n undefined = true
+  is_formed_body n (defined f) = is_formed_at 0 f && negated (is_open f) && nat_le n (leading_all f)
+
+  pub is_formed_at : ℕ → Formula → Bool
+  is_formed_at k (atom p ts) = is_formed_pred p && count_terms ts == (pred_symbol p).arity && are_formed_terms_at k ts
+  is_formed_at k top = true
+  is_formed_at k bot = true
+  is_formed_at k (not f) = is_formed_at k f
+  is_formed_at k (and f g) = is_formed_at k f && is_formed_at k g
+  is_formed_at k (or f g) = is_formed_at k f && is_formed_at k g
+  is_formed_at k (imp f g) = is_formed_at k f && is_formed_at k g
+  is_formed_at k (all f) = is_formed_at (k + 1) f
+  is_formed_at k (ex f) = is_formed_at (k + 1) f
 
 -- whether a term is well formed outside quantifiers, where it has no index
 abbrev pub is_formed_term : Term → Bool
@@ -78,6 +93,9 @@ IsFormedVar v = is_formed_var v ≡ true
 
 abbrev pub IsFormedSym : Sym → Type 0
 IsFormedSym s = is_formed_sym s ≡ true
+
+abbrev pub IsFormedPred : Pred → Type 0
+IsFormedPred p = is_formed_pred p ≡ true
 
 abbrev pub IsFormedTerm : Term → Type 0
 IsFormedTerm t = is_formed_term t ≡ true

@@ -7,7 +7,7 @@ use Rattle.std.specs.Cmp.Lexicographic.{slice_cmp}
 use Rattle.fol.specs.declared.symbols.Sym.{Sym}
 use Rattle.fol.specs.declared.symbols.Var.{Var}
 use Rattle.fol.specs.declared.symbols.Var.TheVariants.{Word, Num}
-use Rattle.fol.specs.Syntax.{Term, free, bound, app, Terms, nil, cons, Formula, atom, top, bot, not, and, or, imp, all, ex}
+use Rattle.fol.specs.Syntax.{Term, free, bound, app, Terms, nil, cons, Pred, pred, Body, undefined, defined, Formula, atom, top, bot, not, and, or, imp, all, ex}
 
 -- texts are ordered by their bytes from the left; a text is after each of its beginnings
 abbrev pub text_cmp : List ℕ → List ℕ → Ordering
@@ -57,15 +57,26 @@ formula_kind (imp f g) = 6
 formula_kind (all f) = 7
 formula_kind (ex f) = 8
 
--- formulas are ordered by kind, and those of one kind part by part from the left
-abbrev pub formula_cmp : Formula → Formula → Ordering
-formula_cmp (atom s ts) (atom r us) = ordering_then (sym_cmp s r) (terms_cmp ts us)
-formula_cmp top top = Equal
-formula_cmp bot bot = Equal
-formula_cmp (not f) (not g) = formula_cmp f g
-formula_cmp (and a b) (and c d) = ordering_then (formula_cmp a c) (formula_cmp b d)
-formula_cmp (or a b) (or c d) = ordering_then (formula_cmp a c) (formula_cmp b d)
-formula_cmp (imp a b) (imp c d) = ordering_then (formula_cmp a c) (formula_cmp b d)
-formula_cmp (all f) (all g) = formula_cmp f g
-formula_cmp (ex f) (ex g) = formula_cmp f g
-formula_cmp f g = nat_cmp (formula_kind f) (formula_kind g)
+-- formulas are ordered by kind, and those of one kind part by part from the left; predicate symbols by name, then by the number of
+-- arguments, then by their bodies: none comes before some
+abbrev mutual
+  pub pred_cmp : Pred → Pred → Ordering
+  pred_cmp (pred s b) (pred r c) = ordering_then (sym_cmp s r) (body_cmp b c)
+
+  pub body_cmp : Body → Body → Ordering
+  body_cmp undefined undefined = Equal
+  body_cmp undefined (defined g) = Less
+  body_cmp (defined f) undefined = Greater
+  body_cmp (defined f) (defined g) = formula_cmp f g
+
+  pub formula_cmp : Formula → Formula → Ordering
+  formula_cmp (atom p ts) (atom q us) = ordering_then (pred_cmp p q) (terms_cmp ts us)
+  formula_cmp top top = Equal
+  formula_cmp bot bot = Equal
+  formula_cmp (not f) (not g) = formula_cmp f g
+  formula_cmp (and a b) (and c d) = ordering_then (formula_cmp a c) (formula_cmp b d)
+  formula_cmp (or a b) (or c d) = ordering_then (formula_cmp a c) (formula_cmp b d)
+  formula_cmp (imp a b) (imp c d) = ordering_then (formula_cmp a c) (formula_cmp b d)
+  formula_cmp (all f) (all g) = formula_cmp f g
+  formula_cmp (ex f) (ex g) = formula_cmp f g
+  formula_cmp f g = nat_cmp (formula_kind f) (formula_kind g)

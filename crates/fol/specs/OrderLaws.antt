@@ -10,8 +10,8 @@ use Rattle.std.proofs.lemmas.Cmp.{nat_list_cmp_total, on_total}
 use Rattle.fol.specs.declared.symbols.Sym.{Sym}
 use Rattle.fol.specs.declared.symbols.Var.{Var}
 use Rattle.fol.specs.declared.symbols.Var.TheVariants.{Word, Num}
-use Rattle.fol.specs.Syntax.{Term, free, bound, app, Terms, nil, cons, Formula, atom, top, bot, not, and, or, imp, all, ex}
-use Rattle.fol.specs.Order.{text_cmp, sym_cmp, var_cmp, term_cmp, terms_cmp, formula_cmp}
+use Rattle.fol.specs.Syntax.{Term, free, bound, app, Terms, nil, cons, Pred, pred, Body, undefined, defined, Formula, atom, top, bot, not, and, or, imp, all, ex}
+use Rattle.fol.specs.Order.{text_cmp, sym_cmp, var_cmp, term_cmp, terms_cmp, pred_cmp, body_cmp, formula_cmp}
 
 -- the order of lists of numbers, into which each value is put: a value's key is a list that begins with the value's own numbers
 abbrev key_cmp : List ℕ → List ℕ → Ordering
@@ -49,16 +49,24 @@ abbrev mutual
   terms_key nil rest = 0 ∷ rest
   terms_key (cons t ts) rest = 1 ∷ term_key t (terms_key ts rest)
 
-abbrev formula_key : Formula → List ℕ → List ℕ
-formula_key (atom s ts) rest = 0 ∷ sym_key s (terms_key ts rest)
-formula_key top rest = 1 ∷ rest
-formula_key bot rest = 2 ∷ rest
-formula_key (not f) rest = 3 ∷ formula_key f rest
-formula_key (and f g) rest = 4 ∷ formula_key f (formula_key g rest)
-formula_key (or f g) rest = 5 ∷ formula_key f (formula_key g rest)
-formula_key (imp f g) rest = 6 ∷ formula_key f (formula_key g rest)
-formula_key (all f) rest = 7 ∷ formula_key f rest
-formula_key (ex f) rest = 8 ∷ formula_key f rest
+abbrev mutual
+  pred_key : Pred → List ℕ → List ℕ
+  pred_key (pred s b) rest = sym_key s (body_key b rest)
+
+  body_key : Body → List ℕ → List ℕ
+  body_key undefined rest = 0 ∷ rest
+  body_key (defined f) rest = 1 ∷ formula_key f rest
+
+  formula_key : Formula → List ℕ → List ℕ
+  formula_key (atom p ts) rest = 0 ∷ pred_key p (terms_key ts rest)
+  formula_key top rest = 1 ∷ rest
+  formula_key bot rest = 2 ∷ rest
+  formula_key (not f) rest = 3 ∷ formula_key f rest
+  formula_key (and f g) rest = 4 ∷ formula_key f (formula_key g rest)
+  formula_key (or f g) rest = 5 ∷ formula_key f (formula_key g rest)
+  formula_key (imp f g) rest = 6 ∷ formula_key f (formula_key g rest)
+  formula_key (all f) rest = 7 ∷ formula_key f rest
+  formula_key (ex f) rest = 8 ∷ formula_key f rest
 
 -- keys are ordered as the values are, and then as the rests
 text_law : (x y r s : List ℕ) → key_cmp (text_key x r) (text_key y s) ≡ ordering_then (text_cmp x y) (key_cmp r s)
@@ -96,17 +104,27 @@ mutual
   terms_law (cons t ts) nil r s = refl
   terms_law (cons t ts) (cons u us) r s = pair_law _ _ _ _ (term_law t u (terms_key ts r) (terms_key us s)) (terms_law ts us r s)
 
-formula_law : (f g : Formula) (r s : List ℕ) → key_cmp (formula_key f r) (formula_key g s) ≡ ordering_then (formula_cmp f g) (key_cmp r s)
-formula_law (atom a ts) (atom b us) r s = pair_law _ _ _ _ (sym_law a b (terms_key ts r) (terms_key us s)) (terms_law ts us r s)
-formula_law top top r s = refl
-formula_law bot bot r s = refl
-formula_law (not f) (not g) r s = formula_law f g r s
-formula_law (and f g) (and h k) r s = pair_law _ _ _ _ (formula_law f h (formula_key g r) (formula_key k s)) (formula_law g k r s)
-formula_law (or f g) (or h k) r s = pair_law _ _ _ _ (formula_law f h (formula_key g r) (formula_key k s)) (formula_law g k r s)
-formula_law (imp f g) (imp h k) r s = pair_law _ _ _ _ (formula_law f h (formula_key g r) (formula_key k s)) (formula_law g k r s)
-formula_law (all f) (all g) r s = formula_law f g r s
-formula_law (ex f) (ex g) r s = formula_law f g r s
-formula_law f g r s = refl
+mutual
+  pred_law : (p q : Pred) (r s : List ℕ) → key_cmp (pred_key p r) (pred_key q s) ≡ ordering_then (pred_cmp p q) (key_cmp r s)
+  pred_law (pred a b) (pred c d) r s = pair_law _ _ _ _ (sym_law a c (body_key b r) (body_key d s)) (body_law b d r s)
+
+  body_law : (b c : Body) (r s : List ℕ) → key_cmp (body_key b r) (body_key c s) ≡ ordering_then (body_cmp b c) (key_cmp r s)
+  body_law undefined undefined r s = refl
+  body_law undefined (defined g) r s = refl
+  body_law (defined f) undefined r s = refl
+  body_law (defined f) (defined g) r s = formula_law f g r s
+
+  formula_law : (f g : Formula) (r s : List ℕ) → key_cmp (formula_key f r) (formula_key g s) ≡ ordering_then (formula_cmp f g) (key_cmp r s)
+  formula_law (atom p ts) (atom q us) r s = pair_law _ _ _ _ (pred_law p q (terms_key ts r) (terms_key us s)) (terms_law ts us r s)
+  formula_law top top r s = refl
+  formula_law bot bot r s = refl
+  formula_law (not f) (not g) r s = formula_law f g r s
+  formula_law (and f g) (and h k) r s = pair_law _ _ _ _ (formula_law f h (formula_key g r) (formula_key k s)) (formula_law g k r s)
+  formula_law (or f g) (or h k) r s = pair_law _ _ _ _ (formula_law f h (formula_key g r) (formula_key k s)) (formula_law g k r s)
+  formula_law (imp f g) (imp h k) r s = pair_law _ _ _ _ (formula_law f h (formula_key g r) (formula_key k s)) (formula_law g k r s)
+  formula_law (all f) (all g) r s = formula_law f g r s
+  formula_law (ex f) (ex g) r s = formula_law f g r s
+  formula_law f g r s = refl
 
 -- an order that is that of keys is total
 total_by_key : {K : Type 0} (R : K → K → Ordering) (key : K → List ℕ → List ℕ)
@@ -129,6 +147,9 @@ term_total = total_by_key term_cmp term_key term_law
 
 pub terms_total : IsTotalOrder terms_cmp
 terms_total = total_by_key terms_cmp terms_key terms_law
+
+pub pred_total : IsTotalOrder pred_cmp
+pred_total = total_by_key pred_cmp pred_key pred_law
 
 pub formula_total : IsTotalOrder formula_cmp
 formula_total = total_by_key formula_cmp formula_key formula_law

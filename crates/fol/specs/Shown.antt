@@ -1,5 +1,6 @@
 -- What a stored node means, where its parts mean what they do.
-use Rattle.fol.specs.Syntax.{Term, free, bound, app, Terms, nil, cons, Formula, atom, top, bot, not, and, or, imp, all, ex}
+use Rattle.std.specs.Prelude.{Option, Some, None}
+use Rattle.fol.specs.Syntax.{Term, free, bound, app, Terms, nil, cons, Body, undefined, defined, Formula, atom, top, bot, not, and, or, imp, all, ex}
 use Rattle.fol.specs.declared.syntax.TermNode.{TermNode}
 use Rattle.fol.specs.declared.syntax.TermNode.TheVariants.{Free, Bound, App}
 use Rattle.fol.specs.declared.syntax.TermsLink.{TermsLink}
@@ -18,9 +19,14 @@ abbrev pub terms_of : TermsLink → Terms
 terms_of Nil = nil
 terms_of (Cons t ts) = cons t ts
 
+-- the body that a predicate symbol keeps
+abbrev pub body_of : Option Formula → Body
+body_of None = undefined
+body_of (Some f) = defined f
+
 -- the formula at whose root the node stands
 abbrev pub formula_of : FormulaNode → Formula
-formula_of (Atom s ts) = atom s ts
+formula_of (Atom p ts) = atom p ts
 formula_of Top = top
 formula_of Bot = bot
 formula_of (Not f) = not f

@@ -1,15 +1,16 @@
 //! The tests of well-formedness.
-ghost use Rattle.std.specs.Prelude.{◌≡◌, ◌==◌};
+ghost use Rattle.std.specs.Prelude.{◌≡◌, ◌==◌, nat_le};
 ghost use Rattle.std.specs.List.{list_all};
-ghost use Rattle.fol.specs.Formed.{is_printable as is_in_name, is_name as is_one_name, is_word_byte as is_in_word, is_word as is_one_word, is_formed_var, is_formed_sym, count_terms, is_formed_term_at, are_formed_terms_at, is_formed_at, is_formed_term, is_formed};
+ghost use Rattle.fol.specs.Formed.{is_printable as is_in_name, is_name as is_one_name, is_word_byte as is_in_word, is_word as is_one_word, is_formed_var, is_formed_sym, count_terms, is_formed_term_at, are_formed_terms_at, leading_all, is_formed_pred, is_formed_at, is_formed_term, is_formed};
 
 use crate::numerals::numbered;
 use crate::symbols::{Sym, Var};
-use crate::syntax::{Formula, FormulaNode, Term, TermNode, Terms, TermsLink};
+use crate::syntax::{Formula, FormulaNode, Predicate, Term, TermNode, Terms, TermsLink};
 
 /// Whether the formula is well formed: each bound index is below the number of quantifiers around it, each symbol has as many terms as
 /// its arity says and a name of one or more printable ASCII bytes, and each word variable is a capital letter followed by letters, digits
-/// and `_`, and isn't the text of a numbered variable.
+/// and `_`, and isn't the text of a numbered variable. The body of a predicate symbol is well formed, no variable is free in it, and it
+/// begins with at least as many universal quantifiers as the symbol has arguments.
 pub fn well_formed(formula: &Formula) -> bool
     ensures { result ≡ is_formed formula.now }
 {
@@ -31,6 +32,13 @@ pub fn well_formed_var(var: &Var) -> bool
         Var::Word(text) => is_word(text.as_bytes()),
         Var::Num(_) => true,
     }
+}
+
+/// Whether the predicate symbol is well formed: its name is one or more printable ASCII bytes, and its body is as `well_formed` says.
+pub fn well_formed_predicate(predicate: &Predicate) -> bool
+    ensures { result ≡ is_formed_pred predicate.now }
+{
+    is_predicate_formed(predicate)
 }
 
 /// Whether the symbol's name is one or more printable ASCII bytes.
@@ -118,14 +126,15 @@ fn are_terms_formed(terms: &Terms, depth: u64) -> bool
 }
 
 // `depth` is the number of quantifiers around the formula. It stops at the largest `u64`, which is above every index.
+#[cycle(formula_formed)]
 #[tactic(auto, using(crate::proofs::FormedDepth::next_formed))]
 fn is_formula_formed(formula: &Formula, depth: u64) -> bool
     ensures { result ≡ is_formed_at depth formula.now }
 {
     match formula.node() {
-        FormulaNode::Atom(symbol, terms) => {
-            well_formed_sym(symbol)
-                && has_count(terms, symbol.arity)
+        FormulaNode::Atom(predicate, terms) => {
+            is_predicate_formed(predicate)
+                && has_count(terms, predicate.symbol.arity)
                 && are_terms_formed(terms, depth)
         }
         FormulaNode::Top | FormulaNode::Bot => true,
@@ -138,5 +147,30 @@ fn is_formula_formed(formula: &Formula, depth: u64) -> bool
         FormulaNode::All(body) | FormulaNode::Ex(body) => {
             is_formula_formed(body, depth.saturating_add(1))
         }
+    }
+}
+
+#[cycle(formula_formed)]
+fn is_predicate_formed(predicate: &Predicate) -> bool
+    ensures { result ≡ is_formed_pred predicate.now }
+{
+    let is_body_formed = match &predicate.body {
+        None => true,
+        Some(body) => {
+            is_formula_formed(body, 0)
+                && !body.has_free()
+                && has_leading(body, predicate.symbol.arity)
+        }
+    };
+    is_body_formed && well_formed_sym(&predicate.symbol)
+}
+
+// Whether the formula begins with at least this many universal quantifiers.
+fn has_leading(formula: &Formula, count: u32) -> bool
+    ensures { result ≡ nat_le count (leading_all formula.now) }
+{
+    match formula.node() {
+        FormulaNode::All(body) => count == 0 || has_leading(body, count - 1),
+        _ => count == 0,
     }
 }

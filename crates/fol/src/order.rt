@@ -1,15 +1,15 @@
-//! The order of texts, symbols, variables, terms and formulas. It is total, only equal values tie, and `==` is equality: it looks at
+//! The order of texts, symbols, variables, terms, predicate symbols and formulas. It is total, only equal values tie, and `==` is equality: it looks at
 //! fingerprints first, so that unequal values mostly cost one look.
 ghost use Rattle.std.specs.Prelude.{◌≡◌, ◌↔◌, IsTrue, refl};
 ghost use Rattle.std.specs.Ordering.{eq_by_cmp, as_partial_cmp};
 ghost use Rattle.std.specs.Cmp.{partial_equiv_from_equiv, partial_order_from_total};
 ghost use Rattle.std.proofs.lemmas.Cmp.{eq_by_cmp_equiv};
-ghost use Rattle.fol.specs.Order.{text_cmp, sym_cmp, var_cmp, term_kind as kind_of_term, term_cmp, terms_cmp, formula_kind as kind_of_formula, formula_cmp};
+ghost use Rattle.fol.specs.Order.{text_cmp, sym_cmp, var_cmp, term_kind as kind_of_term, term_cmp, terms_cmp, pred_cmp, formula_kind as kind_of_formula, formula_cmp};
 ghost use Rattle.fol.specs.Shown.{term_of, formula_of};
-ghost use Rattle.fol.specs.OrderLaws.{text_total, sym_total, var_total, term_total, terms_total, formula_total};
+ghost use Rattle.fol.specs.OrderLaws.{text_total, sym_total, var_total, term_total, terms_total, pred_total, formula_total};
 
 use crate::symbols::{Sym, Var};
-use crate::syntax::{Formula, FormulaNode, Term, TermNode, Terms, TermsLink};
+use crate::syntax::{Formula, FormulaNode, Predicate, Term, TermNode, Terms, TermsLink};
 use crate::texts::Text;
 use std::cmp::Ordering;
 
@@ -305,12 +305,61 @@ impl Ord for Formula {
 
     ghost matches_eq = { λ x y. refl };
 
-    #[tactic(auto, using(crate::proofs::OrderTies::formula_order_same))]
     fn cmp(&self, other: &Formula) -> Ordering
         ensures value { result ≡ formula_cmp self.now other.now }
         ensures ties { (result ≡ Ordering.Equal) ↔ (self.now ≡ other.now) }
     {
         compare_formulas(self, other)
+    }
+}
+
+impl PartialEq for Predicate {
+    ghost eq = { eq_by_cmp pred_cmp };
+
+    ghost laws = { partial_equiv_from_equiv (eq_by_cmp_equiv pred_total) };
+
+    #[tactic(auto, using(crate::proofs::OrderTies::pred_equality_same, crate::proofs::Fingerprints::pred_apart))]
+    fn eq(&self, other: &Predicate) -> bool
+        ensures value { result ≡ eq_by_cmp pred_cmp self.now other.now }
+        ensures same { IsTrue result ↔ (self.now ≡ other.now) }
+    {
+        if self.fingerprint() != other.fingerprint() {
+            return false;
+        }
+        self.cmp(other).is_eq()
+    }
+}
+
+impl Eq for Predicate {
+    ghost laws = { eq_by_cmp_equiv pred_total };
+}
+
+impl PartialOrd for Predicate {
+    ghost partial_cmp = { as_partial_cmp pred_cmp };
+
+    ghost laws = { partial_order_from_total pred_total };
+
+    fn partial_cmp(&self, other: &Predicate) -> Option<Ordering> {
+        Some(self.cmp(other))
+    }
+}
+
+/// Predicate symbols are ordered by name, then by the number of arguments, then by their bodies: none comes before some.
+impl Ord for Predicate {
+    ghost cmp = { pred_cmp };
+
+    ghost total = { pred_total };
+
+    ghost matches_partial_cmp = { λ x y. refl };
+
+    ghost matches_eq = { λ x y. refl };
+
+    #[tactic(auto, using(crate::proofs::OrderTies::pred_order_same))]
+    fn cmp(&self, other: &Predicate) -> Ordering
+        ensures value { result ≡ pred_cmp self.now other.now }
+        ensures ties { (result ≡ Ordering.Equal) ↔ (self.now ≡ other.now) }
+    {
+        compare_predicates(self, other)
     }
 }
 
@@ -383,11 +432,27 @@ fn formula_kind(node: &FormulaNode) -> u8
     }
 }
 
+#[cycle(formula_order)]
+fn compare_predicates(a: &Predicate, b: &Predicate) -> Ordering
+    ensures { result ≡ pred_cmp a.now b.now }
+{
+    match a.symbol.cmp(&b.symbol) {
+        Ordering::Equal => match (&a.body, &b.body) {
+            (None, None) => Ordering::Equal,
+            (None, Some(_)) => Ordering::Less,
+            (Some(_), None) => Ordering::Greater,
+            (Some(f), Some(g)) => compare_formulas(f, g),
+        },
+        unequal => unequal,
+    }
+}
+
+#[cycle(formula_order)]
 fn compare_formulas(a: &Formula, b: &Formula) -> Ordering
     ensures { result ≡ formula_cmp a.now b.now }
 {
     match (a.node(), b.node()) {
-        (FormulaNode::Atom(s, ts), FormulaNode::Atom(r, us)) => match s.cmp(r) {
+        (FormulaNode::Atom(p, ts), FormulaNode::Atom(q, us)) => match compare_predicates(p, q) {
             Ordering::Equal => compare_lists(ts, us),
             unequal => unequal,
         },

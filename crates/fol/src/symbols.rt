@@ -6,8 +6,8 @@ use crate::facts::mix;
 use crate::texts::Text;
 use std::alloc::AllocError;
 
-/// A predicate or function symbol: its name with its number of arguments. Two symbols of one name and different numbers of
-/// arguments are different symbols.
+/// A function symbol, or a predicate symbol without its body: a name with a number of arguments. Two symbols of one name and different
+/// numbers of arguments are different symbols.
 #[derive(Drop, Debug)]
 pub struct Sym {
     pub name: Text,

@@ -3,9 +3,9 @@
 //! As a tree none of them has more than 2^26 nodes. What would have more is refused as want of memory where it is made, since a walk
 //! over a formula that sharing keeps small, as over deeply nested equivalences, would otherwise go on for hours.
 ghost use Rattle.std.specs.Prelude.{◌≡◌, ◌+◌, ◌≤◌, ◌^◌, ◌||◌, max, IfOk};
-ghost use Rattle.fol.specs.Syntax.{free, bound, app, nil, cons, atom, top, bot, not, and, or, imp, all, ex};
-ghost use Rattle.fol.specs.Shown.{term_of, terms_of, formula_of};
-ghost use Rattle.fol.specs.Facts.{term_size, terms_size, formula_size, is_term_open, are_terms_open, is_open, term_dangling, terms_dangling, formula_dangling, term_fingerprint, terms_fingerprint, formula_fingerprint, AreFacts, AreTermFacts, AreTermsFacts, AreFormulaFacts};
+ghost use Rattle.fol.specs.Syntax.{free, bound, app, nil, cons, pred, plain, atom, top, bot, not, and, or, imp, all, ex};
+ghost use Rattle.fol.specs.Shown.{term_of, terms_of, body_of, formula_of};
+ghost use Rattle.fol.specs.Facts.{term_size, terms_size, formula_size, is_term_open, are_terms_open, is_open, term_dangling, terms_dangling, formula_dangling, has_body, term_fingerprint, terms_fingerprint, pred_fingerprint, formula_fingerprint, AreFacts, AreTermFacts, AreTermsFacts, AreFormulaFacts};
 ghost use Rattle.fol.specs.Mixing.{mixed};
 
 use crate::facts::{Facts, MAX_SIZE, mix};
@@ -64,7 +64,17 @@ pub enum TermsLink {
     Cons(Term, Terms),
 }
 
-/// A formula, of at most 2^26 nodes as a tree.
+/// A predicate symbol: its name with its number of arguments, and its body where it has one. A well-formed body is a formula without
+/// free variables that begins with a universal quantifier for each argument, the outermost for the first. Predicate symbols are equal
+/// where their names, numbers of arguments and bodies are.
+#[cycle(formula)]
+#[derive(Debug)]
+pub struct Predicate {
+    pub symbol: Sym,
+    pub body: Option<Formula>,
+}
+
+/// A formula, of at most 2^26 nodes as a tree, those of bodies included.
 #[cycle(formula)]
 #[derive(Debug)]
 pub struct Formula {
@@ -83,7 +93,7 @@ struct FormulaCell {
 #[cycle(formula)]
 #[derive(Drop, Debug)]
 pub enum FormulaNode {
-    Atom(Sym, Terms),
+    Atom(Predicate, Terms),
     Top,
     Bot,
     Not(Formula),
@@ -134,6 +144,22 @@ impl Model for Terms {
     ghost size = { terms_nodes };
 }
 
+impl Model for Predicate {
+    ghost use Rattle.fol.specs.Syntax.{Pred as Meaning};
+    ghost use Rattle.fol.specs.Codes.{coded_pred};
+
+    ghost Value = { Meaning };
+
+    ghost coded = { coded_pred };
+
+    ghost use Rattle.fol.specs.Syntax.{pred, pred_nodes};
+    ghost use Rattle.fol.specs.Shown.{body_of};
+
+    ghost view = { λ p. pred p.symbol (body_of p.body) };
+
+    ghost size = { pred_nodes };
+}
+
 impl Model for Formula {
     ghost use Rattle.fol.specs.Syntax.{Formula as Meaning};
     ghost use Rattle.fol.specs.Codes.{coded_formula};
@@ -167,6 +193,15 @@ impl Drop for Terms {
     fn drop(self) {
         let Terms { cell } = self;
         drop(cell);
+    }
+}
+
+impl Drop for Predicate {
+    #[cycle(formula_drop)]
+    fn drop(self) {
+        let Predicate { symbol, body } = self;
+        drop(symbol);
+        drop(body);
     }
 }
 
@@ -343,6 +378,43 @@ impl Terms {
     }
 }
 
+impl Predicate {
+    /// The predicate symbol without a body.
+    pub fn plain(symbol: Sym) -> Predicate
+        ensures { result ≡ plain symbol }
+    {
+        Predicate { symbol, body: None }
+    }
+
+    /// A number in which unequal predicate symbols mostly differ, without a walk over the name or the body.
+    #[tactic(auto, unfolding(crate::specs::Facts::pred_fingerprint, crate::specs::Facts::body_fingerprint))]
+    pub fn fingerprint(&self) -> u64
+        ensures { result ≡ pred_fingerprint self.now }
+    {
+        match &self.body {
+            None => self.symbol.fingerprint(),
+            Some(body) => mix(mix(19, self.symbol.fingerprint()), body.fingerprint()),
+        }
+    }
+
+    /// The same predicate symbol, whose name and body are shared.
+    pub fn copy(&self) -> Result<Predicate, AllocError>
+        ensures { IfOk result (λ p. p ≡ self.now) }
+    {
+        let symbol = self.symbol.copy()?;
+        match &self.body {
+            None => Ok(Predicate { symbol, body: None }),
+            Some(body) => {
+                let body = body.copy()?;
+                Ok(Predicate {
+                    symbol,
+                    body: Some(body),
+                })
+            }
+        }
+    }
+}
+
 impl Formula {
     // Refuses what has more than `MAX_SIZE` nodes as a tree.
     fn of(alloc: Global, node: FormulaNode) -> Result<Formula, AllocError>
@@ -356,11 +428,19 @@ impl Formula {
         Ok(Formula { cell })
     }
 
-    /// The atom of a predicate symbol with these arguments. Whether there are as many as its arity says is for `well_formed` to tell.
+    /// The atom of a predicate symbol without a body, with these arguments. Whether there are as many as its arity says is for
+    /// `well_formed` to tell.
     pub fn atom(alloc: Global, symbol: Sym, terms: Terms) -> Result<Formula, AllocError>
-        ensures { IfOk result (λ f. f ≡ atom symbol terms) }
+        ensures { IfOk result (λ f. f ≡ atom (plain symbol) terms) }
     {
-        Formula::of(alloc, FormulaNode::Atom(symbol, terms))
+        Formula::of(alloc, FormulaNode::Atom(Predicate::plain(symbol), terms))
+    }
+
+    /// The atom of a predicate symbol, with or without a body, with these arguments.
+    pub fn atom_of(alloc: Global, predicate: Predicate, terms: Terms) -> Result<Formula, AllocError>
+        ensures { IfOk result (λ f. f ≡ atom predicate terms) }
+    {
+        Formula::of(alloc, FormulaNode::Atom(predicate, terms))
     }
 
     /// Truth.
@@ -426,7 +506,7 @@ impl Formula {
         &self.cell.node
     }
 
-    /// The number of nodes of the formula as a tree.
+    /// The number of nodes of the formula as a tree, those of the bodies in it included.
     pub fn size(&self) -> u32
         ensures size { result ≡ formula_size self.now }
         ensures within { result ≤ 2 ^ 26 }
@@ -446,6 +526,13 @@ impl Formula {
         ensures { result ≡ formula_dangling self.now }
     {
         self.cell.facts.dangling
+    }
+
+    /// Whether the predicate symbol of some atom has a body.
+    pub fn has_body(&self) -> bool
+        ensures { result ≡ has_body self.now }
+    {
+        self.cell.facts.with_body
     }
 
     /// A number in which unequal formulas mostly differ.
@@ -481,12 +568,14 @@ fn term_facts(node: &TermNode) -> Facts
             size: 1,
             has_free: true,
             dangling: 0,
+            with_body: false,
             fingerprint: mix(1, var.fingerprint()),
         },
         TermNode::Bound(index) => Facts {
             size: 1,
             has_free: false,
             dangling: u64::from(*index) + 1,
+            with_body: false,
             fingerprint: mix(2, u64::from(*index)),
         },
         TermNode::App(symbol, terms) => terms
@@ -513,9 +602,7 @@ fn formula_facts(node: &FormulaNode) -> Facts
     ensures { AreFormulaFacts result (formula_of node.now) }
 {
     match node {
-        FormulaNode::Atom(symbol, terms) => terms
-            .facts()
-            .on_top(mix(mix(6, symbol.fingerprint()), terms.fingerprint())),
+        FormulaNode::Atom(predicate, terms) => atom_facts(predicate, terms),
         FormulaNode::Top => Facts::leaf(mix(7, 0)),
         FormulaNode::Bot => Facts::leaf(mix(8, 0)),
         FormulaNode::Not(body) => body.facts().on_top(mix(9, body.fingerprint())),
@@ -527,9 +614,21 @@ fn formula_facts(node: &FormulaNode) -> Facts
     }
 }
 
+// The facts of an atom: the nodes of a body are nodes of the atom, and no variable is free in it.
+#[tactic(auto, unfolding(crate::specs::Facts::formula_fingerprint))]
+fn atom_facts(predicate: &Predicate, terms: &Terms) -> Facts
+    ensures { AreFormulaFacts result (atom predicate.now terms.now) }
+{
+    let fingerprint = mix(mix(6, predicate.fingerprint()), terms.fingerprint());
+    match &predicate.body {
+        None => terms.facts().on_top(fingerprint),
+        Some(body) => terms.facts().with_body_of(body.size(), fingerprint),
+    }
+}
+
 // The facts of a connective between two formulas.
 fn joined(kind: u64, first: &Formula, second: &Formula) -> Facts
-    ensures { AreFacts result (formula_size first.now + formula_size second.now + 1) (is_open first.now || is_open second.now) (max (formula_dangling first.now) (formula_dangling second.now)) (mixed (mixed kind (formula_fingerprint first.now)) (formula_fingerprint second.now)) }
+    ensures { AreFacts result (formula_size first.now + formula_size second.now + 1) (is_open first.now || is_open second.now) (max (formula_dangling first.now) (formula_dangling second.now)) (has_body first.now || has_body second.now) (mixed (mixed kind (formula_fingerprint first.now)) (formula_fingerprint second.now)) }
 {
     let fingerprint = mix(mix(kind, first.fingerprint()), second.fingerprint());
     first.facts().joined(second.facts(), fingerprint)

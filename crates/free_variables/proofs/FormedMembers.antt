@@ -1,12 +1,11 @@
 -- The free variables and predicate symbols of well-formed values are well formed.
 use Rattle.std.proofs.Common.{◌≡◌, ℕ, ◌+◌, Bool, true, false, ◌==◌, ◌&&◌, ◌||◌, refl, sym, ap, ◌∙◌}
 use Rattle.std.specs.Ordering.{eq_by_cmp}
-use Rattle.fol.specs.declared.symbols.Sym.{Sym}
 use Rattle.fol.specs.declared.symbols.Var.{Var}
-use Rattle.fol.specs.Syntax.{Term, free, bound, app, Terms, nil, cons, Formula, atom, top, bot, not, and, or, imp, all, ex}
-use Rattle.fol.specs.Order.{var_cmp, sym_cmp}
-use Rattle.fol.proofs.OrderTies.{var_equality_same, sym_equality_same}
-use Rattle.fol.specs.Formed.{is_formed_var, is_formed_sym, count_terms, is_formed_term_at, are_formed_terms_at, is_formed_at, IsFormedVar, IsFormedSym}
+use Rattle.fol.specs.Syntax.{Term, free, bound, app, Terms, nil, cons, Pred, pred_symbol, Formula, atom, top, bot, not, and, or, imp, all, ex}
+use Rattle.fol.specs.Order.{var_cmp, pred_cmp}
+use Rattle.fol.proofs.OrderTies.{var_equality_same, pred_equality_same}
+use Rattle.fol.specs.Formed.{is_formed_var, is_formed_pred, count_terms, is_formed_term_at, are_formed_terms_at, is_formed_at, IsFormedVar, IsFormedPred}
 use Rattle.finite.specs.Finite as set
 use Rattle.free_variables.specs.Sets.{AreFormedVars, AreFormedSyms}
 use Rattle.free_variables.specs.Occurrence.{is_free_in, is_free_in_term, is_free_in_terms, is_pred_in, vars_formula, vars_term, preds_formula}
@@ -46,17 +45,17 @@ formed_var_of v (imp f g) k h e = either _ _ (formed_var_of v f k (and_left _ _ 
 formed_var_of v (all f) k h e = formed_var_of v f (k + 1) h e
 formed_var_of v (ex f) k h e = formed_var_of v f (k + 1) h e
 
-pub formed_pred_of : (s : Sym) (f : Formula) (k : ℕ) → is_formed_at k f ≡ true → is_pred_in s f ≡ true → IsFormedSym s
-formed_pred_of s (atom r ts) k h e =
-    ap is_formed_sym ((sym_equality_same s r (eq_by_cmp sym_cmp s r) refl).0 e) ∙ and_left _ _ (and_left (is_formed_sym r && (count_terms ts == r.arity)) _ h)
-formed_pred_of s top k h e = cc
-formed_pred_of s bot k h e = cc
-formed_pred_of s (not f) k h e = formed_pred_of s f k h e
-formed_pred_of s (and f g) k h e = either _ _ (formed_pred_of s f k (and_left _ _ h)) (formed_pred_of s g k (and_right (is_formed_at k f) _ h)) e
-formed_pred_of s (or f g) k h e = either _ _ (formed_pred_of s f k (and_left _ _ h)) (formed_pred_of s g k (and_right (is_formed_at k f) _ h)) e
-formed_pred_of s (imp f g) k h e = either _ _ (formed_pred_of s f k (and_left _ _ h)) (formed_pred_of s g k (and_right (is_formed_at k f) _ h)) e
-formed_pred_of s (all f) k h e = formed_pred_of s f (k + 1) h e
-formed_pred_of s (ex f) k h e = formed_pred_of s f (k + 1) h e
+pub formed_pred_of : (p : Pred) (f : Formula) (k : ℕ) → is_formed_at k f ≡ true → is_pred_in p f ≡ true → IsFormedPred p
+formed_pred_of p (atom q ts) k h e =
+    ap is_formed_pred ((pred_equality_same p q (eq_by_cmp pred_cmp p q) refl).0 e) ∙ and_left _ _ (and_left (is_formed_pred q && (count_terms ts == (pred_symbol q).arity)) _ h)
+formed_pred_of p top k h e = cc
+formed_pred_of p bot k h e = cc
+formed_pred_of p (not f) k h e = formed_pred_of p f k h e
+formed_pred_of p (and f g) k h e = either _ _ (formed_pred_of p f k (and_left _ _ h)) (formed_pred_of p g k (and_right (is_formed_at k f) _ h)) e
+formed_pred_of p (or f g) k h e = either _ _ (formed_pred_of p f k (and_left _ _ h)) (formed_pred_of p g k (and_right (is_formed_at k f) _ h)) e
+formed_pred_of p (imp f g) k h e = either _ _ (formed_pred_of p f k (and_left _ _ h)) (formed_pred_of p g k (and_right (is_formed_at k f) _ h)) e
+formed_pred_of p (all f) k h e = formed_pred_of p f (k + 1) h e
+formed_pred_of p (ex f) k h e = formed_pred_of p f (k + 1) h e
 
 -- the sets
 
@@ -67,4 +66,4 @@ pub formed_term_vars : (t : Term) (k : ℕ) → is_formed_term_at k t ≡ true �
 formed_term_vars t k h v e = formed_var_of_term v t k h (sym (term_var_members t v) ∙ e)
 
 pub formed_preds : (f : Formula) (k : ℕ) → is_formed_at k f ≡ true → AreFormedSyms (preds_formula f set.empty)
-formed_preds f k h s e = formed_pred_of s f k h (sym (pred_members f s) ∙ e)
+formed_preds f k h p e = formed_pred_of p f k h (sym (pred_members f p) ∙ e)

@@ -3,11 +3,10 @@ use Rattle.std.proofs.Common.{◌≡◌, Bool, true, false, ◌||◌, List, ◌+
 use Rattle.std.specs.List.{list_any}
 use Rattle.std.specs.Ordering.{eq_by_cmp}
 use Rattle.std.proofs.lemmas.List.Folds.{list_any-append}
-use Rattle.fol.specs.declared.symbols.Sym.{Sym}
 use Rattle.fol.specs.declared.symbols.Var.{Var}
-use Rattle.fol.specs.Syntax.{Term, free, bound, app, Terms, nil, cons, Formula, atom, top, bot, not, and, or, imp, all, ex}
-use Rattle.fol.specs.Order.{var_cmp, sym_cmp}
-use Rattle.fol.specs.OrderLaws.{var_total, sym_total}
+use Rattle.fol.specs.Syntax.{Term, free, bound, app, Terms, nil, cons, Pred, Formula, atom, top, bot, not, and, or, imp, all, ex}
+use Rattle.fol.specs.Order.{var_cmp, pred_cmp}
+use Rattle.fol.specs.OrderLaws.{var_total, pred_total}
 use Rattle.finite.specs.Finite as set
 use Rattle.finite.proofs.Finite.{has-adds_each, has-empty}
 use Rattle.free_variables.specs.Sets.{VarSet, SymSet}
@@ -48,16 +47,16 @@ is_free-var_list v (imp f g) = in_both _ (var_list f) _ _ _ (is_free-var_list v 
 is_free-var_list v (all f) = is_free-var_list v f
 is_free-var_list v (ex f) = is_free-var_list v f
 
-pub is_pred-pred_list : (s : Sym) (f : Formula) → list_any (eq_by_cmp sym_cmp s) (pred_list f) ≡ is_pred_in s f
-is_pred-pred_list s (atom r ts) = or-false (eq_by_cmp sym_cmp s r)
-is_pred-pred_list s top = refl
-is_pred-pred_list s bot = refl
-is_pred-pred_list s (not f) = is_pred-pred_list s f
-is_pred-pred_list s (and f g) = in_both _ (pred_list f) _ _ _ (is_pred-pred_list s f) (is_pred-pred_list s g)
-is_pred-pred_list s (or f g) = in_both _ (pred_list f) _ _ _ (is_pred-pred_list s f) (is_pred-pred_list s g)
-is_pred-pred_list s (imp f g) = in_both _ (pred_list f) _ _ _ (is_pred-pred_list s f) (is_pred-pred_list s g)
-is_pred-pred_list s (all f) = is_pred-pred_list s f
-is_pred-pred_list s (ex f) = is_pred-pred_list s f
+pub is_pred-pred_list : (p : Pred) (f : Formula) → list_any (eq_by_cmp pred_cmp p) (pred_list f) ≡ is_pred_in p f
+is_pred-pred_list p (atom q ts) = or-false (eq_by_cmp pred_cmp p q)
+is_pred-pred_list p top = refl
+is_pred-pred_list p bot = refl
+is_pred-pred_list p (not f) = is_pred-pred_list p f
+is_pred-pred_list p (and f g) = in_both _ (pred_list f) _ _ _ (is_pred-pred_list p f) (is_pred-pred_list p g)
+is_pred-pred_list p (or f g) = in_both _ (pred_list f) _ _ _ (is_pred-pred_list p f) (is_pred-pred_list p g)
+is_pred-pred_list p (imp f g) = in_both _ (pred_list f) _ _ _ (is_pred-pred_list p f) (is_pred-pred_list p g)
+is_pred-pred_list p (all f) = is_pred-pred_list p f
+is_pred-pred_list p (ex f) = is_pred-pred_list p f
 
 -- a set with the variables of a term has them and what it had
 pub has-vars_term : (t : Term) (vs : VarSet) (v : Var) → set.has (vars_term t vs) v ≡ (is_free_in_term v t || set.has vs v)
@@ -70,9 +69,9 @@ has-vars_formula f vs v =
     has-adds_each var_total vs (var_list f) v ∙ ap (λ b. set.has vs v || b) (is_free-var_list v f) ∙ or_swap (set.has vs v) (is_free_in v f)
 
 -- a set with the predicate symbols of a formula has them and what it had
-pub has-preds_formula : (f : Formula) (ss : SymSet) (s : Sym) → set.has (preds_formula f ss) s ≡ (is_pred_in s f || set.has ss s)
-has-preds_formula f ss s =
-    has-adds_each sym_total ss (pred_list f) s ∙ ap (λ b. set.has ss s || b) (is_pred-pred_list s f) ∙ or_swap (set.has ss s) (is_pred_in s f)
+pub has-preds_formula : (f : Formula) (ss : SymSet) (p : Pred) → set.has (preds_formula f ss) p ≡ (is_pred_in p f || set.has ss p)
+has-preds_formula f ss p =
+    has-adds_each pred_total ss (pred_list f) p ∙ ap (λ b. set.has ss p || b) (is_pred-pred_list p f) ∙ or_swap (set.has ss p) (is_pred_in p f)
 
 -- the set of the variables of a term
 pub term_var_members : (t : Term) (v : Var) → set.has (vars_term t set.empty) v ≡ is_free_in_term v t
@@ -83,5 +82,5 @@ pub free_var_members : (f : Formula) (v : Var) → set.has (vars_formula f set.e
 free_var_members f v = has-vars_formula f set.empty v ∙ ap (λ b. is_free_in v f || b) (has-empty var_cmp v) ∙ or-false (is_free_in v f)
 
 -- the set of the predicate symbols of a formula
-pub pred_members : (f : Formula) (s : Sym) → set.has (preds_formula f set.empty) s ≡ is_pred_in s f
-pred_members f s = has-preds_formula f set.empty s ∙ ap (λ b. is_pred_in s f || b) (has-empty sym_cmp s) ∙ or-false (is_pred_in s f)
+pub pred_members : (f : Formula) (p : Pred) → set.has (preds_formula f set.empty) p ≡ is_pred_in p f
+pred_members f p = has-preds_formula f set.empty p ∙ ap (λ b. is_pred_in p f || b) (has-empty pred_cmp p) ∙ or-false (is_pred_in p f)

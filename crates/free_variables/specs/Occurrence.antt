@@ -4,10 +4,9 @@
 --     vars_formula, preds_formula      a set with those of a formula added
 use Rattle.std.specs.Prelude.{Bool, false, ◌||◌, List, [], ◌∷◌, ◌++◌}
 use Rattle.std.specs.Ordering.{eq_by_cmp}
-use Rattle.fol.specs.declared.symbols.Sym.{Sym}
 use Rattle.fol.specs.declared.symbols.Var.{Var}
-use Rattle.fol.specs.Syntax.{Term, free, bound, app, Terms, nil, cons, Formula, atom, top, bot, not, and, or, imp, all, ex}
-use Rattle.fol.specs.Order.{var_cmp, sym_cmp}
+use Rattle.fol.specs.Syntax.{Term, free, bound, app, Terms, nil, cons, Pred, Formula, atom, top, bot, not, and, or, imp, all, ex}
+use Rattle.fol.specs.Order.{var_cmp, pred_cmp}
 use Rattle.finite.specs.Finite as set
 use Rattle.free_variables.specs.Sets.{VarSet, SymSet}
 
@@ -34,17 +33,17 @@ is_free_in v (imp f g) = is_free_in v f || is_free_in v g
 is_free_in v (all f) = is_free_in v f
 is_free_in v (ex f) = is_free_in v f
 
--- whether s is the predicate symbol of an atom of a formula
-abbrev pub is_pred_in : Sym → Formula → Bool
-is_pred_in s (atom r ts) = eq_by_cmp sym_cmp s r
-is_pred_in s top = false
-is_pred_in s bot = false
-is_pred_in s (not f) = is_pred_in s f
-is_pred_in s (and f g) = is_pred_in s f || is_pred_in s g
-is_pred_in s (or f g) = is_pred_in s f || is_pred_in s g
-is_pred_in s (imp f g) = is_pred_in s f || is_pred_in s g
-is_pred_in s (all f) = is_pred_in s f
-is_pred_in s (ex f) = is_pred_in s f
+-- whether p is the predicate symbol of an atom of a formula, where bodies aren't looked into
+abbrev pub is_pred_in : Pred → Formula → Bool
+is_pred_in p (atom q ts) = eq_by_cmp pred_cmp p q
+is_pred_in p top = false
+is_pred_in p bot = false
+is_pred_in p (not f) = is_pred_in p f
+is_pred_in p (and f g) = is_pred_in p f || is_pred_in p g
+is_pred_in p (or f g) = is_pred_in p f || is_pred_in p g
+is_pred_in p (imp f g) = is_pred_in p f || is_pred_in p g
+is_pred_in p (all f) = is_pred_in p f
+is_pred_in p (ex f) = is_pred_in p f
 
 -- the variables of a term, one for each occurrence
 abbrev mutual
@@ -70,8 +69,8 @@ var_list (all f) = var_list f
 var_list (ex f) = var_list f
 
 -- the predicate symbols of a formula, one for each atom
-abbrev pub pred_list : Formula → List Sym
-pred_list (atom s ts) = s ∷ []
+abbrev pub pred_list : Formula → List Pred
+pred_list (atom p ts) = p ∷ []
 pred_list top = []
 pred_list bot = []
 pred_list (not f) = pred_list f

@@ -2,7 +2,7 @@
 ghost use Rattle.std.specs.Prelude.{◌≡◌, ◌++◌, IfOk};
 ghost use Rattle.free_variables.specs.Occurrence.{is_free_in, is_free_in_term, is_free_in_terms, var_list, var_list_term, var_list_terms, pred_list};
 
-use fol::{Formula, FormulaNode, Sym, Term, TermNode, Terms, TermsLink, Var};
+use fol::{Formula, FormulaNode, Predicate, Term, TermNode, Terms, TermsLink, Var};
 use std::alloc::AllocError;
 
 /// Whether the variable is free in the formula.
@@ -114,13 +114,14 @@ fn push_terms_vars(list: &mut Vec<Var>, terms: &Terms) -> Result<(), AllocError>
     }
 }
 
-/// Appends the predicate symbols of the formula, from the left, one for each atom. After an error some of them may stand there.
-pub fn push_preds(list: &mut Vec<Sym>, formula: &Formula) -> Result<(), AllocError>
+/// Appends the predicate symbols of the formula, from the left, one for each atom, without those inside bodies. After an error some of them may
+/// stand there.
+pub fn push_preds(list: &mut Vec<Predicate>, formula: &Formula) -> Result<(), AllocError>
     ensures { IfOk result (λ _. list.new.items ≡ list.old.items ++ pred_list formula.now) }
 {
     match formula.node() {
-        FormulaNode::Atom(symbol, _) => {
-            list.push(symbol.copy()?)?;
+        FormulaNode::Atom(predicate, _) => {
+            list.push(predicate.copy()?)?;
             Ok(())
         }
         FormulaNode::Top | FormulaNode::Bot => Ok(()),

@@ -1,7 +1,7 @@
 //! The free variables and the predicate symbols of a formula, as sets.
 ghost use Rattle.std.specs.Prelude.{◌≡◌, ℕ, true, IfOk};
-ghost use Rattle.fol.specs.declared.symbols.Sym.{Sym as Symbol};
 ghost use Rattle.fol.specs.declared.symbols.Var.{Var as Variable};
+ghost use Rattle.fol.specs.Syntax.{Pred};
 ghost use Rattle.fol.specs.Formed.{is_formed_at, is_formed_term_at};
 ghost use Rattle.finite.specs.Finite as set;
 ghost use Rattle.free_variables.specs.Sets.{AreFormedVars, AreFormedSyms};
@@ -37,11 +37,11 @@ pub fn term_vars(alloc: Global, term: &Term) -> Result<Vars, AllocError>
     Ok(Vars::from_vec(list))
 }
 
-/// The predicate symbols of a formula's atoms. It takes O(n log n) comparisons for n atoms.
+/// The predicate symbols of a formula's atoms, without those inside bodies. It takes O(n log n) comparisons for n atoms.
 #[tactic(auto, using(crate::proofs::OccurrenceLaws::pred_members, crate::proofs::FormedMembers::formed_preds))]
 pub fn preds(alloc: Global, formula: &Formula) -> Result<Syms, AllocError>
     ensures value { IfOk result (λ symbols. symbols ≡ preds_formula formula.now set.empty) }
-    ensures members { IfOk result (λ symbols. (s : Symbol) → set.has symbols s ≡ is_pred_in s formula.now) }
+    ensures members { IfOk result (λ symbols. (p : Pred) → set.has symbols p ≡ is_pred_in p formula.now) }
     ensures formed { (k : ℕ) → is_formed_at k formula.now ≡ true → IfOk result AreFormedSyms }
 {
     let mut list = Vec::new(alloc);

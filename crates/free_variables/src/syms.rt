@@ -1,36 +1,36 @@
-//! Finite sets of symbols.
+//! Finite sets of predicate symbols.
 ghost use Rattle.std.specs.Prelude.{◌≡◌, ◌↔◌, IsTrue, IfOk, OnOk, OnErr};
 ghost use Rattle.finite.specs.Finite as set;
 ghost use Rattle.finite.specs.Finite.{IsSubset};
 ghost use Rattle.free_variables.specs.Union.{union_of};
 
 use crate::rising::{self, Share};
-use fol::Sym;
+use fol::Predicate;
 use std::alloc::{AllocError, Global};
 use std::marker::Model;
 
-/// A finite set of symbols, kept in rising order.
+/// A finite set of predicate symbols with their bodies, kept in rising order.
 #[derive(Drop, Debug)]
 pub struct Syms {
-    items: Vec<Sym>,
+    items: Vec<Predicate>,
 }
 
 impl Model for Syms {
     ghost use Rattle.finite.specs.Finite as set;
-    ghost use Rattle.fol.specs.Order.{sym_cmp as order};
-    ghost use Rattle.free_variables.specs.Sets.{coded_sym};
+    ghost use Rattle.fol.specs.Order.{pred_cmp as order};
+    ghost use Rattle.fol.specs.Codes.{coded_pred};
 
     ghost Value = { set.Finite order };
 
-    ghost coded = { set.code coded_sym };
+    ghost coded = { set.code coded_pred };
 
     ghost view = { λ a. set.of_rising a.items.items };
 
     ghost invariant = { λ a. set.IsRising order a.items.items };
 }
 
-impl Share for Sym {
-    fn share(&self) -> Result<Sym, AllocError> {
+impl Share for Predicate {
+    fn share(&self) -> Result<Predicate, AllocError> {
         self.copy()
     }
 }
@@ -46,7 +46,7 @@ impl Syms {
     }
 
     /// The set of the symbols of a list, in O(n log n) comparisons and without memory.
-    pub fn from_vec(items: Vec<Sym>) -> Syms
+    pub fn from_vec(items: Vec<Predicate>) -> Syms
         ensures { result ≡ set.adds_each set.empty items.items }
     {
         let mut items = items;
@@ -55,14 +55,14 @@ impl Syms {
     }
 
     /// The symbols in rising order.
-    pub fn as_slice(&self) -> &[Sym]
+    pub fn as_slice(&self) -> &[Predicate]
         ensures { result.now ≡ set.listing self.now }
     {
         self.items.as_slice()
     }
 
     /// The symbols in rising order, as a list of their own.
-    pub fn into_vec(self) -> Vec<Sym>
+    pub fn into_vec(self) -> Vec<Predicate>
         ensures { result.items ≡ set.listing self }
     {
         let Syms { items } = self;
@@ -70,14 +70,14 @@ impl Syms {
     }
 
     /// Whether the symbol is in the set, by binary search.
-    pub fn has(&self, symbol: &Sym) -> bool
+    pub fn has(&self, symbol: &Predicate) -> bool
         ensures { result ≡ set.has self.now symbol.now }
     {
         finite::search(&self.items, symbol).is_ok()
     }
 
     /// Adds a symbol, unless the set has it.
-    pub fn add(&mut self, symbol: Sym) -> Result<(), AllocError>
+    pub fn add(&mut self, symbol: Predicate) -> Result<(), AllocError>
         ensures ok { OnOk result (self.new ≡ set.adds self.old symbol) }
         ensures err { OnErr result (self.new ≡ self.old) }
     {

@@ -5,7 +5,7 @@ use Rattle.std.specs.Prelude.{Ok}
 use Rattle.std.specs.List.{list_all}
 use Rattle.std.specs.Ordering.{eq_by_cmp}
 use Rattle.std.proofs.lemmas.Bool.{both_ways, and_from, true_from_ne_false}
-use Rattle.fol.specs.Syntax.{Formula, nil, atom}
+use Rattle.fol.specs.Syntax.{plain, Formula, nil, atom}
 use Rattle.fol.specs.Order.{formula_cmp}
 use Rattle.fol.specs.OrderLaws.{formula_total}
 use Rattle.finite.specs.Finite as set
@@ -26,10 +26,10 @@ use Rattle.ground_laws.proofs.Derived.{known_step, inputs_known, cut}
 use Rattle.ground_laws.proofs.Decided.{resolves}
 
 abbrev pub p : Formula
-p = atom (record { name = 112 ∷ []; arity = 0 }) nil
+p = atom (plain (record { name = 112 ∷ []; arity = 0 })) nil
 
 abbrev q : Formula
-q = atom (record { name = 113 ∷ []; arity = 0 }) nil
+q = atom (plain (record { name = 113 ∷ []; arity = 0 })) nil
 
 -- a model
 

@@ -5,7 +5,7 @@ use Rattle.std.specs.Ordering.{eq_by_cmp}
 use Rattle.std.specs.Cmp.Lexicographic.{pointwise}
 use Rattle.std.specs.FinMap as fin
 use Rattle.fol.specs.declared.symbols.Var.{Var}
-use Rattle.fol.specs.Syntax.{Term, free, bound, app, Terms, nil, cons, Formula, atom, all}
+use Rattle.fol.specs.Syntax.{Term, free, bound, app, Terms, nil, cons, plain, Formula, atom, all}
 use Rattle.fol.specs.Order.{term_cmp, terms_cmp}
 use Rattle.fol.specs.OrderLaws.{term_total, terms_total}
 use Rattle.finite.specs.Finite as set
@@ -34,7 +34,7 @@ abbrev g : Term → Term → Term
 g t u = app (record { name = 103 ∷ []; arity = 2 }) (cons t (cons u nil))
 
 abbrev p : Term → Term → Formula
-p t u = atom (record { name = 112 ∷ []; arity = 2 }) (cons t (cons u nil))
+p t u = atom (plain (record { name = 112 ∷ []; arity = 2 })) (cons t (cons u nil))
 
 abbrev two : Term → Term → Terms
 two t u = cons t (cons u nil)

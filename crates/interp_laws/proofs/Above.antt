@@ -1,7 +1,7 @@
 -- The parts of a premise: the part of the rule's main formula with the auxiliary formulas, and the other part. What stands in both of the
 -- premise's parts stands in both parts, but for what the rule chooses.
 use Rattle.std.proofs.Common.{◌≡◌, ℕ, true, false, ◌||◌}
-use Rattle.fol.specs.declared.symbols.Sym.{Sym}
+use Rattle.fol.specs.Syntax.{Pred}
 use Rattle.fol.specs.declared.symbols.Var.{Var}
 use Rattle.std.specs.Ordering.{eq_by_cmp}
 use Rattle.fol.specs.Order.{var_cmp}
@@ -47,7 +47,7 @@ second_parts r i s one two x within h =
 
 -- symbols and variables of a part with the auxiliary formulas
 
-pub pred_above : (q : Sym) (r : Rule) (i : ℕ) (s : Sequent) → is_cut r ≡ false → main_stands r s ≡ true → is_pred_in_sequent q (extended s (aux r i)) ≡ true → is_pred_in_sequent q s ≡ true
+pub pred_above : (q : Pred) (r : Rule) (i : ℕ) (s : Sequent) → is_cut r ≡ false → main_stands r s ≡ true → is_pred_in_sequent q (extended s (aux r i)) ≡ true → is_pred_in_sequent q s ≡ true
 pred_above q r i s uncut stands = pred_without_cut q r s i (extended s (aux r i)) uncut (main_of r s stands) (itself (extended s (aux r i)))
 
 -- a variable that is free there is free in the part, unless it stands in the rule's term or is the eigenvariable

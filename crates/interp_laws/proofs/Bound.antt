@@ -3,10 +3,9 @@ use Rattle.std.proofs.Common.{◌≡◌, ℕ, ◌+◌, ◌^◌, ◌<◌, max, tr
 use Rattle.std.specs.List.{list_any}
 use Rattle.std.specs.Ordering.{eq_by_cmp}
 use Rattle.std.proofs.lemmas.Bool.Decides.{nat_tests}
-use Rattle.fol.specs.declared.symbols.Sym.{Sym}
 use Rattle.fol.specs.declared.symbols.Var.{Var}
-use Rattle.fol.specs.Syntax.{Term, free, bound, app, Terms, nil, cons, Formula, atom, top, bot, not as negation, and, or, imp, all, ex}
-use Rattle.fol.specs.Order.{var_cmp, sym_cmp}
+use Rattle.fol.specs.Syntax.{Pred, Term, free, bound, app, Terms, nil, cons, Formula, atom, top, bot, not as negation, and, or, imp, all, ex}
+use Rattle.fol.specs.Order.{var_cmp, pred_cmp}
 use Rattle.fol.specs.Formed.{is_formed, is_formed_at, IsFormedVar}
 use Rattle.free_variables.specs.Occurrence.{is_free_in, is_pred_in}
 use Rattle.free_variables.proofs.OccurrenceLaws.{is_pred-pred_list}
@@ -91,5 +90,5 @@ free_kept w v f h = and_left (is_free_in w f) (not (eq_by_cmp var_cmp w v)) (sym
 pub other_kept : (w v : Var) (f : Formula) → is_free_in w (bind f v) ≡ true → not (eq_by_cmp var_cmp w v) ≡ true
 other_kept w v f h = and_right (is_free_in w f) (not (eq_by_cmp var_cmp w v)) (sym (free-bind_at w v f 0) ∙ h)
 
-pub pred-bind : (q : Sym) (f : Formula) (v : Var) → is_pred_in q (bind f v) ≡ is_pred_in q f
-pred-bind q f v = sym (is_pred-pred_list q (bind f v)) ∙ ap (list_any (eq_by_cmp sym_cmp q)) (preds-bind_at v f 0) ∙ is_pred-pred_list q f
+pub pred-bind : (q : Pred) (f : Formula) (v : Var) → is_pred_in q (bind f v) ≡ is_pred_in q f
+pred-bind q f v = sym (is_pred-pred_list q (bind f v)) ∙ ap (list_any (eq_by_cmp pred_cmp q)) (preds-bind_at v f 0) ∙ is_pred-pred_list q f

@@ -8,7 +8,7 @@ use Rattle.std.specs.declared.cmp.Ordering.{Ordering}
 use Rattle.fol.specs.declared.symbols.Sym.{Sym}
 use Rattle.fol.specs.declared.symbols.Var.{Var}
 use Rattle.fol.specs.declared.symbols.Var.TheVariants.{Word}
-use Rattle.fol.specs.Syntax.{free, bound, nil, cons, Formula, atom, all}
+use Rattle.fol.specs.Syntax.{free, bound, nil, cons, plain, Formula, atom, all}
 use Rattle.fol.specs.Order.{formula_cmp}
 use Rattle.fol.specs.OrderLaws.{var_total, formula_total}
 use Rattle.finite.specs.Finite as set
@@ -51,10 +51,10 @@ abbrev z : Var
 z = Word (90 ∷ [])
 
 abbrev pz : Formula
-pz = atom p (cons (free z) nil)
+pz = atom (plain p) (cons (free z) nil)
 
 abbrev px : Formula
-px = all (atom p (cons (bound 0) nil))
+px = all (atom (plain p) (cons (bound 0) nil))
 
 abbrev one : Sequent
 one = adds_to empty Left px

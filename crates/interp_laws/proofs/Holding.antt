@@ -2,9 +2,8 @@
 use Rattle.std.proofs.Common.{◌≡◌, ℕ, ◌+◌, ◌^◌, ◌<◌, Bool, true, false, not, ◌&&◌, ◌||◌, List, [], ◌∷◌, refl, sym, ap, ◌∙◌}
 use Rattle.std.specs.List.{AllByRecursion, list_any}
 use Rattle.std.specs.Ordering.{eq_by_cmp}
-use Rattle.fol.specs.declared.symbols.Sym.{Sym}
 use Rattle.fol.specs.declared.symbols.Var.{Var}
-use Rattle.fol.specs.Syntax.{free, Formula, all, ex}
+use Rattle.fol.specs.Syntax.{Pred, free, Formula, all, ex}
 use Rattle.fol.specs.Order.{var_cmp}
 use Rattle.fol.specs.Formed.{is_formed, is_formed_at, IsFormedVar}
 use Rattle.finite.specs.Finite as set
@@ -31,7 +30,7 @@ use Rattle.interp_laws.proofs.Proofs.{IsProof, over_part}
 pub record Holds (one two : Sequent) (i : Interpolation) : Type 0 where
   pub first : IsProof one Right i.formula i.first
   pub second : IsProof two Left i.formula i.second
-  pub preds : (q : Sym) (side : Side) → is_pred_in q i.formula ≡ true → is_pred_in_sequent q (part one two side) ≡ true
+  pub preds : (q : Pred) (side : Side) → is_pred_in q i.formula ≡ true → is_pred_in_sequent q (part one two side) ≡ true
   pub closed : is_closed_at 0 i.formula ≡ true
   pub formed : (w : ℕ) → w ≡ 2 ^ 32 → nesting i.formula < w → is_formed i.formula ≡ true
 

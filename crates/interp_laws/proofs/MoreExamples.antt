@@ -4,7 +4,7 @@ use Rattle.std.specs.FinMap as fin
 use Rattle.std.specs.List.{list_any}
 use Rattle.fol.specs.declared.symbols.Var.{Var}
 use Rattle.fol.specs.declared.symbols.Var.TheVariants.{Word, Num}
-use Rattle.fol.specs.Syntax.{free, nil, cons, Formula, atom, bot, not as negation, and, or, all}
+use Rattle.fol.specs.Syntax.{free, nil, cons, plain, Formula, atom, bot, not as negation, and, or, all}
 use Rattle.fol.specs.Order.{formula_cmp}
 use Rattle.fol.specs.OrderLaws.{formula_total}
 use Rattle.finite.specs.Finite as set
@@ -27,10 +27,10 @@ use Rattle.interp_laws.proofs.Examples.{listing_none, listing_one, listing_two}
 use Rattle.interp_laws.proofs.Unrolled.{itp-unrolled}
 
 abbrev p : Formula
-p = atom (record { name = 112 ∷ []; arity = 0 }) nil
+p = atom (plain (record { name = 112 ∷ []; arity = 0 })) nil
 
 abbrev q : Formula
-q = atom (record { name = 113 ∷ []; arity = 0 }) nil
+q = atom (plain (record { name = 113 ∷ []; arity = 0 })) nil
 
 -- the interpolant of `p` on the left and `p & q` on the right, the first part, and `q` on the left, the second, is `$false | ~q`
 module _ (s e f : Sequent) where
@@ -76,7 +76,7 @@ abbrev y : Var
 y = Word (89 ∷ [])
 
 abbrev r : Formula
-r = atom (record { name = 114 ∷ []; arity = 1 }) (cons (free y) nil)
+r = atom (plain (record { name = 114 ∷ []; arity = 1 })) (cons (free y) nil)
 
 abbrev goal : Formula
 goal = all p

@@ -1,7 +1,7 @@
 -- Interpolation of inferences with one premise.
 use Rattle.std.proofs.Common.{◌≡◌, true, false, List, [], ◌∷◌, ◌++◌, sym, subst}
 use Rattle.std.specs.List.{AllByRecursion}
-use Rattle.fol.specs.declared.symbols.Sym.{Sym}
+use Rattle.fol.specs.Syntax.{Pred}
 use Rattle.fol.specs.declared.symbols.Var.{Var}
 use Rattle.free_variables.specs.Occurrence.{is_free_in, is_pred_in}
 use Rattle.lk_rules.specs.declared.sequent.Sequent.{Sequent}
@@ -47,7 +47,7 @@ module _ (r : Rule) (one two : Sequent) (last : IsLast r one two Right) (number 
     no_cut = last.no_cut;
   }
 
-  first_preds : (q : Sym) (side : Side) → is_pred_in q i.formula ≡ true → is_pred_in_sequent q (part one two side) ≡ true
+  first_preds : (q : Pred) (side : Side) → is_pred_in q i.formula ≡ true → is_pred_in_sequent q (part one two side) ≡ true
   first_preds q Right e = pred_above q r 0 one last.no_cut last.stands (h.holds.preds q Right e)
   first_preds q Left e = h.holds.preds q Left e
 
@@ -92,7 +92,7 @@ module _ (r : Rule) (one two : Sequent) (last : IsLast r one two Left) (number :
     no_cut = last.no_cut;
   }
 
-  second_preds : (q : Sym) (side : Side) → is_pred_in q i.formula ≡ true → is_pred_in_sequent q (part one two side) ≡ true
+  second_preds : (q : Pred) (side : Side) → is_pred_in q i.formula ≡ true → is_pred_in_sequent q (part one two side) ≡ true
   second_preds q Right e = h.holds.preds q Right e
   second_preds q Left e = pred_above q r 0 two last.no_cut last.stands (h.holds.preds q Left e)
 

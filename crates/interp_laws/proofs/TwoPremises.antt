@@ -1,8 +1,7 @@
 -- Interpolation of inferences with two premises.
 use Rattle.std.proofs.Common.{◌≡◌, ℕ, ◌<◌, max, true, refl, arith}
-use Rattle.fol.specs.declared.symbols.Sym.{Sym}
 use Rattle.fol.specs.declared.symbols.Var.{Var}
-use Rattle.fol.specs.Syntax.{Formula, and, or}
+use Rattle.fol.specs.Syntax.{Pred, Formula, and, or}
 use Rattle.fol.specs.Formed.{is_formed}
 use Rattle.free_variables.specs.Occurrence.{is_free_in, is_free_in_term, is_pred_in}
 use Rattle.substitution.specs.Instance.{nesting}
@@ -75,7 +74,7 @@ module _ (r : Rule) (one two : Sequent) (last : IsLast r one two Right) (number 
       (record { shape = refl; stands = stands_left two disjunction; eigenvariable = refl; no_cut = refl })
       refl refl refl (λ formed. formed) (λ formed. and_left _ _ formed) (λ formed. and_right (is_formed i.formula) _ formed) h.holds.second g.holds.second
 
-  first_preds : (q : Sym) (side : Side) → is_pred_in q disjunction ≡ true → is_pred_in_sequent q (part one two side) ≡ true
+  first_preds : (q : Pred) (side : Side) → is_pred_in q disjunction ≡ true → is_pred_in_sequent q (part one two side) ≡ true
   first_preds q Right =
       either (is_pred_in q i.formula) (is_pred_in q j.formula)
       (λ e. pred_above q r 0 one last.no_cut last.stands (h.holds.preds q Right e))
@@ -124,7 +123,7 @@ module _ (r : Rule) (one two : Sequent) (last : IsLast r one two Left) (number :
       (λ formed. over_premises r two Left i.formula j.formula i.second j.second (usable_with r one two two Left i.formula j.formula last number last.stands) last.formed number
       h.holds.second g.holds.second (and_left _ _ formed) (and_right (is_formed i.formula) _ formed))
 
-  second_preds : (q : Sym) (side : Side) → is_pred_in q conjunction ≡ true → is_pred_in_sequent q (part one two side) ≡ true
+  second_preds : (q : Pred) (side : Side) → is_pred_in q conjunction ≡ true → is_pred_in_sequent q (part one two side) ≡ true
   second_preds q Right = either (is_pred_in q i.formula) (is_pred_in q j.formula) (h.holds.preds q Right) (g.holds.preds q Right)
   second_preds q Left =
       either (is_pred_in q i.formula) (is_pred_in q j.formula)

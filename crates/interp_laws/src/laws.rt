@@ -1,8 +1,7 @@
 //! The laws of interpolation. Each function does nothing: its contract is the law.
 ghost use Rattle.std.specs.Prelude.{◌≡◌, ℕ, ◌^◌, ◌<◌, ◌≤◌, true, List, ◌++◌, Option};
-ghost use Rattle.fol.specs.declared.symbols.Sym.{Sym as Symbol};
 ghost use Rattle.fol.specs.declared.symbols.Var.{Var as Variable};
-ghost use Rattle.fol.specs.Syntax.{Formula};
+ghost use Rattle.fol.specs.Syntax.{Pred, Formula};
 ghost use Rattle.fol.specs.Formed.{IsFormed};
 ghost use Rattle.finite.specs.Finite as set;
 ghost use Rattle.free_variables.specs.Occurrence.{is_free_in, is_pred_in};
@@ -33,7 +32,7 @@ pub fn proofs()
 /// Each predicate symbol of the interpolant is one of both parts, and each variable that is free in it is free in both. It is well formed
 /// unless 2^32 or more quantifiers stand inside one another in it, which no index would count.
 pub fn interpolants()
-    ensures predicates { (t : Proof) (one two : Conclusion) → HasParts t one two → (q : Symbol) → is_pred_in q (itp t one two).formula ≡ true → (is_pred_in_sequent q one ≡ true) × (is_pred_in_sequent q two ≡ true) }
+    ensures predicates { (t : Proof) (one two : Conclusion) → HasParts t one two → (q : Pred) → is_pred_in q (itp t one two).formula ≡ true → (is_pred_in_sequent q one ≡ true) × (is_pred_in_sequent q two ≡ true) }
     ensures variables { (t : Proof) (one two : Conclusion) → HasParts t one two → (v : Variable) → is_free_in v (itp t one two).formula ≡ true → (is_free_in_sequent v one ≡ true) × (is_free_in_sequent v two ≡ true) }
     ensures formed { (t : Proof) (one two : Conclusion) → HasParts t one two → nesting (itp t one two).formula < 2 ^ 32 → IsFormed (itp t one two).formula }
 {}

@@ -6,16 +6,17 @@ use Rattle.fol.specs.declared.symbols.Var.{Var}
 use Rattle.fol.specs.Syntax.{free}
 use Rattle.substitution.specs.Image.{image_term, IsFormedMap}
 use Rattle.substitution.specs.Maps.{Map}
-use Rattle.proof_trees.specs.Trees.{Tree, IsValid}
+use Rattle.lk_rules.specs.declared.sequent.Sequent.{Sequent}
+use Rattle.proof_trees.specs.Trees.{Tree, concl, IsValid}
 use Rattle.proof_trees.specs.FreeVariables.{is_free_in_tree}
 use Rattle.proof_trees.specs.Substitution.{sub}
 use Rattle.proof_trees.proofs.Agreeing.{kept_tree}
-use Rattle.proof_trees.proofs.Substituted.{sub_valid}
+use Rattle.proof_trees.proofs.Substituted.{concl-sub, sub_valid}
 use Rattle.arena_cells.specs.Items.{Item, tree}
 use Rattle.arena_cells.specs.Standing.{Extends, IsDistinct, HasTree, tree_at}
 use Rattle.arena_cells.proofs.Staying.{is_tree}
-use Rattle.arena_graph.specs.FormedEnds.{HasFormedEnds}
-use Rattle.arena_graph.proofs.FormedImages.{formed_sub}
+use Rattle.arena_graph.specs.FormedEnds.{IsFormedSequent, HasFormedEnd}
+use Rattle.arena_graph.proofs.FormedImages.{formed_image_sequent}
 
 -- the tree stands at n before, and the image at i
 module _ (a b : List Item) (n i : ℕ) (t : Tree) (m : Map) (grown : Extends a b) (proof : HasTree a n t) (image : HasTree b i (sub (tree_at a n) m)) where
@@ -30,5 +31,6 @@ module _ (a b : List Item) (n i : ℕ) (t : Tree) (m : Map) (grown : Extends a b
   pub image_valid : IsFormedMap (fin.get m) → IsValid t → IsValid (tree_at b i)
   image_valid formed valid = subst (λ (u : Tree). IsValid u) (sym image_is) (sub_valid t m formed valid)
 
-  pub image_formed : IsFormedMap (fin.get m) → IsValid t → HasFormedEnds t → HasFormedEnds (tree_at b i)
-  image_formed formed valid ends = subst (λ (u : Tree). HasFormedEnds u) (sym image_is) (formed_sub t m formed valid ends)
+  pub image_formed : IsFormedMap (fin.get m) → IsValid t → HasFormedEnd t → HasFormedEnd (tree_at b i)
+  image_formed formed valid ends =
+      subst (λ (s : Sequent). IsFormedSequent s) (sym (ap concl image_is ∙ concl-sub t m)) (formed_image_sequent m formed (concl t) ends)

@@ -11,7 +11,7 @@ ghost use Rattle.proof_trees.specs.FreeVariables.{is_free_in_tree};
 ghost use Rattle.proof_trees.specs.Substitution.{sub};
 ghost use Rattle.proof_graph.specs.Graphs.{IsOf, history};
 ghost use Rattle.arena_cells.specs.Standing.{Extends, HasTree, tree_at, IsTreeAt};
-ghost use Rattle.arena_graph.specs.FormedEnds.{HasFormedEnds};
+ghost use Rattle.arena_graph.specs.FormedEnds.{HasFormedEnd};
 ghost use Rattle.proof_subst.specs.Benches.{graph_of, pass_in, IsBenchPassOf};
 
 use crate::bench::{Bench, BenchPass};
@@ -32,7 +32,7 @@ fn number_of(
     requires pass_of { IsBenchPassOf bench.now pass.old }
     requires of { IsOf (graph_of bench.now) proof.now }
     ensures tree { IfOk result (λ n. HasTree pass.new.arena n proof.now.tree) }
-    ensures formed { IfOk result (λ _. HasFormedEnds proof.now.tree) }
+    ensures formed { IfOk result (λ _. HasFormedEnd proof.now.tree) }
     ensures graph_stays { pass_in pass.new ≡ pass_in pass.old }
     ensures pass_stays { IsBenchPassOf bench.now pass.new }
 {
@@ -77,7 +77,7 @@ fn proof_at<R: Wait>(
     requires pass_of { IsBenchPassOf bench.now pass.old }
     requires there { IsTreeAt pass.old.arena number }
     requires valid { IsValid (tree_at pass.old.arena number) }
-    requires formed { HasFormedEnds (tree_at pass.old.arena number) }
+    requires formed { HasFormedEnd (tree_at pass.old.arena number) }
     ensures tree { IfOk result (λ r. r.tree ≡ tree_at pass.old.arena number) }
     ensures of { IfOk result (IsOf (graph_of bench.now)) }
     ensures grown { IsPrefix (history (pass_in pass.old)) (history (pass_in pass.new)) }
@@ -100,8 +100,8 @@ fn proof_at<R: Wait>(
 /// number that isn't. Formulas of a side that become equal fall together.
 ///
 /// A proof of whose free variables the map changes none stays the very node that it is, and so does each such subtree. Any other distinct
-/// subtree is done once for each choice of the bindings that it needs, with O(log n) comparisons of numbers among n such tasks, beside the
-/// work on formulas and on sets of variables. The pass keeps what was found of each subtree that was looked at, its free variables and its
+/// subtree is done once for each choice of the bindings that it needs, with one look-up by the numbers, beside the work on formulas and on
+/// sets of variables. The pass keeps what was found of each subtree that was looked at, its free variables and its
 /// images, so a map that leaves a proof as it is costs a few look-ups where an earlier map has been there.
 pub fn substitute<R: Wait>(
     rt: &R,

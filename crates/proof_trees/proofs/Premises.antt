@@ -4,10 +4,9 @@ use Rattle.std.proofs.Common.{◌≡◌, ℕ, zero, suc, Bool, true, false, ◌|
 use Rattle.std.specs.List.{All, list_all, list_any}
 use Rattle.std.specs.Ordering.{eq_by_cmp}
 use Rattle.std.proofs.lemmas.List.Sums.{list_all-from_AllPass}
-use Rattle.fol.specs.declared.symbols.Sym.{Sym}
 use Rattle.fol.specs.declared.symbols.Var.{Var}
-use Rattle.fol.specs.Syntax.{Term, free, Formula, not, and, or, imp, all, ex}
-use Rattle.fol.specs.Order.{var_cmp, sym_cmp, formula_cmp}
+use Rattle.fol.specs.Syntax.{Pred, Term, free, Formula, not, and, or, imp, all, ex}
+use Rattle.fol.specs.Order.{var_cmp, pred_cmp, formula_cmp}
 use Rattle.fol.specs.OrderLaws.{formula_total}
 use Rattle.finite.specs.Finite as set
 use Rattle.finite.proofs.Finite.{has-listing, has-adds_each}
@@ -96,17 +95,17 @@ free_in_auxiliary v (Cut a) zero Right = same (is_free_in v a) _
 free_in_auxiliary v (Cut a) (suc zero) Left = same (is_free_in v a) _
 free_in_auxiliary v r i side = λ e. cc
 
-pred-inst : (q : Sym) (b : Formula) (t : Term) → is_pred_in q (inst b t) ≡ is_pred_in q b
-pred-inst q b t = sym (is_pred-pred_list q (inst b t)) ∙ ap (list_any (eq_by_cmp sym_cmp q)) (preds-inst_at t b 0) ∙ is_pred-pred_list q b
+pred-inst : (q : Pred) (b : Formula) (t : Term) → is_pred_in q (inst b t) ≡ is_pred_in q b
+pred-inst q b t = sym (is_pred-pred_list q (inst b t)) ∙ ap (list_any (eq_by_cmp pred_cmp q)) (preds-inst_at t b 0) ∙ is_pred-pred_list q b
 
 alone : (a : Bool) → (a || false) ≡ true → a ≡ true
 alone true e = refl
 alone false e = e
 
-of_instance : (q : Sym) (b : Formula) (t : Term) → (is_pred_in q (inst b t) || false) ≡ true → is_pred_in q b ≡ true
+of_instance : (q : Pred) (b : Formula) (t : Term) → (is_pred_in q (inst b t) || false) ≡ true → is_pred_in q b ≡ true
 of_instance q b t e = sym (pred-inst q b t) ∙ alone (is_pred_in q (inst b t)) e
 
-pub pred_in_auxiliary : (q : Sym) (r : Rule) (i : ℕ) (side : Side) → list_any (is_pred_in q) (aux r i side) ≡ true → is_pred_in_rule q r ≡ true
+pub pred_in_auxiliary : (q : Pred) (r : Rule) (i : ℕ) (side : Side) → list_any (is_pred_in q) (aux r i side) ≡ true → is_pred_in_rule q r ≡ true
 pred_in_auxiliary q (NegL (not a)) zero Right = alone (is_pred_in q a)
 pred_in_auxiliary q (NegR (not a)) zero Left = alone (is_pred_in q a)
 pred_in_auxiliary q (AndL (and a b)) zero Left = λ e. alone _ (both_of_two (is_pred_in q a) (is_pred_in q b) false e)
@@ -140,7 +139,7 @@ premise_passes p named r s i x w auxiliary =
 pub free_in_premise : (v : Var) (r : Rule) (s : Sequent) (i : ℕ) (x : Sequent) → IsWithin r s i x → is_free_in_sequent v x ≡ true → (is_free_in_sequent v s || is_free_in_rule v r) ≡ true
 free_in_premise v r s i x w = premise_passes (is_free_in v) (is_free_in_rule v r) r s i x w (free_in_auxiliary v r i)
 
-pub pred_in_premise : (q : Sym) (r : Rule) (s : Sequent) (i : ℕ) (x : Sequent) → IsWithin r s i x → is_pred_in_sequent q x ≡ true → (is_pred_in_sequent q s || is_pred_in_rule q r) ≡ true
+pub pred_in_premise : (q : Pred) (r : Rule) (s : Sequent) (i : ℕ) (x : Sequent) → IsWithin r s i x → is_pred_in_sequent q x ≡ true → (is_pred_in_sequent q s || is_pred_in_rule q r) ≡ true
 pred_in_premise q r s i x w = premise_passes (is_pred_in q) (is_pred_in_rule q r) r s i x w (pred_in_auxiliary q r i)
 
 -- the formula that a rule names, unless it is a cut, is a main formula
@@ -192,7 +191,7 @@ free_without_cut v r s i x n stands w h =
     (or_more (passes (is_free_in v) (formula_of r)) (is_chosen v r) (is_free_in_sequent v s) (is_chosen v r) (main_stands_in (is_free_in v) r s n stands) (λ e. e))
     (free_in_premise v r s i x w h)
 
-pub pred_without_cut : (q : Sym) (r : Rule) (s : Sequent) (i : ℕ) (x : Sequent) → is_cut r ≡ false → ((side : Side) → All (λ f. set.has (side_of s side) f ≡ true) (main r side)) → IsWithin r s i x
+pub pred_without_cut : (q : Pred) (r : Rule) (s : Sequent) (i : ℕ) (x : Sequent) → is_cut r ≡ false → ((side : Side) → All (λ f. set.has (side_of s side) f ≡ true) (main r side)) → IsWithin r s i x
     → is_pred_in_sequent q x ≡ true → is_pred_in_sequent q s ≡ true
 pred_without_cut q r s i x n stands w h =
     or_same (is_pred_in_sequent q s) (is_pred_in_rule q r) (main_stands_in (is_pred_in q) r s n stands) (pred_in_premise q r s i x w h)
@@ -212,8 +211,8 @@ module _ (r : Rule) (s : Sequent) (n : ℕ) (first second : Option Sequent) (row
   pub free_in_premises_without_cut : (v : Var) → is_cut r ≡ false → ArePremises first second (λ x. is_free_in_sequent v x ≡ true → (is_free_in_sequent v s || is_chosen v r) ≡ true)
   free_in_premises_without_cut v none = on_premises _ r s n first second row (λ i x. free_without_cut v r s i x none row.main_formula)
 
-  pub preds_in_premises : (q : Sym) → ArePremises first second (λ x. is_pred_in_sequent q x ≡ true → (is_pred_in_sequent q s || is_pred_in_rule q r) ≡ true)
+  pub preds_in_premises : (q : Pred) → ArePremises first second (λ x. is_pred_in_sequent q x ≡ true → (is_pred_in_sequent q s || is_pred_in_rule q r) ≡ true)
   preds_in_premises q = on_premises _ r s n first second row (pred_in_premise q r s)
 
-  pub preds_in_premises_without_cut : (q : Sym) → is_cut r ≡ false → ArePremises first second (λ x. is_pred_in_sequent q x ≡ true → is_pred_in_sequent q s ≡ true)
+  pub preds_in_premises_without_cut : (q : Pred) → is_cut r ≡ false → ArePremises first second (λ x. is_pred_in_sequent q x ≡ true → is_pred_in_sequent q s ≡ true)
   preds_in_premises_without_cut q none = on_premises _ r s n first second row (λ i x. pred_without_cut q r s i x none row.main_formula)

@@ -2,7 +2,7 @@
 use Rattle.std.specs.Prelude.{Bool, false, ◌||◌, Option, Some, None}
 use Rattle.std.specs.List.{list_any}
 use Rattle.std.specs.Ordering.{eq_by_cmp}
-use Rattle.fol.specs.declared.symbols.Sym.{Sym}
+use Rattle.fol.specs.Syntax.{Pred}
 use Rattle.fol.specs.declared.symbols.Var.{Var}
 use Rattle.fol.specs.Order.{var_cmp}
 use Rattle.finite.specs.Finite as set
@@ -25,9 +25,9 @@ abbrev pub is_free_in_rule : Var → Rule → Bool
 is_free_in_rule v r = passes (is_free_in v) (formula_of r) || is_chosen v r
 
 -- whether s is a predicate symbol of the rule's formula
-abbrev pub is_pred_in_rule : Sym → Rule → Bool
+abbrev pub is_pred_in_rule : Pred → Rule → Bool
 is_pred_in_rule s r = passes (is_pred_in s) (formula_of r)
 
 -- whether s is a predicate symbol of a formula of a sequent
-abbrev pub is_pred_in_sequent : Sym → Sequent → Bool
+abbrev pub is_pred_in_sequent : Pred → Sequent → Bool
 is_pred_in_sequent s e = list_any (is_pred_in s) (set.listing e.left) || list_any (is_pred_in s) (set.listing e.right)

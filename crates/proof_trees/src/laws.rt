@@ -2,11 +2,10 @@
 ghost use Rattle.std.specs.Prelude.{◌≡◌, ◌↔◌, ℕ, true, false, ◌||◌, map, Option, option_map};
 ghost use Rattle.std.specs.FinMap as fin;
 ghost use Rattle.std.specs.List.{All};
-ghost use Rattle.fol.specs.declared.symbols.Sym.{Sym as Symbol};
 ghost use Rattle.fol.specs.declared.symbols.Var.{Var as Variable};
 ghost use Rattle.finite.specs.Finite as set;
 ghost use Rattle.substitution.specs.Closed.{IsClosedMap};
-ghost use Rattle.fol.specs.Syntax.{free};
+ghost use Rattle.fol.specs.Syntax.{Pred, free};
 ghost use Rattle.substitution.specs.Image.{image, image_term, IsFormedMap};
 ghost use Rattle.substitution.specs.Maps.{Map};
 ghost use Rattle.lk_rules.specs.declared.sequent.Side.{Side as Place};
@@ -44,8 +43,8 @@ pub fn free_in_premises()
 
 /// A predicate symbol of a premise is one of the conclusion or of the rule's formula, and without a cut one of the conclusion.
 pub fn predicates_in_premises()
-    ensures any_rule { (q : Symbol) (r : Inference) (s : Conclusion) (n : ℕ) (first second : Option Conclusion) → Row r s n first second → ArePremises first second (λ x. is_pred_in_sequent q x ≡ true → (is_pred_in_sequent q s || is_pred_in_rule q r) ≡ true) }
-    ensures without_cut { (q : Symbol) (r : Inference) (s : Conclusion) (n : ℕ) (first second : Option Conclusion) → Row r s n first second → is_cut r ≡ false → ArePremises first second (λ x. is_pred_in_sequent q x ≡ true → is_pred_in_sequent q s ≡ true) }
+    ensures any_rule { (q : Pred) (r : Inference) (s : Conclusion) (n : ℕ) (first second : Option Conclusion) → Row r s n first second → ArePremises first second (λ x. is_pred_in_sequent q x ≡ true → (is_pred_in_sequent q s || is_pred_in_rule q r) ≡ true) }
+    ensures without_cut { (q : Pred) (r : Inference) (s : Conclusion) (n : ℕ) (first second : Option Conclusion) → Row r s n first second → is_cut r ≡ false → ArePremises first second (λ x. is_pred_in_sequent q x ≡ true → is_pred_in_sequent q s ≡ true) }
 {}
 
 /// The image of a right inference under a map is right, by the rule under the map, with the premises under the map in which the

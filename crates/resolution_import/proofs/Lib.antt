@@ -1,6 +1,6 @@
-pub mod OverClauses
-pub mod Standing
+pub mod KeyShapes
+pub mod Closings
+pub mod Resolvents
 pub mod ClauseLaws
-pub mod LastClause
-pub mod Derived
-pub mod Imported
+pub mod StepLaws
+pub mod Refuted

@@ -1,59 +1,62 @@
--- What the import of a refutation answers.
---     IsClosed      the closures of clauses
---     meant, clauses_in, HasProof      derived clauses with their proofs
---     DerivesClause, DerivesClauses, Imports      what the code answers, beside what it is to answer
-use Rattle.std.specs.Prelude.{◌≡◌, ℕ, true, List, map, Result, Ok, Err}
+-- What the import of a refutation answers, beside what it is to answer.
+--     FindsClause, FindsClauses, Refutes      the clauses of one step, of several, and of a refutation
+--     IsFound      a step derives a clause
+--     Imports      the proof
+use Rattle.std.specs.Prelude.{◌≡◌, ℕ, ◌-◌, List, [], map, length, slice_get, Some, Result, Ok, Err}
 use Rattle.std.specs.List.{All}
-use Rattle.fol.specs.Formed.{IsFormed}
-use Rattle.finite.specs.Finite as set
 use Rattle.lk_rules.specs.declared.sequent.Sequent.{Sequent}
-use Rattle.lk_rules.specs.Sequents.{union_sequent}
-use Rattle.proof_trees.specs.Trees.{Tree, concl}
-use Rattle.proof_graph.specs.declared.graph.Graph.{Graph}
+use Rattle.proof_trees.specs.Trees.{Tree}
 use Rattle.proof_graph.specs.References.{Reference}
-use Rattle.proof_graph.specs.Graphs.{IsOf}
+use Rattle.arena_cells.specs.Items.{Item}
+use Rattle.arena_cells.specs.Standing.{HasSequent, sequent_at, IsSequentAt}
 use Rattle.refutations.specs.declared.clause.Clause.{Clause}
+use Rattle.refutations.specs.declared.step.ResStep.{ResStep}
 use Rattle.refutations.specs.declared.step.ResCause.{ResCause}
-use Rattle.refutations.specs.Clauses.{closure_of, closures}
-use Rattle.refutations.specs.Refutations.{Derived}
-use Rattle.resolution_import.specs.declared.closing.Closed.{Closed}
+use Rattle.refutations.specs.Clauses.{closures}
+use Rattle.refutations.specs.Refutations.{Derived, derives_all, refutation}
 use Rattle.resolution_import.specs.declared.faults.ImportFault.{ImportFault}
 use Rattle.resolution_import.specs.declared.faults.ImportFault.TheVariants as import_fault
 use Rattle.resolution_import.specs.declared.faults.StepFault.{StepFault}
 use Rattle.resolution_import.specs.declared.faults.StepFault.TheVariants as step_fault
-use Rattle.resolution_import.specs.declared.steps.DerivedProof.{DerivedProof}
 
--- these are the closures of the clauses: they are well formed, and stand in the sequent
-pub record IsClosed (cs : List Clause) (c : Closed) : Type 0 where
-  pub each : c.closures.items ≡ map closure_of cs
-  pub formed : All IsFormed c.closures.items
-  pub end : c.end ≡ closures cs
-  pub stand : All (λ f. set.has c.end.left f ≡ true) c.closures.items
+-- the number is that of the clause that a step is to derive, unless memory runs out
+abbrev pub FindsClause : List Item → Result ℕ StepFault → Result Derived ResCause → Type 0
+FindsClause a (Ok n) (Ok d) = HasSequent a n d.clause
+FindsClause a (Ok n) (Err cause) = ⊥
+FindsClause a (Err step_fault.Memory) wanted = Unit {0}
+FindsClause a (Err (step_fault.Cause cause)) wanted = wanted ≡ Err cause
 
--- a derived clause with the tree of its proof
-abbrev pub meant : DerivedProof → Derived
-meant d = record { clause = d.clause; tree = d.proof.tree }
+-- the numbers are those of derived clauses
+pub record AreClausesAt (a : List Item) (ns : List ℕ) (ds : List Derived) : Type 0 where
+  pub there : All (IsSequentAt a) ns
+  pub same : map (sequent_at a) ns ≡ map (λ d. d.clause) ds
 
--- the proof is of the graph, and its end sequent has the clause beside g
-pub record HasProof (graph : Graph) (g : Sequent) (d : DerivedProof) : Type 0 where
-  pub of : IsOf graph d.proof
-  pub end : concl d.proof.tree ≡ union_sequent g d.clause
+-- the numbers, seen by view, are those of the clauses that all steps are to derive, unless memory runs out
+abbrev pub FindsClauses : {X : Type 0} → (X → List ℕ) → List Item → Result X ImportFault → Result (List Derived) (ℕ × ResCause) → Type 0
+FindsClauses view a (Ok ns) (Ok ds) = AreClausesAt a (view ns) ds
+FindsClauses view a (Ok ns) (Err fault) = ⊥
+FindsClauses view a (Err import_fault.Memory) wanted = Unit {0}
+FindsClauses view a (Err (import_fault.Step i cause)) wanted = wanted ≡ Err (i, cause)
 
--- the clauses of derived clauses with their proofs
-abbrev pub clauses_in : List DerivedProof → List Sequent
-clauses_in ds = map (λ d. d.clause) ds
+-- the steps refute the clauses, and the numbers are those of the clauses that they derive
+pub record IsRefuted (a : List Item) (cs : List Clause) (steps : List ResStep) (ns : List ℕ) : Type 0 where
+  pub derived : List Derived
+  pub each : derives_all cs (closures cs) [] 0 steps ≡ Ok derived
+  pub clauses : AreClausesAt a ns derived
+  pub last : Derived
+  pub at : slice_get derived (length steps - 1) ≡ Some last
+  pub whole : refutation cs steps ≡ Ok last.tree
 
--- the clause that a step is to derive, unless memory runs out
-abbrev pub DerivesClause : Result Sequent StepFault → Result Sequent ResCause → Type 0
-DerivesClause (Ok s) wanted = wanted ≡ Ok s
-DerivesClause (Err step_fault.Memory) wanted = Unit {0}
-DerivesClause (Err (step_fault.Cause cause)) wanted = wanted ≡ Err cause
+-- so it is, or there is the first faulty step, unless memory runs out
+abbrev pub Refutes : {X : Type 0} → (X → List ℕ) → List Item → Result X ImportFault → List Clause → List ResStep → Type 0
+Refutes view a (Ok ns) cs steps = IsRefuted a cs steps (view ns)
+Refutes view a (Err import_fault.Memory) cs steps = Unit {0}
+Refutes view a (Err (import_fault.Step i cause)) cs steps = refutation cs steps ≡ Err (i, cause)
 
--- the clauses that all steps are to derive, seen by view, unless memory runs out
-abbrev pub DerivesClauses : {X : Type 0} → (X → List Sequent) → Result X ImportFault → Result (List Sequent) (ℕ × ResCause) → Type 0
-DerivesClauses view (Ok ss) wanted = wanted ≡ Ok (view ss)
-DerivesClauses view (Err import_fault.Memory) wanted = Unit {0}
-DerivesClauses view (Err (import_fault.Step i cause)) wanted = wanted ≡ Err (i, cause)
+-- the step derives this clause
+abbrev pub IsFound : Sequent → Result Derived ResCause → Type 0
+IsFound s (Ok d) = d.clause ≡ s
+IsFound s (Err cause) = ⊥
 
 -- the code answers just what is wanted, unless memory runs out
 abbrev pub Imports : Result Reference ImportFault → Result Tree (ℕ × ResCause) → Type 0

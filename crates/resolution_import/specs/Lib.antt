@@ -1,3 +1,2 @@
+pub mod Standing
 pub mod Importing
-pub mod InputTrees
-pub mod DerivedClauses

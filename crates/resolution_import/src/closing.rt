@@ -3,56 +3,72 @@ ghost use Rattle.std.specs.Prelude.{◌≡◌, IfOk, map};
 ghost use Rattle.std.specs.List.{All};
 ghost use Rattle.fol.specs.Formed.{IsFormed};
 ghost use Rattle.finite.specs.Finite as set;
+ghost use Rattle.arena_cells.specs.Standing.{Extends, HasFormula, HasSequent, formula_at, IsFormulaAt};
+ghost use Rattle.arena_cells.specs.Meaning.{formulas_of};
 ghost use Rattle.refutations.specs.Clauses.{IsClauseOf, closure_of};
-ghost use Rattle.resolution_import.specs.Importing.{IsClosed};
+ghost use Rattle.resolution_import.specs.Standing.{IsClosedAt};
 
-use fol::Formula;
-use lk_rules::{Formulas, Sequent};
+use arena::Arena;
 use refutations::Clause;
 use std::alloc::{AllocError, Global};
 use substitution::close_all;
 
-/// The closures of the clauses: of each one, and as a sequent.
+/// The closures of the clauses, by numbers: of each one, and as a sequent.
 #[derive(Drop)]
 pub(crate) struct Closed {
-    pub closures: Vec<Formula>,
-    pub end: Sequent,
+    pub closures: Vec<u32>,
+    pub end: u32,
+}
+
+// The closure of a clause.
+fn close(arena: &mut Arena, alloc: Global, clause: &Clause) -> Result<u32, AllocError>
+    requires { IsClauseOf clause.now }
+    ensures closure { IfOk result (λ n. HasFormula arena.new n (closure_of clause.now)) }
+    ensures formed { IfOk result (λ _. IsFormed (closure_of clause.now)) }
+    ensures grown { Extends arena.old arena.new }
+{
+    let closure = close_all(alloc, clause.vars.as_slice(), &clause.matrix)?;
+    arena.import_formula(alloc, &closure)
 }
 
 // The closure of each clause.
-fn closures_of(alloc: Global, clauses: &[Clause]) -> Result<Vec<Formula>, AllocError>
+fn close_each(arena: &mut Arena, alloc: Global, clauses: &[Clause]) -> Result<Vec<u32>, AllocError>
     requires { All IsClauseOf clauses.now }
-    ensures value { IfOk result (λ closures. closures.items ≡ map closure_of clauses.now) }
-    ensures formed { IfOk result (λ closures. All IsFormed closures.items) }
+    ensures closures { IfOk result (λ ns. map (formula_at arena.new) ns.items ≡ map closure_of clauses.now) }
+    ensures there { IfOk result (λ ns. All (IsFormulaAt arena.new) ns.items) }
+    ensures formed { IfOk result (λ _. All (λ c. IsFormed (closure_of c)) clauses.now) }
+    ensures grown { Extends arena.old arena.new }
 {
-    let mut closures = Vec::with_capacity(alloc, clauses.len())?;
+    let mut numbers = Vec::with_capacity(alloc, clauses.len())?;
     for clause in clauses {
-        closures.push(close_all(alloc, clause.vars.as_slice(), &clause.matrix)?)?;
+        numbers.push(close(arena, alloc, clause)?)?;
     }
-    Ok(closures)
+    Ok(numbers)
 }
 
-// The set of the formulas of a list.
-fn set_of(alloc: Global, formulas: &[Formula]) -> Result<Formulas, AllocError>
-    requires { All IsFormed formulas.now }
-    ensures { IfOk result (λ all. all ≡ set.adds_each set.empty formulas.now) }
+// The sequent of the formulas on the left, and nothing on the right.
+fn put_left(arena: &mut Arena, alloc: Global, formulas: &[u32]) -> Result<u32, AllocError>
+    requires { All (IsFormulaAt arena.old) formulas.now }
+    ensures sequent { IfOk result (λ n. HasSequent arena.new n (record { left = formulas_of arena.old formulas.now; right = set.empty })) }
+    ensures grown { Extends arena.old arena.new }
 {
-    let mut items = Vec::with_capacity(alloc, formulas.len())?;
-    for formula in formulas {
-        items.push(formula.copy()?)?;
-    }
-    Formulas::from_vec(alloc, items)
+    let left = arena.put_side(alloc, Vec::from_slice(alloc, formulas)?)?;
+    let right = arena.put_side(alloc, Vec::new(alloc))?;
+    arena.put_sequent(alloc, left, right)
 }
 
 /// Closes the clauses.
-pub(crate) fn close_clauses(alloc: Global, clauses: &[Clause]) -> Result<Closed, AllocError>
+pub(crate) fn close_clauses(
+    arena: &mut Arena,
+    alloc: Global,
+    clauses: &[Clause],
+) -> Result<Closed, AllocError>
     requires { All IsClauseOf clauses.now }
-    ensures { IfOk result (IsClosed clauses.now) }
+    ensures closed { IfOk result (IsClosedAt arena.new clauses.now) }
+    ensures formed { IfOk result (λ _. All (λ c. IsFormed (closure_of c)) clauses.now) }
+    ensures grown { Extends arena.old arena.new }
 {
-    let closures = closures_of(alloc, clauses)?;
-    let end = Sequent {
-        left: set_of(alloc, &closures)?,
-        right: Formulas::new(alloc),
-    };
+    let closures = close_each(arena, alloc, clauses)?;
+    let end = put_left(arena, alloc, &closures)?;
     Ok(Closed { closures, end })
 }

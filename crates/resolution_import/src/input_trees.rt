@@ -1,122 +1,104 @@
-//! The proofs of input clauses.
-ghost use Rattle.std.specs.Prelude.{◌≡◌, true, IfOk};
-ghost use mathlib.Core.List.{IsPrefix};
-ghost use Rattle.fol.specs.Formed.{IsFormed};
-ghost use Rattle.finite.specs.Finite as set;
-ghost use Rattle.proof_graph.specs.Graphs.{IsOf, IsPassOf, history};
-ghost use Rattle.refutations.specs.Clauses.{IsClauseOf, literals_of, closure_of};
-ghost use Rattle.refutations.specs.Refutations.{over_literals as literals_tree, over_instances as instances_tree, of_input};
-ghost use Rattle.resolution_import.specs.Importing.{meant};
-ghost use Rattle.resolution_import.specs.InputTrees.{IsOverClause, IsOverClosure};
+//! The proofs of input clauses, by numbers.
+ghost use Rattle.std.specs.Prelude.{◌≡◌, IfOk};
+ghost use Rattle.fol.specs.Syntax.{not};
+ghost use Rattle.lk_rules.specs.declared.sequent.Side.TheVariants.{Left};
+ghost use Rattle.lk_rules.specs.Sequents.{adds_to};
+ghost use Rattle.arena_cells.specs.Standing.{Extends, HasFormula, HasTree, sequent_at, formula_at, IsSequentAt, IsFormulaAt};
+ghost use Rattle.refutations.specs.Refutations.{body_of as body_formula, over_literals as literals_tree, over_instances as instances_tree};
 
-use crate::inferences::{extended, leaf, over_one, over_two};
-use crate::steps::DerivedProof;
-use fol::{Formula, FormulaNode, Term, Var};
-use lk_rules::{Rule, Sequent, Side};
-use proof_graph::{Graph, GraphPass, ProofRef};
-use refutations::Clause;
+use arena::{Arena, Key, Parts, RuleKey};
+use arena_proofs::inference;
+use fol::Var;
+use lk_rules::Side;
 use std::alloc::{AllocError, Global};
-use std::sync::Wait;
-use substitution::instance;
 
-/// The proof of a sequent that has a disjunction of literals on the left, and its literals on their sides: down to the leaves.
-pub(crate) fn over_literals<R: Wait>(
-    graph: &Graph,
-    rt: &R,
+// The proof of a sequent that has a negated atom on the left, and the atom too.
+fn over_negation(
+    arena: &mut Arena,
     alloc: Global,
-    pass: &mut GraphPass,
-    end: &Sequent,
-    matrix: &Formula,
-) -> Result<ProofRef, AllocError>
-    requires pass_of { IsPassOf graph.now pass.old }
-    requires over { IsOverClause end.now matrix.now }
-    ensures tree { IfOk result (λ r. r.tree ≡ literals_tree end.now matrix.now) }
-    ensures of { IfOk result (IsOf graph.now) }
-    ensures grown { IsPrefix (history pass.old) (history pass.new) }
-    ensures pass_stays { IsPassOf graph.now pass.new }
+    end: u32,
+    negation: u32,
+    atom: u32,
+) -> Result<u32, AllocError>
+    requires end { IsSequentAt arena.old end }
+    requires negation { IsFormulaAt arena.old negation }
+    requires atom { IsFormulaAt arena.old atom }
+    requires is { formula_at arena.old negation ≡ not (formula_at arena.old atom) }
+    ensures tree { IfOk result (λ n. HasTree arena.new n (literals_tree (sequent_at arena.old end) (formula_at arena.old negation))) }
+    ensures grown { Extends arena.old arena.new }
 {
-    match matrix.node() {
-        FormulaNode::Or(first, second) => {
-            let above = extended(alloc, end, Side::Left, first)?;
-            let left = over_literals(graph, rt, alloc, pass, &above, first)?;
-            let above = extended(alloc, end, Side::Left, second)?;
-            let right = over_literals(graph, rt, alloc, pass, &above, second)?;
-            let rule = Rule::OrL(matrix.copy()?);
-            over_two(graph, rt, alloc, pass, rule, end, (left, right))
+    let above = arena.sequent_with(alloc, end, Side::Right, atom)?;
+    let axiom = inference(arena, alloc, RuleKey::Ax(atom), above, Parts::Zero)?;
+    let rule = RuleKey::NegL(negation);
+    inference(arena, alloc, rule, end, Parts::One(axiom))
+}
+
+// The proof of a sequent that has a disjunction of literals on the left, and its literals on their sides: down to the leaves.
+#[cycle(over_literals)]
+fn over_literals(arena: &mut Arena, alloc: Global, end: u32, matrix: u32) -> Result<u32, AllocError>
+    requires end { IsSequentAt arena.old end }
+    requires matrix { IsFormulaAt arena.old matrix }
+    ensures tree { IfOk result (λ n. HasTree arena.new n (literals_tree (sequent_at arena.old end) (formula_at arena.old matrix))) }
+    ensures grown { Extends arena.old arena.new }
+{
+    let key = arena.key(matrix).copy()?;
+    match &key {
+        Key::Or(first, second) => {
+            let left = over_part(arena, alloc, end, *first)?;
+            let right = over_part(arena, alloc, end, *second)?;
+            let rule = RuleKey::OrL(matrix);
+            inference(arena, alloc, rule, end, Parts::Two(left, right))
         }
-        FormulaNode::Not(atom) => {
-            let above = extended(alloc, end, Side::Right, atom)?;
-            let axiom = leaf(graph, rt, alloc, pass, Rule::Ax(atom.copy()?), &above)?;
-            let rule = Rule::NegL(matrix.copy()?);
-            over_one(graph, rt, alloc, pass, rule, end, axiom)
-        }
-        FormulaNode::Bot => leaf(graph, rt, alloc, pass, Rule::BotL, end),
-        FormulaNode::Atom(..) => leaf(graph, rt, alloc, pass, Rule::Ax(matrix.copy()?), end),
-        FormulaNode::Top
-        | FormulaNode::And(..)
-        | FormulaNode::Imp(..)
-        | FormulaNode::All(..)
-        | FormulaNode::Ex(..) => unreachable!(),
+        Key::Not(atom) => over_negation(arena, alloc, end, matrix, *atom),
+        Key::Bot => inference(arena, alloc, RuleKey::BotL, end, Parts::Zero),
+        _ => inference(arena, alloc, RuleKey::Ax(matrix), end, Parts::Zero),
+    }
+}
+
+// The same, where a part of the disjunction is put on the left.
+#[cycle(over_literals)]
+fn over_part(arena: &mut Arena, alloc: Global, end: u32, part: u32) -> Result<u32, AllocError>
+    requires end { IsSequentAt arena.old end }
+    requires part { IsFormulaAt arena.old part }
+    ensures tree { IfOk result (λ n. HasTree arena.new n (literals_tree (adds_to (sequent_at arena.old end) Left (formula_at arena.old part)) (formula_at arena.old part))) }
+    ensures grown { Extends arena.old arena.new }
+{
+    let above = arena.sequent_with(alloc, end, Side::Left, part)?;
+    over_literals(arena, alloc, above, part)
+}
+
+// The body of a universal formula, or else the formula.
+fn body_of(arena: &Arena, formula: u32) -> u32
+    requires { IsFormulaAt arena.now formula }
+    ensures { HasFormula arena.now result (body_formula (formula_at arena.now formula)) }
+{
+    match arena.key(formula) {
+        Key::All(body) => *body,
+        _ => formula,
     }
 }
 
 /// The proof of a sequent that has a universal closure on the left, and the literals of its matrix on their sides: each variable for
 /// itself, the outermost first.
-pub(crate) fn over_instances<R: Wait>(
-    graph: &Graph,
-    rt: &R,
+pub(crate) fn over_instances(
+    arena: &mut Arena,
     alloc: Global,
-    pass: &mut GraphPass,
-    end: &Sequent,
+    end: u32,
     vars: &[Var],
-    formula: &Formula,
-    matrix: &Formula,
-) -> Result<ProofRef, AllocError>
-    requires pass_of { IsPassOf graph.now pass.old }
-    requires over { IsOverClosure end.now vars.now formula.now matrix.now }
-    ensures tree { IfOk result (λ r. r.tree ≡ instances_tree end.now vars.now formula.now) }
-    ensures of { IfOk result (IsOf graph.now) }
-    ensures grown { IsPrefix (history pass.old) (history pass.new) }
-    ensures pass_stays { IsPassOf graph.now pass.new }
+    formula: u32,
+) -> Result<u32, AllocError>
+    requires end { IsSequentAt arena.old end }
+    requires formula { IsFormulaAt arena.old formula }
+    ensures tree { IfOk result (λ n. HasTree arena.new n (instances_tree (sequent_at arena.old end) vars.now (formula_at arena.old formula))) }
+    ensures grown { Extends arena.old arena.new }
 {
     let Some((var, rest)) = vars.split_first() else {
-        return over_literals(graph, rt, alloc, pass, end, matrix);
+        return over_literals(arena, alloc, end, formula);
     };
-    let FormulaNode::All(body) = formula.node() else {
-        unreachable!()
-    };
-    let term = Term::free(alloc, var.copy()?)?;
-    let next = instance(alloc, body, &term)?;
-    let above = extended(alloc, end, Side::Left, &next)?;
-    let premise = over_instances(graph, rt, alloc, pass, &above, rest, &next, matrix)?;
-    let rule = Rule::AllL(formula.copy()?, term);
-    over_one(graph, rt, alloc, pass, rule, end, premise)
-}
-
-/// A clause itself, over the closures of all clauses. These are its literals.
-pub(crate) fn over_clause<R: Wait>(
-    graph: &Graph,
-    rt: &R,
-    alloc: Global,
-    pass: &mut GraphPass,
-    closures: &Sequent,
-    clause: &Clause,
-    closure: &Formula,
-    own: Sequent,
-) -> Result<DerivedProof, AllocError>
-    requires pass_of { IsPassOf graph.now pass.old }
-    requires clause { IsClauseOf clause.now }
-    requires closure { closure.now ≡ closure_of clause.now }
-    requires formed { IsFormed closure.now }
-    requires stands { set.has closures.now.left closure.now ≡ true }
-    requires own { own ≡ literals_of clause.now.matrix }
-    ensures derived { IfOk result (λ d. meant d ≡ of_input closures.now clause.now) }
-    ensures of { IfOk result (λ d. IsOf graph.now d.proof) }
-    ensures grown { IsPrefix (history pass.old) (history pass.new) }
-    ensures pass_stays { IsPassOf graph.now pass.new }
-{
-    let end = closures.union(alloc, &own)?;
-    let vars = clause.vars.as_slice();
-    let proof = over_instances(graph, rt, alloc, pass, &end, vars, closure, &clause.matrix)?;
-    Ok(DerivedProof { clause: own, proof })
+    let var = arena.import_variable(alloc, var)?;
+    let next = arena.instance(alloc, body_of(arena, formula), var)?;
+    let above = arena.sequent_with(alloc, end, Side::Left, next)?;
+    let premise = over_instances(arena, alloc, above, rest, next)?;
+    let rule = RuleKey::AllL(formula, var);
+    inference(arena, alloc, rule, end, Parts::One(premise))
 }

@@ -5,7 +5,7 @@ use Rattle.fol.specs.declared.symbols.Var.{Var}
 use Rattle.fol.specs.Syntax.{Term, free, bound, app, Terms, nil, cons, Formula, atom, top, bot, not, and, or, imp, all, ex}
 use Rattle.fol.specs.Formed.{is_formed_term_at, are_formed_terms_at, is_formed_at, IsFormedTerm}
 use Rattle.substitution.specs.Closed.{is_closed_term_at, are_closed_terms_at, is_closed_at, IsClosedTerm, IsClosedMap}
-use Rattle.substitution.specs.Instance.{inst_term_at, inst_terms_at}
+use Rattle.substitution.specs.Instance.{inst_term_at, inst_terms_at, inst_at}
 use Rattle.substitution.specs.Image.{IsFormedMap}
 use Rattle.substitution.proofs.Booleans.{and_left, and_right, and_both}
 
@@ -50,3 +50,15 @@ mutual
   inst-closed_terms : (u : Term) (ts : Terms) (j k : ℕ) → j ≤ k → are_closed_terms_at j ts ≡ true → inst_terms_at u k ts ≡ ts
   inst-closed_terms u nil j k le h = refl
   inst-closed_terms u (cons t ts) j k le h = λ i. cons (inst-closed_term u t j k le (and_left _ _ h) i) (inst-closed_terms u ts j k le (and_right (is_closed_term_at j t) _ h) i)
+
+-- a formula without an index of a quantifier outside is its own instance
+pub inst-closed : (u : Term) (f : Formula) (j k : ℕ) → j ≤ k → is_closed_at j f ≡ true → inst_at u k f ≡ f
+inst-closed u (atom p ts) j k le h = ap (atom p) (inst-closed_terms u ts j k le h)
+inst-closed u top j k le h = refl
+inst-closed u bot j k le h = refl
+inst-closed u (not f) j k le h = ap not (inst-closed u f j k le h)
+inst-closed u (and f g) j k le h = λ i. and (inst-closed u f j k le (and_left _ _ h) i) (inst-closed u g j k le (and_right (is_closed_at j f) _ h) i)
+inst-closed u (or f g) j k le h = λ i. or (inst-closed u f j k le (and_left _ _ h) i) (inst-closed u g j k le (and_right (is_closed_at j f) _ h) i)
+inst-closed u (imp f g) j k le h = λ i. imp (inst-closed u f j k le (and_left _ _ h) i) (inst-closed u g j k le (and_right (is_closed_at j f) _ h) i)
+inst-closed u (all f) j k le h = ap all (inst-closed u f (j + 1) (k + 1) (omega arith) h)
+inst-closed u (ex f) j k le h = ap ex (inst-closed u f (j + 1) (k + 1) (omega arith) h)

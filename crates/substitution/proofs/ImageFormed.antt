@@ -1,13 +1,13 @@
 -- Replacing variables by well-formed terms keeps well-formedness.
 use Rattle.std.proofs.Common.{◌≡◌, ℕ, ◌+◌, true, Option, Some, None, IfSome, unwrap_or, refl, ap, arith}
 use Rattle.fol.specs.declared.symbols.Var.{Var}
-use Rattle.fol.specs.Syntax.{Term, free, bound, app, Terms, nil, cons, Formula, atom, top, bot, not, and, or, imp, all, ex}
-use Rattle.fol.specs.Formed.{is_formed_var, is_formed_sym, count_terms, is_formed_term_at, are_formed_terms_at, is_formed_at, IsFormedTerm}
+use Rattle.fol.specs.Syntax.{Term, free, bound, app, Terms, nil, cons, pred_symbol, Formula, atom, top, bot, not, and, or, imp, all, ex}
+use Rattle.fol.specs.Formed.{is_formed_var, is_formed_sym, is_formed_pred, count_terms, is_formed_term_at, are_formed_terms_at, is_formed_at, IsFormedTerm}
 use Rattle.substitution.proofs.Booleans.{and_left, and_right, and_both}
 use Rattle.substitution.proofs.InstanceFormed.{formed_deeper, formed_atom}
 use Rattle.substitution.specs.Image.{image_term, image_terms, image, IsFormedMap}
 
-count-image_terms : (m : Var → Option Term) (ts : Terms) → count_terms (image_terms m ts) ≡ count_terms ts
+pub count-image_terms : (m : Var → Option Term) (ts : Terms) → count_terms (image_terms m ts) ≡ count_terms ts
 count-image_terms m nil = refl
 count-image_terms m (cons t ts) = ap (λ n. n + 1) (count-image_terms m ts)
 
@@ -28,7 +28,7 @@ mutual
       and_both _ _ (formed-image_term m t k map (and_left _ _ h)) (formed-image_terms m ts k map (and_right (is_formed_term_at k t) _ h))
 
 pub formed-image : (m : Var → Option Term) (f : Formula) (k : ℕ) → IsFormedMap m → is_formed_at k f ≡ true → is_formed_at k (image m f) ≡ true
-formed-image m (atom s ts) k map h = formed_atom (is_formed_sym s) _ _ s.arity _ _ (count-image_terms m ts) (formed-image_terms m ts k map) h
+formed-image m (atom p ts) k map h = formed_atom (is_formed_pred p) _ _ (pred_symbol p).arity _ _ (count-image_terms m ts) (formed-image_terms m ts k map) h
 formed-image m top k map h = refl
 formed-image m bot k map h = refl
 formed-image m (not a) k map h = formed-image m a k map h

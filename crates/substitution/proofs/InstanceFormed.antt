@@ -3,9 +3,9 @@ use Rattle.std.proofs.Common.{◌≡◌, ℕ, ◌+◌, ◌^◌, ◌<◌, ◌≤�
 use Rattle.std.proofs.lemmas.Bool.Decides.{nat_tests}
 use Rattle.std.specs.Ordering.{eq_by_cmp}
 use Rattle.fol.specs.declared.symbols.Var.{Var}
-use Rattle.fol.specs.Syntax.{Term, free, bound, app, Terms, nil, cons, Formula, atom, top, bot, not, and, or, imp, all, ex}
+use Rattle.fol.specs.Syntax.{Term, free, bound, app, Terms, nil, cons, pred_symbol, Formula, atom, top, bot, not, and, or, imp, all, ex}
 use Rattle.fol.specs.Order.{var_cmp}
-use Rattle.fol.specs.Formed.{is_formed_sym, count_terms, is_formed_term_at, are_formed_terms_at, is_formed_at, IsFormed, IsFormedTerm}
+use Rattle.fol.specs.Formed.{is_formed_sym, is_formed_pred, count_terms, is_formed_term_at, are_formed_terms_at, is_formed_at, IsFormed, IsFormedTerm}
 use Rattle.substitution.proofs.Booleans.{and_left, and_right, and_both}
 use Rattle.substitution.specs.Instance.{inst_term_at, inst_terms_at, inst_at, inst, bind_term_at, bind_terms_at, bind_at, bind, nesting, IsOpenBody}
 
@@ -56,7 +56,7 @@ mutual
       and_both _ _ (formed-inst_term u t k f (and_left _ _ h)) (formed-inst_terms u ts k f (and_right (is_formed_term_at (k + 1) t) _ h))
 
 pub formed-inst_at : (u : Term) (f : Formula) (k : ℕ) → IsFormedTerm u → is_formed_at (k + 1) f ≡ true → is_formed_at k (inst_at u k f) ≡ true
-formed-inst_at u (atom s ts) k f h = formed_atom (is_formed_sym s) _ _ s.arity _ _ (count-inst_terms u k ts) (formed-inst_terms u ts k f) h
+formed-inst_at u (atom p ts) k f h = formed_atom (is_formed_pred p) _ _ (pred_symbol p).arity _ _ (count-inst_terms u k ts) (formed-inst_terms u ts k f) h
 formed-inst_at u top k f h = refl
 formed-inst_at u bot k f h = refl
 formed-inst_at u (not a) k f h = formed-inst_at u a k f h
@@ -96,8 +96,8 @@ mutual
       and_both _ _ (formed-bind_term v t k l (and_left _ _ h)) (formed-bind_terms v ts k l (and_right (is_formed_term_at k t) _ h))
 
 pub formed-bind_at : (v : Var) (f : Formula) (k : ℕ) → k + nesting f < 2 ^ 32 → is_formed_at k f ≡ true → is_formed_at (k + 1) (bind_at v k f) ≡ true
-formed-bind_at v (atom s ts) k l h =
-    formed_atom (is_formed_sym s) _ _ s.arity _ _ (count-bind_terms v k ts) (formed-bind_terms v ts k (omega arith)) h
+formed-bind_at v (atom p ts) k l h =
+    formed_atom (is_formed_pred p) _ _ (pred_symbol p).arity _ _ (count-bind_terms v k ts) (formed-bind_terms v ts k (omega arith)) h
 formed-bind_at v top k l h = refl
 formed-bind_at v bot k l h = refl
 formed-bind_at v (not a) k l h = formed-bind_at v a k l h

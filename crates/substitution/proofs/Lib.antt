@@ -14,3 +14,4 @@ pub mod ShapeLaws
 pub mod ClosingLaws
 pub mod Shut
 pub mod Low
+pub mod Unfoldings

@@ -1,7 +1,8 @@
--- Instances, images and binding keep connectives, quantifiers and predicate symbols.
-use Rattle.std.proofs.Common.{◌≡◌, ℕ, ◌+◌, ◌++◌, Option, refl, ap}
+-- Instances, images and binding keep connectives, quantifiers and predicate symbols with their bodies.
+use Rattle.std.proofs.Common.{◌≡◌, ℕ, ◌+◌, ◌++◌, ◌||◌, Option, refl, ap}
 use Rattle.fol.specs.declared.symbols.Var.{Var}
 use Rattle.fol.specs.Syntax.{Term, Formula, atom, top, bot, not, and, or, imp, all, ex}
+use Rattle.fol.specs.Facts.{has_body}
 use Rattle.free_variables.specs.Grade.{grade_of}
 use Rattle.free_variables.specs.Occurrence.{pred_list}
 use Rattle.substitution.specs.Instance.{inst_at, bind_at}
@@ -78,3 +79,39 @@ preds-bind_at v (or f g) k = λ i. preds-bind_at v f k i ++ preds-bind_at v g k 
 preds-bind_at v (imp f g) k = λ i. preds-bind_at v f k i ++ preds-bind_at v g k i
 preds-bind_at v (all f) k = preds-bind_at v f (k + 1)
 preds-bind_at v (ex f) k = preds-bind_at v f (k + 1)
+
+-- an instance has a symbol with a body where its formula has one
+pub body-inst_at : (u : Term) (f : Formula) (k : ℕ) → has_body (inst_at u k f) ≡ has_body f
+body-inst_at u (atom s ts) k = refl
+body-inst_at u top k = refl
+body-inst_at u bot k = refl
+body-inst_at u (not f) k = body-inst_at u f k
+body-inst_at u (and f g) k = λ i. body-inst_at u f k i || body-inst_at u g k i
+body-inst_at u (or f g) k = λ i. body-inst_at u f k i || body-inst_at u g k i
+body-inst_at u (imp f g) k = λ i. body-inst_at u f k i || body-inst_at u g k i
+body-inst_at u (all f) k = body-inst_at u f (k + 1)
+body-inst_at u (ex f) k = body-inst_at u f (k + 1)
+
+-- an image has one where the formula has one
+pub body-image : (m : Var → Option Term) (f : Formula) → has_body (image m f) ≡ has_body f
+body-image m (atom s ts) = refl
+body-image m top = refl
+body-image m bot = refl
+body-image m (not f) = body-image m f
+body-image m (and f g) = λ i. body-image m f i || body-image m g i
+body-image m (or f g) = λ i. body-image m f i || body-image m g i
+body-image m (imp f g) = λ i. body-image m f i || body-image m g i
+body-image m (all f) = body-image m f
+body-image m (ex f) = body-image m f
+
+-- binding keeps them
+pub body-bind_at : (v : Var) (f : Formula) (k : ℕ) → has_body (bind_at v k f) ≡ has_body f
+body-bind_at v (atom s ts) k = refl
+body-bind_at v top k = refl
+body-bind_at v bot k = refl
+body-bind_at v (not f) k = body-bind_at v f k
+body-bind_at v (and f g) k = λ i. body-bind_at v f k i || body-bind_at v g k i
+body-bind_at v (or f g) k = λ i. body-bind_at v f k i || body-bind_at v g k i
+body-bind_at v (imp f g) k = λ i. body-bind_at v f k i || body-bind_at v g k i
+body-bind_at v (all f) k = body-bind_at v f (k + 1)
+body-bind_at v (ex f) k = body-bind_at v f (k + 1)

@@ -5,3 +5,4 @@ pub mod Sharing
 pub mod Maps
 pub mod Closing
 pub mod Restriction
+pub mod Unfolding

@@ -24,7 +24,6 @@ pub fn instance(alloc: Global, body: &Formula, term: &Term) -> Result<Formula, A
 }
 
 /// Whether `formula` is the instance of the body by the term.
-#[tactic(auto, using(fol::proofs::OrderTies::formula_equality_same))]
 pub fn is_instance(body: &Formula, term: &Term, formula: &Formula) -> bool
     requires { IsOpenBody body.now }
     ensures value { result ≡ eq_by_cmp formula_cmp (inst body.now term.now) formula.now }

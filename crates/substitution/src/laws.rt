@@ -1,17 +1,19 @@
 //! The laws of substitution. Each function does nothing: its contract is the law.
-ghost use Rattle.std.specs.Prelude.{◌≡◌, ℕ, ◌+◌, ◌^◌, ◌<◌, true, false, not, ◌||◌, ◌&&◌, Option, None};
+ghost use Rattle.std.specs.Prelude.{◌≡◌, ℕ, ◌+◌, ◌^◌, ◌<◌, true, false, not, ◌||◌, ◌&&◌, ◌≤◌, Option, None, IfSome, option_map};
 ghost use Rattle.std.specs.FinMap as fin;
 ghost use Rattle.std.specs.Ordering.{eq_by_cmp};
 ghost use Rattle.fol.specs.declared.symbols.Var.{Var as Variable};
 ghost use Rattle.fol.specs.Syntax.{Term, Formula, free};
 ghost use Rattle.fol.specs.Order.{var_cmp};
-ghost use Rattle.fol.specs.Formed.{is_formed_at, is_formed_term_at, IsFormedTerm};
+ghost use Rattle.fol.specs.Formed.{is_formed_at, is_formed_term_at, IsFormedTerm, IsFormed};
+ghost use Rattle.fol.specs.Facts.{has_body};
 ghost use Rattle.free_variables.specs.Grade.{grade_of};
 ghost use Rattle.free_variables.specs.Occurrence.{is_free_in, is_free_in_term, pred_list};
 ghost use Rattle.substitution.specs.Closed.{is_closed_at, is_closed_term_at, IsClosedTerm, IsClosedMap};
 ghost use Rattle.substitution.specs.Image.{image, image_term, after, IsFormedMap};
 ghost use Rattle.substitution.specs.Instance.{inst_at, inst, bind_at, nesting};
 ghost use Rattle.substitution.specs.Maps.{Map, only};
+ghost use Rattle.substitution.specs.Unfolding.{unf};
 
 /// The image of an instance is the instance of the image, where the terms of the map have no index.
 pub fn image_of_instance()
@@ -107,4 +109,25 @@ pub fn same_predicates()
     ensures instance { (u : Term) (f : Formula) (k : ℕ) → pred_list (inst_at u k f) ≡ pred_list f }
     ensures image { (m : Variable → Option Term) (f : Formula) → pred_list (image m f) ≡ pred_list f }
     ensures bound { (v : Variable) (f : Formula) (k : ℕ) → pred_list (bind_at v k f) ≡ pred_list f }
+{}
+
+/// Instances, images and binding keep whether the predicate symbol of some atom has a body.
+pub fn same_bodies()
+    ensures instance { (u : Term) (f : Formula) (k : ℕ) → has_body (inst_at u k f) ≡ has_body f }
+    ensures image { (m : Variable → Option Term) (f : Formula) → has_body (image m f) ≡ has_body f }
+    ensures bound { (v : Variable) (f : Formula) (k : ℕ) → has_body (bind_at v k f) ≡ has_body f }
+{}
+
+/// The unfolding of a well-formed atom is well formed, of smaller grade, and has no free variable but those of the atom.
+pub fn unfoldings()
+    ensures formed { (f : Formula) → IsFormed f → IfSome (unf f) IsFormed }
+    ensures grade { (f : Formula) → IfSome (unf f) (λ g. grade_of g + 1 ≤ grade_of f) }
+    ensures free { (v : Variable) (f : Formula) (k : ℕ) → is_formed_at k f ≡ true → IfSome (unf f) (λ g. is_free_in v g ≡ true → is_free_in v f ≡ true) }
+{}
+
+/// The unfolding of an image is the image of the unfolding. Neither a well-formed atom nor its unfolding has an index that an instance
+/// replaces.
+pub fn unfolding_of_image()
+    ensures image { (m : Variable → Option Term) (f : Formula) (k : ℕ) → is_formed_at k f ≡ true → unf (image m f) ≡ option_map (image m) (unf f) }
+    ensures instance { (u : Term) (k : ℕ) (f : Formula) → IsFormed f → unf (inst_at u k f) ≡ option_map (inst_at u k) (unf f) }
 {}

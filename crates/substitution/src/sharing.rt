@@ -99,7 +99,10 @@ pub fn with_arguments(
         return Ok(None);
     };
     match formula.node() {
-        FormulaNode::Atom(symbol, _) => Ok(Some(Formula::atom(alloc, symbol.copy()?, arguments)?)),
+        FormulaNode::Atom(predicate, _) => {
+            let predicate = predicate.copy()?;
+            Ok(Some(Formula::atom_of(alloc, predicate, arguments)?))
+        }
         _ => Ok(None),
     }
 }

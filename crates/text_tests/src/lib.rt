@@ -1,9 +1,11 @@
-//! Tests of lines, sets, substitutions and command lines, against answers that were worked out by hand. What a session can show of texts is in
-//! the files of jobs in `examples/`.
+//! Tests of lines, sets, substitutions, definitions and command lines, against answers that were worked out by hand. What a session can
+//! show of texts is in the files of jobs in `examples/`.
 #![tactic(auto)]
 
 #[cfg(test)]
 mod commands;
+#[cfg(test)]
+mod definitions;
 #[cfg(test)]
 mod lines;
 #[cfg(test)]

@@ -10,7 +10,8 @@ fn crosses_threads<T: Send + Sync>(_value: &T) {}
 // The names of symbols, each with its arity and a space before it.
 fn shown_symbols(alloc: Global, symbols: &Syms) -> Result<Vec<u8>, AllocError> {
     let mut out = Vec::new(alloc);
-    for symbol in symbols.as_slice() {
+    for predicate in symbols.as_slice() {
+        let symbol = &predicate.symbol;
         let arity = symbol.arity;
         out.push(b' ')?;
         out.extend_from_slice(symbol.name.as_bytes())?;

@@ -1,12 +1,22 @@
 -- A text depends on the names of those quantifiers alone that stand around its parts.
 use Rattle.std.proofs.Common.{◌≡◌, ℕ, ◌+◌, ◌-◌, ◌<◌, ◌≤◌, true, ◌&&◌, cond, eqb, List, ◌∷◌, ◌++◌, refl, ap, arith}
 use Rattle.std.specs.Prelude.{nat_lt, codes}
-use Rattle.std.proofs.lemmas.Bool.{and_parts}
+use Rattle.std.proofs.lemmas.Bool.{and_parts, and_from}
 use Rattle.std.proofs.lemmas.Bool.Decides.{nat_tests}
 use Rattle.fol.specs.declared.symbols.Sym.{Sym}
-use Rattle.fol.specs.Syntax.{Term, free, bound, app, Terms, nil, cons, Formula, atom, top, bot, not, and, or, imp, all, ex}
-use Rattle.fol.specs.Formed.{is_formed_sym, is_formed_term_at, are_formed_terms_at, is_formed_at, count_terms}
+use Rattle.fol.specs.Syntax.{Term, free, bound, app, Terms, nil, cons, Pred, pred_symbol, Formula, atom, top, bot, not, and, or, imp, all, ex}
+use Rattle.fol.specs.Formed.{is_formed_sym, is_formed_pred, is_formed_term_at, are_formed_terms_at, is_formed_at, count_terms}
+use Rattle.fol.proofs.FormedPredicates.{formed_symbol}
 use Rattle.tptp_print.specs.Canonical.{name_text, numbered_text, term_text, args_text, more_text, is_equals, is_equality, atom_text, unit_of, left_of_and, left_of_or, negated, head_text, formula_text, quantifier_depth}
+
+-- an atom is well formed as its name with its arguments is, whatever the body
+pub formed_application : (k : ℕ) (p : Pred) (ts : Terms) → (is_formed_pred p && eqb (count_terms ts) (pred_symbol p).arity && are_formed_terms_at k ts) ≡ true
+    → (is_formed_sym (pred_symbol p) && eqb (count_terms ts) (pred_symbol p).arity && are_formed_terms_at k ts) ≡ true
+formed_application k p ts h =
+    let outer = and_parts (is_formed_pred p && eqb (count_terms ts) (pred_symbol p).arity) (are_formed_terms_at k ts) h in
+    let inner = and_parts (is_formed_pred p) (eqb (count_terms ts) (pred_symbol p).arity) outer.0 in
+    and_from (is_formed_sym (pred_symbol p) && eqb (count_terms ts) (pred_symbol p).arity) (are_formed_terms_at k ts)
+    (and_from (is_formed_sym (pred_symbol p)) (eqb (count_terms ts) (pred_symbol p).arity) (formed_symbol p inner.0) inner.1) outer.1
 
 -- the names agree below a depth
 abbrev pub Agree : (ℕ → ℕ) → (ℕ → ℕ) → ℕ → Type 0
@@ -51,12 +61,13 @@ module _ (n m : ℕ → ℕ) (most : ℕ) (same : Agree n m most) where
       let ts = cons t (cons u (cons v vs)) in ap (λ (x : List ℕ). name_text s.name ++ x) (args_agree k le ts (args_of k s ts p))
 
   negated_agrees : (k : ℕ) → k ≤ most → (f : Formula) (x y : List ℕ) → is_formed_at k f ≡ true → x ≡ y → negated n k f x ≡ negated m k f y
-  negated_agrees k le (atom s ts) x y p e = λ i. cond (is_equality s ts) (atom_agrees k le (codes " != ") s ts p i) (126 ∷ e i)
+  negated_agrees k le (atom q ts) x y p e =
+      λ i. cond (is_equality (pred_symbol q) ts) (atom_agrees k le (codes " != ") (pred_symbol q) ts (formed_application k q ts p) i) (126 ∷ e i)
   negated_agrees k le top x y p e = λ i. 126 ∷ e i
   negated_agrees k le f x y p e = λ i. 126 ∷ unit_of f (e i)
 
   pub formula_agrees : (k : ℕ) (f : Formula) → k + quantifier_depth f ≤ most → is_formed_at k f ≡ true → formula_text n k f ≡ formula_text m k f
-  formula_agrees k (atom s ts) le p = atom_agrees k (omega arith) (codes " = ") s ts p
+  formula_agrees k (atom q ts) le p = atom_agrees k (omega arith) (codes " = ") (pred_symbol q) ts (formed_application k q ts p)
   formula_agrees k top le p = refl
   formula_agrees k bot le p = refl
   formula_agrees k (not f) le p = negated_agrees k (omega arith) f _ _ p (formula_agrees k f le p)

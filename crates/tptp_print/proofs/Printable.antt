@@ -10,11 +10,12 @@ use Rattle.std.proofs.lemmas.List.Folds.{list_all-append}
 use Rattle.fol.specs.declared.symbols.Sym.{Sym}
 use Rattle.fol.specs.declared.symbols.Var.{Var}
 use Rattle.fol.specs.declared.symbols.Var.TheVariants.{Word, Num}
-use Rattle.fol.specs.Syntax.{Term, free, bound, app, Terms, nil, cons, Formula, atom, top, bot, not, and, or, imp, all, ex}
+use Rattle.fol.specs.Syntax.{Term, free, bound, app, Terms, nil, cons, pred_symbol, Formula, atom, top, bot, not, and, or, imp, all, ex}
 use Rattle.fol.specs.Formed.{is_printable, is_name, is_word_byte, is_formed_var, is_formed_sym, is_formed_term_at, are_formed_terms_at, is_formed_at, count_terms}
 use Rattle.fol.specs.Numbered.{number_of_text}
 use Rattle.tptp_print.specs.Canonical.{is_lower_word, escaped, quoted, name_text, numbered_text, variable_text, term_text, args_text, more_text, is_equals, is_equality, atom_text, is_binary, is_and, is_or, enclosed, unit_of, left_of_and, left_of_or, negated, head_text, formula_text, canonical, canonical_term}
 use Rattle.finite.specs.Finite as set
+use Rattle.tptp_print.proofs.Agreement.{formed_application}
 use Rattle.free_variables.specs.Occurrence.{vars_formula}
 use Rattle.tptp_print.specs.Choice.{numbers_of, outside}
 
@@ -159,8 +160,9 @@ unit_printable : (f : Formula) (text : List ℕ) → IsPrintable text → IsPrin
 unit_printable f text p = chosen_printable (is_binary f) (enclosed text) text (enclosed_printable text p) p
 
 negated_printable : (names : ℕ → ℕ) (k : ℕ) (f : Formula) (text : List ℕ) → is_formed_at k f ≡ true → IsPrintable text → IsPrintable (negated names k f text)
-negated_printable names k (atom s ts) text p q =
-    chosen_printable (is_equality s ts) (atom_text names k (codes " != ") s ts) (126 ∷ text) (atom_printable names k (codes " != ") s ts refl p) (cons_byte 126 text refl q)
+negated_printable names k (atom r ts) text p q =
+    let s = pred_symbol r in
+    chosen_printable (is_equality s ts) (atom_text names k (codes " != ") s ts) (126 ∷ text) (atom_printable names k (codes " != ") s ts refl (formed_application k r ts p)) (cons_byte 126 text refl q)
 negated_printable names k top text p q = cons_byte 126 text refl q
 negated_printable names k bot text p q = cons_byte 126 text refl q
 negated_printable names k (not f) text p q = cons_byte 126 text refl q
@@ -179,7 +181,7 @@ three : (a b c : List ℕ) → IsPrintable a → IsPrintable b → IsPrintable c
 three a b c p q r = joined (a ++ b) c (joined a b p q) r
 
 pub formula_printable : (names : ℕ → ℕ) (k : ℕ) (f : Formula) → is_formed_at k f ≡ true → IsPrintable (formula_text names k f)
-formula_printable names k (atom s ts) p = atom_printable names k (codes " = ") s ts refl p
+formula_printable names k (atom r ts) p = atom_printable names k (codes " = ") (pred_symbol r) ts refl (formed_application k r ts p)
 formula_printable names k top p = refl
 formula_printable names k bot p = refl
 formula_printable names k (not f) p = negated_printable names k f (formula_text names k f) p (formula_printable names k f p)

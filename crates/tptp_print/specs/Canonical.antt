@@ -8,7 +8,7 @@ use Rattle.std.specs.Fmt.{decimal}
 use Rattle.fol.specs.declared.symbols.Sym.{Sym}
 use Rattle.fol.specs.declared.symbols.Var.{Var}
 use Rattle.fol.specs.declared.symbols.Var.TheVariants.{Word, Num}
-use Rattle.fol.specs.Syntax.{Term, free, bound, app, Terms, nil, cons, Formula, atom, top, bot, not, and, or, imp, all, ex}
+use Rattle.fol.specs.Syntax.{Term, free, bound, app, Terms, nil, cons, pred_symbol, Formula, atom, top, bot, not, and, or, imp, all, ex}
 use Rattle.fol.specs.Formed.{is_word_byte}
 use Rattle.finite.specs.Finite as set
 use Rattle.free_variables.specs.Occurrence.{vars_formula}
@@ -113,15 +113,16 @@ left_of_or f text = if is_or f then text else unit_of f text
 
 -- a negation, from the text of what it negates
 abbrev pub negated : (ℕ → ℕ) → ℕ → Formula → List ℕ → List ℕ
-negated names k (atom s ts) text = if is_equality s ts then atom_text names k (codes " != ") s ts else 126 ∷ text
+negated names k (atom p ts) text = if is_equality (pred_symbol p) ts then atom_text names k (codes " != ") (pred_symbol p) ts else 126 ∷ text
 negated names k f text = 126 ∷ unit_of f text
 
 -- the head of a quantified formula with its variable
 abbrev pub head_text : ℕ → ℕ → List ℕ
 head_text mark n = mark ∷ (91 ∷ (numbered_text n ++ codes "]: "))
 
+-- a formula; a predicate symbol with a body is written as its name
 abbrev pub formula_text : (ℕ → ℕ) → ℕ → Formula → List ℕ
-formula_text names k (atom s ts) = atom_text names k (codes " = ") s ts
+formula_text names k (atom p ts) = atom_text names k (codes " = ") (pred_symbol p) ts
 formula_text names k top = codes "$true"
 formula_text names k bot = codes "$false"
 formula_text names k (not f) = negated names k f (formula_text names k f)

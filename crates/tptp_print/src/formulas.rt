@@ -58,8 +58,8 @@ pub fn push_formula(
     ensures { OnOk result (out.new.items ≡ out.old.items ++ formula_text (slice_index names.now) depth formula.now) }
 {
     match formula.node() {
-        FormulaNode::Atom(symbol, terms) => {
-            push_atom(out, alloc, names, depth, b" = ", symbol, terms)
+        FormulaNode::Atom(predicate, terms) => {
+            push_atom(out, alloc, names, depth, b" = ", &predicate.symbol, terms)
         }
         FormulaNode::Top => out.extend_from_slice(b"$true"),
         FormulaNode::Bot => out.extend_from_slice(b"$false"),
@@ -178,7 +178,8 @@ fn push_negated(
     ensures { OnOk result (out.new.items ≡ out.old.items
         ++ negated (slice_index names.now) depth body.now (formula_text (slice_index names.now) depth body.now)) }
 {
-    if let FormulaNode::Atom(symbol, terms) = body.node() {
+    if let FormulaNode::Atom(predicate, terms) = body.node() {
+        let symbol = &predicate.symbol;
         if is_equality(symbol, terms) {
             return push_atom(out, alloc, names, depth, b" != ", symbol, terms);
         }

@@ -1,6 +1,6 @@
 -- A clause is a formula whose tokens stand where a clause has them.
 use Rattle.std.proofs.Common.{◌≡◌, ℕ, zero, suc, Bool, true, false, List, [], ◌∷◌, ◌⊎◌, inl, inr, Some, None, refl, sym, ◌∙◌}
-use Rattle.fol.specs.Syntax.{Term, app, Terms, Formula, atom, not, or}
+use Rattle.fol.specs.Syntax.{Term, app, Terms, plain, Formula, atom, not, or}
 use Rattle.tptp_tokens.specs.declared.tokens.ChainOperator.{ChainOperator}
 use Rattle.tptp_tokens.specs.declared.tokens.ChainOperator.TheVariants.{And, Or}
 use Rattle.tptp_tokens.specs.declared.tokens.BinaryOperator.{BinaryOperator}
@@ -108,7 +108,7 @@ module _ (lim : Limits) where
   -- what stands behind `~`
   negated_unit : (l : ℕ) (ts us : List Token) (f : Formula) → IsUnit lim l ts f us → accepts Negation ts ≡ true → IsLiteral lim (suc l) (Tilde ∷ ts) (not f) us × Behind us
   negated_unit l ts us f (truth_value l' us' b) p = cc
-  negated_unit l ts us f (predicate l' ts' us' s xs t) p = (negative l' ts' us' (atom s xs) (clauses.predicate l' ts' us' s xs t), inr (inl (sym (term_begins Negative l' ts' us' (app s xs) t) ∙ p)))
+  negated_unit l ts us f (predicate l' ts' us' s xs t) p = (negative l' ts' us' (atom (plain s) xs) (clauses.predicate l' ts' us' s xs t), inr (inl (sym (term_begins Negative l' ts' us' (app s xs) t) ∙ p)))
   negated_unit l ts us f (equality l' ts' us' vs' true s t x y) p = (negative l' ts' vs' (equation true s t) (clauses.equality l' ts' us' vs' s t x y), inr (inl (sym (equation_place Negative l' ts' us' vs' s t x y) ∙ p)))
   negated_unit l ts us f (equality l' ts' us' vs' false s t x y) p = let q : accepts (Atom Negative 0) (Equality false ∷ us') ≡ true = sym (term_begins Negative l' ts' (Equality false ∷ us') s x) ∙ p in cc
   negated_unit l ts us f (negation l' ts' us' g u) p = cc
@@ -118,7 +118,7 @@ module _ (lim : Limits) where
   literal_unit : (l : ℕ) (ts us : List Token) (f : Formula) → IsUnit lim l ts f us → accepts Literal ts ≡ true → IsLiteral lim l ts f us × Behind us
   literal_unit l ts us f (truth_value l' us' true) p = cc
   literal_unit l ts us f (truth_value l' us' false) p = (falsity l' us', inr (inr p))
-  literal_unit l ts us f (predicate l' ts' us' s xs t) p = (positive l' ts' us' (atom s xs) (clauses.predicate l' ts' us' s xs t), inl (sym (term_begins Positive l' ts' us' (app s xs) t) ∙ p))
+  literal_unit l ts us f (predicate l' ts' us' s xs t) p = (positive l' ts' us' (atom (plain s) xs) (clauses.predicate l' ts' us' s xs t), inl (sym (term_begins Positive l' ts' us' (app s xs) t) ∙ p))
   literal_unit l ts us f (equality l' ts' us' vs' true s t x y) p = (positive l' ts' vs' (equation true s t) (clauses.equality l' ts' us' vs' s t x y), inl (sym (equation_place Positive l' ts' us' vs' s t x y) ∙ p))
   literal_unit l ts us f (equality l' ts' us' vs' false s t x y) p =
       (inequality l' ts' us' vs' s t x y, inl (sym (term_place Positive 0 l' us' vs' t y) ∙ (sym (term_begins Positive l' ts' (Equality false ∷ us') s x) ∙ p)))
@@ -162,7 +162,7 @@ module _ (lim : Limits) where
   mutual
     clause_unit : (l : ℕ) (ts us : List Token) (f : Formula) → IsUnit lim l ts f us → accepts Clause ts ≡ true → UnitIs l ts f us
     clause_unit l ts us f (truth_value l' us' b) p = inl (literal_unit l' (Truth b ∷ us') us' f (truth_value l' us' b) p)
-    clause_unit l ts us f (predicate l' ts' us' s xs t) p = inl (literal_unit l' ts' us' (atom s xs) (predicate l' ts' us' s xs t) (sym (term_clause l' ts' us' (app s xs) t) ∙ p))
+    clause_unit l ts us f (predicate l' ts' us' s xs t) p = inl (literal_unit l' ts' us' (atom (plain s) xs) (predicate l' ts' us' s xs t) (sym (term_clause l' ts' us' (app s xs) t) ∙ p))
     clause_unit l ts us f (equality l' ts' us' vs' sign s t x y) p = inl (literal_unit l' ts' vs' (equation sign s t) (equality l' ts' us' vs' sign s t x y) (sym (term_clause l' ts' (Equality sign ∷ us') s x) ∙ p))
     clause_unit l ts us f (negation l' ts' us' g u) p = inl (negated_unit l' ts' us' g u p)
     clause_unit l ts us f (group l' ts' us' g u) p = let one = clause_formula l' ts' (Close ∷ us') g u p in inr (clauses.group l' ts' us' g one.0, clause_close us' one.1)

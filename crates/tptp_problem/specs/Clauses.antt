@@ -2,7 +2,7 @@
 -- means f, in which at most l levels are open, and that us follow it; the others likewise.
 use Rattle.std.specs.Prelude.{ℕ, suc, ◌≤◌, true, false, List, ◌∷◌}
 use Rattle.fol.specs.declared.symbols.Sym.{Sym}
-use Rattle.fol.specs.Syntax.{Term, app, Terms, Formula, atom, bot, not, or}
+use Rattle.fol.specs.Syntax.{Term, app, Terms, plain, Formula, atom, bot, not, or}
 use Rattle.tptp_tokens.specs.declared.tokens.ChainOperator.TheVariants.{Or}
 use Rattle.tptp_tokens.specs.declared.tokens.Token.{Token}
 use Rattle.tptp_tokens.specs.declared.tokens.Token.TheVariants.{Truth, Equality, Negation, Chain, Open, Close}
@@ -12,7 +12,7 @@ use Rattle.tptp_read.specs.Grammar.{IsTerm}
 
 -- natom = NAME args? | term '=' term
 pub data IsAtom (lim : Limits) : ℕ → List Token → Formula → List Token → Type 0 where
-  predicate : (l : ℕ) (ts us : List Token) (s : Sym) (xs : Terms) → IsTerm lim l ts (app s xs) us → IsAtom lim l ts (atom s xs) us
+  predicate : (l : ℕ) (ts us : List Token) (s : Sym) (xs : Terms) → IsTerm lim l ts (app s xs) us → IsAtom lim l ts (atom (plain s) xs) us
   equality : (l : ℕ) (ts us vs : List Token) (s t : Term) → IsTerm lim l ts s (Equality true ∷ us) → IsTerm lim l us t vs → IsAtom lim l ts (equation true s t) vs
 
 -- lit = '$false' | natom | '~' natom | '~' '(' natom ')' | term '!=' term

@@ -5,6 +5,7 @@ use fol::{Formula, Text};
 use lk_rules::Sequent;
 use std::alloc::{AllocError, Global};
 use std::marker::Model;
+use std::sync::Arc;
 
 /// How the formula of an entry is written: as any formula, or as a clause.
 #[derive(Clone, Copy, PartialEq, Eq, Debug)]
@@ -37,26 +38,10 @@ pub struct Entry {
     pub formula: Formula,
 }
 
-impl Entry {
-    /// The same entry, whose name and formula are shared.
-    pub fn copy(&self) -> Result<Entry, AllocError>
-        ensures { IfOk result (λ copy. copy ≡ self.now) }
-    {
-        let name = self.name.copy()?;
-        let formula = self.formula.copy()?;
-        Ok(Entry {
-            name,
-            language: self.language,
-            role: self.role,
-            formula,
-        })
-    }
-}
-
-/// A list of entries.
+/// A list of entries that cannot be changed and is shared by its copies.
 #[derive(Drop)]
 pub struct Entries {
-    items: Vec<Entry>,
+    list: Arc<Vec<Entry>>,
 }
 
 impl Model for Entries {
@@ -69,33 +54,31 @@ impl Model for Entries {
 
     ghost coded = { coded_list entry.the_row.coded };
 
-    ghost view = { λ a. a.items.items };
+    ghost view = { λ a. a.list.value.items };
 }
 
 impl Entries {
     /// The list of these entries, which are moved and not copied.
-    pub fn from_vec(items: Vec<Entry>) -> Entries
-        ensures { result ≡ items.items }
+    pub fn from_vec(alloc: Global, items: Vec<Entry>) -> Result<Entries, AllocError>
+        ensures { IfOk result (λ entries. entries ≡ items.items) }
     {
-        Entries { items }
+        let list = Arc::new(alloc, items)?;
+        Ok(Entries { list })
     }
 
     /// The entries, in order.
     pub fn as_slice(&self) -> &[Entry]
         ensures { result.now ≡ self.now }
     {
-        self.items.as_slice()
+        self.list.as_slice()
     }
 
-    /// The same list, whose entries are shared.
-    pub fn copy(&self, alloc: Global) -> Result<Entries, AllocError>
+    /// The same list, which is shared.
+    pub fn copy(&self) -> Result<Entries, AllocError>
         ensures { IfOk result (λ copy. copy ≡ self.now) }
     {
-        let mut items = Vec::with_capacity(alloc, self.items.len())?;
-        for entry in &self.items {
-            items.push(entry.copy()?)?;
-        }
-        Ok(Entries { items })
+        let list = Arc::try_clone(&self.list)?;
+        Ok(Entries { list })
     }
 }
 
@@ -108,11 +91,11 @@ pub struct Problem {
 }
 
 impl Problem {
-    /// The same problem, whose entries and formulas are shared.
-    pub fn copy(&self, alloc: Global) -> Result<Problem, AllocError>
+    /// The same problem, whose entries and sequent are shared: it costs three counts.
+    pub fn copy(&self) -> Result<Problem, AllocError>
         ensures { IfOk result (λ copy. copy ≡ self.now) }
     {
-        let entries = self.entries.copy(alloc)?;
+        let entries = self.entries.copy()?;
         let sequent = self.sequent.copy()?;
         Ok(Problem { entries, sequent })
     }

@@ -57,10 +57,10 @@ fn problem_of(alloc: Global, text: &[u8]) -> Result<Problem, ProblemError>
 {
     match formed_entries(alloc, text) {
         Ok(entries) => match sequent_of(alloc, &entries) {
-            Ok(sequent) => Ok(Problem {
-                entries: Entries::from_vec(entries),
-                sequent,
-            }),
+            Ok(sequent) => match Entries::from_vec(alloc, entries) {
+                Ok(entries) => Ok(Problem { entries, sequent }),
+                Err(_) => Err(ProblemError::Memory),
+            },
             Err(_) => Err(ProblemError::Memory),
         },
         Err(ReadError::Memory) => Err(ProblemError::Memory),

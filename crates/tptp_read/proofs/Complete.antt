@@ -3,7 +3,7 @@ use Rattle.std.proofs.Common.{◌≡◌, ℕ, suc, ◌+◌, ◌≤◌, Bool, if�
 use Rattle.std.proofs.lemmas.Bool.{le-leb}
 use Rattle.fol.specs.declared.symbols.Sym.{Sym}
 use Rattle.fol.specs.declared.symbols.Var.{Var}
-use Rattle.fol.specs.Syntax.{Term, app, Terms, nil, Formula, atom, not}
+use Rattle.fol.specs.Syntax.{Term, app, Terms, nil, plain, Formula, atom, not}
 use Rattle.tptp_tokens.specs.declared.tokens.Quantifier.{Quantifier}
 use Rattle.tptp_tokens.specs.declared.tokens.ChainOperator.{ChainOperator}
 use Rattle.tptp_tokens.specs.declared.tokens.ChainOperator.TheVariants.{And, Or}
@@ -103,7 +103,7 @@ module _ (lim : Limits) where
   begins_term l ts us x (constant l' us' n) p k = refl
   begins_term l ts us x (applied l' ts' us' n xs args) p k = refl
 
-  pub atom_ends : (s : Sym) (xs : Terms) (p : Part) (k : List Frame) (us : List Token) → BehindUnit us → reads (in_term (AfterTerm (app s xs)) Lead [] p k) us ≡ reads (at (AfterUnit (atom s xs)) p k) us
+  pub atom_ends : (s : Sym) (xs : Terms) (p : Part) (k : List Frame) (us : List Token) → BehindUnit us → reads (in_term (AfterTerm (app s xs)) Lead [] p k) us ≡ reads (at (AfterUnit (atom (plain s) xs)) p k) us
   atom_ends s xs p k [] b = refl
   atom_ends s xs p k (Equality sign ∷ us) b = absurd b
   atom_ends s xs p k (t ∷ us) b = refl

@@ -4,7 +4,7 @@ use Rattle.std.proofs.Math.Nat.{suc-mul}
 use Rattle.std.proofs.lemmas.Bool.{and_from}
 use Rattle.std.proofs.lemmas.Bool.Decides.{nat_tests}
 use Rattle.fol.specs.declared.symbols.Var.{Var}
-use Rattle.fol.specs.Syntax.{Term, app, Terms, nil, cons, Formula, atom, top, bot, not, and, or, imp, all, ex}
+use Rattle.fol.specs.Syntax.{Term, app, Terms, nil, cons, plain, Formula, atom, top, bot, not, and, or, imp, all, ex}
 use Rattle.fol.specs.Formed.{is_name, count_terms, is_formed_term_at, are_formed_terms_at, is_formed_at, IsFormed, IsFormedTerm}
 use Rattle.substitution.specs.Instance.{bind_at, nesting}
 use Rattle.substitution.proofs.InstanceFormed.{formed-bind}
@@ -32,7 +32,7 @@ same_number n = grind (arith, nat_tests)
 symbol_formed : (x : List ℕ) (xs : Terms) → is_name x ≡ true → are_formed_terms_at 0 xs ≡ true → is_formed_term_at 0 (application x xs) ≡ true
 symbol_formed x xs p q = and_from (is_name x && count_terms xs == count_terms xs) (are_formed_terms_at 0 xs) (and_from (is_name x) (count_terms xs == count_terms xs) p (same_number (count_terms xs))) q
 
-pair_formed : (s t : Term) → is_formed_term_at 0 s ≡ true → is_formed_term_at 0 t ≡ true → is_formed_at 0 (atom equality_sym (cons s (cons t nil))) ≡ true
+pair_formed : (s t : Term) → is_formed_term_at 0 s ≡ true → is_formed_term_at 0 t ≡ true → is_formed_at 0 (atom (plain equality_sym) (cons s (cons t nil))) ≡ true
 pair_formed s t p q = and_from (is_formed_term_at 0 s) (is_formed_term_at 0 t && true) p (and_from (is_formed_term_at 0 t) true q refl)
 
 -- binding keeps the number of quantifiers inside one another

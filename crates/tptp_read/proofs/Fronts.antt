@@ -3,7 +3,7 @@ use Rattle.std.proofs.Common.{◌≡◌, ℕ, suc, ◌≤◌, Bool, true, List, 
 use Rattle.fol.specs.declared.symbols.Sym.{Sym}
 use Rattle.fol.specs.declared.symbols.Var.{Var}
 use Rattle.fol.specs.declared.symbols.Var.TheVariants.{Num}
-use Rattle.fol.specs.Syntax.{Term, free, bound, app, Terms, nil, Formula, atom, not}
+use Rattle.fol.specs.Syntax.{Term, free, bound, app, Terms, nil, plain, Formula, atom, not}
 use Rattle.tptp_tokens.specs.declared.tokens.ChainOperator.{ChainOperator}
 use Rattle.tptp_tokens.specs.declared.tokens.ChainOperator.TheVariants.{And, Or}
 use Rattle.tptp_tokens.specs.declared.tokens.BinaryOperator.{BinaryOperator}
@@ -103,7 +103,7 @@ module _ (lim : Limits) where
   finish_term_read x s (c ∷ cs) p k = let rest = finish_term_read (called c x) s cs p k in (rest.0, rest.1)
   finish_term_read x Whole [] p k = (TermRead x, refl)
   finish_term_read x (Right sign y) [] p k = let rest = closings_read k p (equation sign y x) in (rest.0, equation_ends lim sign y x p k (closings k) ∙ rest.1)
-  finish_term_read (app f xs) Lead [] p k = let rest = closings_read k p (atom f xs) in (rest.0, atom_ends lim f xs p k (closings k) (behind_closings k) ∙ rest.1)
+  finish_term_read (app f xs) Lead [] p k = let rest = closings_read k p (atom (plain f) xs) in (rest.0, atom_ends lim f xs p k (closings k) (behind_closings k) ∙ rest.1)
   finish_term_read (free v) Lead [] p k = let rest = closings_read k p (equation true (free v) (free some_variable)) in (rest.0, equation_ends lim true (free v) (free some_variable) p k (closings k) ∙ rest.1)
   finish_term_read (bound i) Lead [] p k = let rest = closings_read k p (equation true (bound i) (free some_variable)) in (rest.0, equation_ends lim true (bound i) (free some_variable) p k (closings k) ∙ rest.1)
 

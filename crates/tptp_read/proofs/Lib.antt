@@ -7,6 +7,7 @@ pub mod Depth
 pub mod Reading
 pub mod Whole
 pub mod Formed
+pub mod Plain
 pub mod TextEnds
 pub mod Closing
 pub mod FormedValues

@@ -1,7 +1,7 @@
 -- What the machine reads is in the grammar.
 use Rattle.std.proofs.Common.{◌≡◌, ℕ, suc, ◌-◌, ◌≤◌, List, [], ◌∷◌, length, Some, Ok, refl, sym, subst, arith}
 use Rattle.fol.specs.declared.symbols.Var.{Var}
-use Rattle.fol.specs.Syntax.{Term, free, bound, app, Terms, nil, cons, Formula, atom, not}
+use Rattle.fol.specs.Syntax.{Term, free, bound, app, Terms, nil, cons, plain, Formula, atom, not}
 use Rattle.tptp_tokens.specs.declared.tokens.Quantifier.{Quantifier}
 use Rattle.tptp_tokens.specs.declared.tokens.ChainOperator.{ChainOperator}
 use Rattle.tptp_tokens.specs.declared.tokens.ChainOperator.TheVariants.{And, Or}
@@ -131,8 +131,8 @@ module _ (lim : Limits) where
   back_outer : (x : Term) (s : Side) (p : Part) (k : List Frame) (t : Token) (ts : List Token) (w : Outcome) → Onward lim (behind_outer x s p k t) (λ r. MeansAt r ts w → GoesOuter s p k x (t ∷ ts) w)
   back_outer x Lead p k (Equality sign) ts w = λ (y, (us, (ty, rest))). (equation sign x y, (us, (λ ss tx. equality (left lim (length k)) ss ts us sign x y tx ty, rest)))
   back_outer (app s xs) Lead p k t ts w =
-      onward_map lim (behind_unit (atom s xs) p k t) (λ r. MeansAt r ts w → Goes p k (atom s xs) (t ∷ ts) w) (λ r. MeansAt r ts w → GoesOuter Lead p k (app s xs) (t ∷ ts) w)
-      (λ r b m. (atom s xs, (t ∷ ts, (λ ss tx. predicate (left lim (length k)) ss (t ∷ ts) s xs tx, b m)))) (back_unit (atom s xs) p k t ts w)
+      onward_map lim (behind_unit (atom (plain s) xs) p k t) (λ r. MeansAt r ts w → Goes p k (atom (plain s) xs) (t ∷ ts) w) (λ r. MeansAt r ts w → GoesOuter Lead p k (app s xs) (t ∷ ts) w)
+      (λ r b m. (atom (plain s) xs, (t ∷ ts, (λ ss tx. predicate (left lim (length k)) ss (t ∷ ts) s xs tx, b m)))) (back_unit (atom (plain s) xs) p k t ts w)
   back_outer (free v) Lead p k t ts w = tt
   back_outer (bound i) Lead p k t ts w = tt
   back_outer x (Right sign y) p k (Equality sign') ts w = tt
@@ -205,7 +205,7 @@ module _ (lim : Limits) where
   end_term x s (c ∷ cs) p k w e = cc
   end_term x Whole [] p k w e = (cc, refl)
   end_term x (Right sign y) [] p k w e = end_unit (equation sign y x) p k w e
-  end_term (app s xs) Lead [] p k w e = (atom s xs, ([], (λ ss tx. predicate (left lim (length k)) ss [] s xs tx, end_unit (atom s xs) p k w e)))
+  end_term (app s xs) Lead [] p k w e = (atom (plain s) xs, ([], (λ ss tx. predicate (left lim (length k)) ss [] s xs tx, end_unit (atom (plain s) xs) p k w e)))
   end_term (free v) Lead [] p k w e = cc
   end_term (bound i) Lead [] p k w e = cc
 

@@ -3,7 +3,7 @@
 use Rattle.std.specs.Prelude.{ℕ, suc, ◌≤◌, Bool, List, [], ◌∷◌}
 use Rattle.fol.specs.declared.symbols.Var.{Var}
 use Rattle.fol.specs.declared.symbols.Sym.{Sym}
-use Rattle.fol.specs.Syntax.{Term, free, app, Terms, nil, cons, Formula, atom, not}
+use Rattle.fol.specs.Syntax.{Term, free, app, Terms, nil, cons, plain, Formula, atom, not}
 use Rattle.tptp_tokens.specs.declared.tokens.Quantifier.{Quantifier}
 use Rattle.tptp_tokens.specs.declared.tokens.ChainOperator.{ChainOperator}
 use Rattle.tptp_tokens.specs.declared.tokens.BinaryOperator.{BinaryOperator}
@@ -39,7 +39,7 @@ mutual
   -- unit = '(' formula ')' | '~' unit | ('!' | '?') quantified | '$true' | '$false' | NAME args? | term '=' term | term '!=' term
   pub data IsUnit (lim : Limits) : ℕ → List Token → Formula → List Token → Type 0 where
     truth_value : (l : ℕ) (us : List Token) (b : Bool) → IsUnit lim l (Truth b ∷ us) (truth b) us
-    predicate : (l : ℕ) (ts us : List Token) (s : Sym) (xs : Terms) → IsTerm lim l ts (app s xs) us → IsUnit lim l ts (atom s xs) us
+    predicate : (l : ℕ) (ts us : List Token) (s : Sym) (xs : Terms) → IsTerm lim l ts (app s xs) us → IsUnit lim l ts (atom (plain s) xs) us
     equality : (l : ℕ) (ts us vs : List Token) (sign : Bool) (s t : Term) → IsTerm lim l ts s (Equality sign ∷ us) → IsTerm lim l us t vs → IsUnit lim l ts (equation sign s t) vs
     negation : (l : ℕ) (ts us : List Token) (f : Formula) → IsUnit lim l ts f us → IsUnit lim (suc l) (Negation ∷ ts) (not f) us
     group : (l : ℕ) (ts us : List Token) (f : Formula) → IsFormula lim l ts f (Close ∷ us) → IsUnit lim (suc l) (Open ∷ ts) f us

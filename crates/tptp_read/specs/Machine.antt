@@ -1,7 +1,7 @@
 -- A reader of tokens as a machine: what each token does to what has been read.
 use Rattle.std.specs.Prelude.{ℕ, suc, Bool, true, false, ◌&&◌, List, [], ◌∷◌, length, Option, Some, None, Result}
 use Rattle.fol.specs.declared.symbols.Var.{Var}
-use Rattle.fol.specs.Syntax.{Term, free, bound, app, Terms, nil, cons, Formula, atom, not}
+use Rattle.fol.specs.Syntax.{Term, free, bound, app, Terms, nil, cons, plain, Formula, atom, not}
 use Rattle.tptp_tokens.specs.declared.tokens.Quantifier.{Quantifier}
 use Rattle.tptp_tokens.specs.declared.tokens.ChainOperator.{ChainOperator}
 use Rattle.tptp_tokens.specs.declared.tokens.ChainOperator.TheVariants.{And, Or}
@@ -89,7 +89,7 @@ completed (Joined b e) f = joined_by b e f
 abbrev pub unit_of : Side → Term → Option Formula
 unit_of Lead (free v) = None
 unit_of Lead (bound i) = None
-unit_of Lead (app s xs) = Some (atom s xs)
+unit_of Lead (app s xs) = Some (atom (plain s) xs)
 unit_of (Right sign y) x = Some (equation sign y x)
 unit_of Whole x = None
 

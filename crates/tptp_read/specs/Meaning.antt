@@ -2,7 +2,7 @@
 use Rattle.std.specs.Prelude.{ℕ, Bool, true, false, List, [], ◌∷◌, codes}
 use Rattle.fol.specs.declared.symbols.Var.{Var}
 use Rattle.fol.specs.declared.symbols.Sym.{Sym}
-use Rattle.fol.specs.Syntax.{Term, app, Terms, nil, cons, Formula, atom, top, bot, not, and, or, imp, all, ex}
+use Rattle.fol.specs.Syntax.{Term, app, Terms, nil, cons, plain, Formula, atom, top, bot, not, and, or, imp, all, ex}
 use Rattle.fol.specs.Formed.{count_terms}
 use Rattle.substitution.specs.Instance.{bind}
 use Rattle.tptp_tokens.specs.declared.tokens.Quantifier.{Quantifier}
@@ -36,8 +36,8 @@ equality_sym = record { name = codes "="; arity = 2 }
 
 -- `s = t`, or `s != t` where the sign is false
 abbrev pub equation : Bool → Term → Term → Formula
-equation true s t = atom equality_sym (cons s (cons t nil))
-equation false s t = not (atom equality_sym (cons s (cons t nil)))
+equation true s t = atom (plain equality_sym) (cons s (cons t nil))
+equation false s t = not (atom (plain equality_sym) (cons s (cons t nil)))
 
 -- a name with these arguments; its arity is their number
 abbrev pub symbol_of : List ℕ → Terms → Sym

@@ -1,6 +1,7 @@
 //! Reading of whole texts.
-ghost use Rattle.std.specs.Prelude.{◌≡◌, ◌<◌, ◌^◌, length, Ok, Err, IfOk};
+ghost use Rattle.std.specs.Prelude.{◌≡◌, ◌<◌, ◌^◌, length, false, Ok, Err, IfOk};
 ghost use Rattle.fol.specs.Formed.{IsFormed, IsFormedTerm};
+ghost use Rattle.fol.specs.Facts.{has_body};
 ghost use Rattle.fol.specs.Syntax.{Formula as FormulaMeaning, Term as TermMeaning};
 ghost use Rattle.tptp_tokens.specs.declared.tokens.TextFault.{TextFault};
 ghost use Rattle.tptp_tokens.specs.Stream.{stream_of};
@@ -31,8 +32,9 @@ pub fn read_formula(alloc: Global, text: &[u8]) -> Result<Formula, TextError>
     ensures one_fault { (d e : TextFault) → IsFormulaFault text.now d → IsFormulaFault text.now e → d ≡ e }
     // It is the text's reading as a function.
     ensures reading { GivesText (λ f. f) result (formula_reading text.now) }
-    // What is read is well formed.
+    // What is read is well formed, and none of its predicate symbols has a body.
     ensures formed { IfOk result IsFormed }
+    ensures plain { IfOk result (λ f. has_body f ≡ false) }
 {
     formula_of(alloc, text)
 }

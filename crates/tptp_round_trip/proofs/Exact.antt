@@ -3,7 +3,7 @@ use Rattle.std.proofs.Common.{◌≡◌, ℕ, suc, ◌+◌, ◌≤◌, max, Bool
 use Rattle.std.proofs.lemmas.Bool.{and_parts, or_parts, leb-true}
 use Rattle.fol.specs.declared.symbols.Sym.{Sym}
 use Rattle.fol.specs.declared.symbols.Var.TheVariants.{Num}
-use Rattle.fol.specs.Syntax.{Term, free, bound, app, Terms, nil, cons, Formula, atom, top, bot, not, and, or, imp, all, ex}
+use Rattle.fol.specs.Syntax.{Term, free, bound, app, Terms, nil, cons, plain, pred_symbol, Formula, atom, top, bot, not, and, or, imp, all, ex}
 use Rattle.fol.specs.Formed.{is_formed_term_at, are_formed_terms_at, is_formed_at}
 use Rattle.tptp_tokens.specs.declared.tokens.Quantifier.{Quantifier}
 use Rattle.tptp_tokens.specs.declared.tokens.Quantifier.TheVariants.{All, Ex}
@@ -28,6 +28,7 @@ use Rattle.tptp_read.specs.Reader.{Limit, levels, operators, variables, limited,
 use Rattle.tptp_read.specs.Machine.{Reading, at, in_term, depth, with_term, ending, after, read_tokens}
 use Rattle.tptp_read.proofs.Complete.{BehindTerm, BehindUnit, IsSettled, term_read, unit_read}
 use Rattle.tptp_print.specs.Canonical.{is_equality, is_binary}
+use Rattle.tptp_print.proofs.Agreement.{formed_application}
 use Rattle.tptp_round_trip.specs.Limits.{term_levels, argument_levels, list_levels, atom_levels, unit_levels, negation_levels, formula_levels, AreChainsWithin}
 use Rattle.tptp_round_trip.proofs.Tokens.{term_tokens, more_tokens, sides_tokens, atom_tokens, enclosed, unit_tokens, left_tokens, left_levels, chain_operators, negated_tokens, head_tokens, formula_tokens, of_each}
 use Rattle.tptp_round_trip.proofs.Opened.{opened_term, opened, AreRising}
@@ -104,7 +105,7 @@ module _ (lim : Limits) (names : ℕ → ℕ) (w : Outcome) where
     sides_within sign s (cons t nil) p k us e few h r = cc
     sides_within sign s (cons t (cons u (cons v vs))) p k us e few h r = cc
 
-    module _ (s : Sym) (ts : Terms) (p : Part) (k : List Frame) (us : List Token) (few : length k ≤ lim.levels) (h : is_formed_at d (atom s ts) ≡ true) where
+    module _ (s : Sym) (ts : Terms) (p : Part) (k : List Frame) (us : List Token) (few : length k ≤ lim.levels) (h : is_formed_at d (atom (plain s) ts) ≡ true) where
       atom_within : Reach (at WantUnit p k) (atom_tokens names d true s ts us) → length k + atom_levels s ts ≤ lim.levels
       atom_within =
           elim (is_equality s ts) as (λ (b : Bool). is_equality s ts ≡ b → Reach (at WantUnit p k) (if b then sides_tokens names d true ts us else term_tokens names d (app s ts) us)
@@ -113,7 +114,7 @@ module _ (lim : Limits) (names : ℕ → ℕ) (w : Outcome) where
             | false ↦ λ e. first_within (app s ts) p k us few h
           ] refl
 
-      negated_atom_within : Reach (at WantUnit p k) (negated_tokens names d (atom s ts) (atom_tokens names d true s ts) us) → length k + negation_levels (atom s ts) (atom_levels s ts) ≤ lim.levels
+      negated_atom_within : Reach (at WantUnit p k) (negated_tokens names d (atom (plain s) ts) (atom_tokens names d true s ts) us) → length k + negation_levels (atom (plain s) ts) (atom_levels s ts) ≤ lim.levels
       negated_atom_within =
           elim (is_equality s ts) as (λ (b : Bool). is_equality s ts ≡ b
           → Reach (at WantUnit p k) (if b then sides_tokens names d false ts us else Negation ∷ (if b then sides_tokens names d true ts us else term_tokens names d (app s ts) us))
@@ -302,10 +303,12 @@ module _ (lim : Limits) (names : ℕ → ℕ) (w : Outcome) where
         bind d f g formed.0 formed.1 f_apart g_apart (p formed.0 f_apart) (q formed.1 g_apart) h apart
 
     within : (d : ℕ) (f : Formula) → IsWithin d f
-    within d (atom s ts) h apart = plain_within d (atom s ts) h apart refl (λ p k us few r. (atom_within d s ts p k us few h r, tt))
+    within d (atom q ts) h apart =
+        plain_within d (atom q ts) h apart refl (λ p k us few r. (atom_within d (pred_symbol q) ts p k us few (formed_application d q ts h) r, tt))
     within d top h apart = plain_within d top h apart refl (λ p k us few r. (omega arith, tt))
     within d bot h apart = plain_within d bot h apart refl (λ p k us few r. (omega arith, tt))
-    within d (not (atom s ts)) h apart = plain_within d (not (atom s ts)) h apart refl (λ p k us few r. (negated_atom_within d s ts p k us few h r, tt))
+    within d (not (atom q ts)) h apart =
+        plain_within d (not (atom q ts)) h apart refl (λ p k us few r. (negated_atom_within d (pred_symbol q) ts p k us few (formed_application d q ts h) r, tt))
     within d (not f) h apart = let q = within d f h apart in plain_within d (not f) h apart refl (λ p k us few r. negation_within d f q p k us r)
     within d (and f g) h apart = both_within and and_within d f g (within d f) (within d g) h apart
     within d (or f g) h apart = both_within or or_within d f g (within d f) (within d g) h apart

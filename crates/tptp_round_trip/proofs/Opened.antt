@@ -1,12 +1,14 @@
--- A formula with the printed variables for the bound ones of the quantifiers around it, and binding of such a variable.
+-- A formula with the printed variables for the bound ones of the quantifiers around it and its predicate symbols without their bodies, and
+-- binding of such a variable.
 --     m      how many quantifiers stand around, j of them in the formula itself
 use Rattle.std.proofs.Common.{◌≡◌, inl, inr, ℕ, ◌+◌, ◌-◌, ◌^◌, ◌<◌, true, false, ltb, ◌&&◌, ◌||◌, if◌then◌else◌, refl, sym, ap, ◌∙◌, arith}
 use Rattle.std.specs.Ordering.{eq_by_cmp}
 use Rattle.std.proofs.lemmas.Bool.{and_parts, or_parts, cases_lt, ltb-true, lt-ltb, le-ltb, eq-eqb, ne_eqb}
 use Rattle.std.specs.Cmp.{unsigned_tied}
 use Rattle.fol.specs.declared.symbols.Var.TheVariants.{Num}
-use Rattle.fol.specs.Syntax.{Term, free, bound, app, Terms, nil, cons, Formula, atom, top, bot, not, and, or, imp, all, ex}
+use Rattle.fol.specs.Syntax.{Term, free, bound, app, Terms, nil, cons, Pred, pred, plain, pred_symbol, pred_body, undefined, defined, is_defined, Formula, atom, top, bot, not, and, or, imp, all, ex}
 use Rattle.fol.specs.Order.{var_cmp}
+use Rattle.fol.specs.Facts.{has_body}
 use Rattle.fol.specs.Formed.{count_terms, is_formed_term_at, are_formed_terms_at, is_formed_at}
 use Rattle.free_variables.specs.Occurrence.{is_free_in, is_free_in_term, is_free_in_terms}
 use Rattle.substitution.specs.Instance.{bind_term_at, bind_terms_at, bind_at}
@@ -22,7 +24,7 @@ abbrev mutual
   opened_terms names m j (cons t ts) = cons (opened_term names m j t) (opened_terms names m j ts)
 
 abbrev pub opened : (ℕ → ℕ) → ℕ → ℕ → Formula → Formula
-opened names m j (atom s ts) = atom s (opened_terms names m j ts)
+opened names m j (atom p ts) = atom (plain (pred_symbol p)) (opened_terms names m j ts)
 opened names m j top = top
 opened names m j bot = bot
 opened names m j (not f) = not (opened names m j f)
@@ -36,7 +38,12 @@ pub count-opened : (names : ℕ → ℕ) (m j : ℕ) (ts : Terms) → count_term
 count-opened names m j nil = refl
 count-opened names m j (cons t ts) = ap (λ n. n + 1) (count-opened names m j ts)
 
--- what has no index of a quantifier outside stays
+-- a predicate symbol without a body
+undefined_plain : (p : Pred) → is_defined (pred_body p) ≡ false → plain (pred_symbol p) ≡ p
+undefined_plain (pred s undefined) h = refl
+undefined_plain (pred s (defined f)) h = cc
+
+-- what has no index of a quantifier outside stays, where no predicate symbol has a body
 
 module _ (names : ℕ → ℕ) where
   stays : (i m j w : ℕ) → (ltb i j && ltb i w) ≡ true → (if ltb i j then bound i else free (Num (names (m - (i + 1))))) ≡ bound i
@@ -53,21 +60,22 @@ module _ (names : ℕ → ℕ) where
     opened_closed_terms (cons t ts) m j h = λ i. cons (opened_closed_term t m j (and_parts _ _ h).0 i) (opened_closed_terms ts m j (and_parts _ _ h).1 i)
 
   abbrev Stays : Formula → Type 0
-  Stays f = (m j : ℕ) → is_formed_at j f ≡ true → opened names m j f ≡ f
+  Stays f = (m j : ℕ) → has_body f ≡ false → is_formed_at j f ≡ true → opened names m j f ≡ f
 
-  both_stay : (c : Formula → Formula → Formula) (f g : Formula) → Stays f → Stays g → (m j : ℕ) → (is_formed_at j f && is_formed_at j g) ≡ true → c (opened names m j f) (opened names m j g) ≡ c f g
-  both_stay c f g p q m j h = λ i. c (p m j (and_parts _ _ h).0 i) (q m j (and_parts _ _ h).1 i)
+  both_stay : (c : Formula → Formula → Formula) (f g : Formula) → Stays f → Stays g → (m j : ℕ) → (has_body f || has_body g) ≡ false → (is_formed_at j f && is_formed_at j g) ≡ true
+      → c (opened names m j f) (opened names m j g) ≡ c f g
+  both_stay c f g p q m j n h = λ i. c (p m j (or_parts _ _ n).0 (and_parts _ _ h).0 i) (q m j (or_parts _ _ n).1 (and_parts _ _ h).1 i)
 
   pub opened_closed : (f : Formula) → Stays f
-  opened_closed (atom s ts) m j h = ap (atom s) (opened_closed_terms ts m j (and_parts _ _ h).1)
-  opened_closed top m j h = refl
-  opened_closed bot m j h = refl
-  opened_closed (not f) m j h = ap not (opened_closed f m j h)
-  opened_closed (and f g) m j h = both_stay and f g (opened_closed f) (opened_closed g) m j h
-  opened_closed (or f g) m j h = both_stay or f g (opened_closed f) (opened_closed g) m j h
-  opened_closed (imp f g) m j h = both_stay imp f g (opened_closed f) (opened_closed g) m j h
-  opened_closed (all f) m j h = ap all (opened_closed f (m + 1) (j + 1) h)
-  opened_closed (ex f) m j h = ap ex (opened_closed f (m + 1) (j + 1) h)
+  opened_closed (atom p ts) m j n h = λ i. atom (undefined_plain p n i) (opened_closed_terms ts m j (and_parts _ _ h).1 i)
+  opened_closed top m j n h = refl
+  opened_closed bot m j n h = refl
+  opened_closed (not f) m j n h = ap not (opened_closed f m j n h)
+  opened_closed (and f g) m j n h = both_stay and f g (opened_closed f) (opened_closed g) m j n h
+  opened_closed (or f g) m j n h = both_stay or f g (opened_closed f) (opened_closed g) m j n h
+  opened_closed (imp f g) m j n h = both_stay imp f g (opened_closed f) (opened_closed g) m j n h
+  opened_closed (all f) m j n h = ap all (opened_closed f (m + 1) (j + 1) n h)
+  opened_closed (ex f) m j n h = ap ex (opened_closed f (m + 1) (j + 1) n h)
 
 -- binding the variable of the innermost quantifier around
 
@@ -120,7 +128,7 @@ module _ (names : ℕ → ℕ) (rising : AreRising names) where
   both_bound c f g p q k m j e h apart = λ i. c (p k m j e (and_parts _ _ h).0 (or_parts _ _ apart).0 i) (q k m j e (and_parts _ _ h).1 (or_parts _ _ apart).1 i)
 
   pub bind_opened : (f : Formula) → Bound f
-  bind_opened (atom s ts) k m j e h apart = ap (atom s) (bind_opened_terms ts k m j e (and_parts _ _ h).1 apart)
+  bind_opened (atom p ts) k m j e h apart = ap (atom (plain (pred_symbol p))) (bind_opened_terms ts k m j e (and_parts _ _ h).1 apart)
   bind_opened top k m j e h apart = refl
   bind_opened bot k m j e h apart = refl
   bind_opened (not f) k m j e h apart = ap not (bind_opened f k m j e h apart)

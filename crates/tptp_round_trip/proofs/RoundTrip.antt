@@ -3,7 +3,8 @@ use Rattle.std.proofs.Common.{◌≡◌, ℕ, ◌+◌, ◌^◌, ◌<◌, ◌≤�
 use Rattle.std.specs.List.{filter_map}
 use Rattle.fol.specs.declared.symbols.Var.{Var}
 use Rattle.fol.specs.declared.symbols.Var.TheVariants.{Word, Num}
-use Rattle.fol.specs.Syntax.{Term, Formula, atom, top, bot, not, and, or, imp, all, ex}
+use Rattle.fol.specs.Syntax.{Term, pred_symbol, Formula, atom, top, bot, not, and, or, imp, all, ex}
+use Rattle.fol.specs.Facts.{has_body}
 use Rattle.fol.specs.Formed.{IsFormed, IsFormedTerm}
 use Rattle.finite.specs.Finite as set
 use Rattle.free_variables.specs.Occurrence.{is_free_in, vars_formula}
@@ -37,16 +38,16 @@ formula_lexes names f formed short few =
     subst (λ (w : List ℕ). Lexes w (formula_tokens names 0 f [])) (append-nil (formula_text names 0 f))
     ((formula_spelt names (quantifier_depth f) few 0 f (omega arith) formed short).lexes [] [] refl nothing_lexes)
 
-pub formula_is_read : (f : Formula) → IsFormed f → IsWithinLimits f → AreNumbersInRange f → IsFormulaText (canonical f) f
+pub formula_is_read : (f : Formula) → has_body f ≡ false → IsFormed f → IsWithinLimits f → AreNumbersInRange f → IsFormulaText (canonical f) f
 unfolding canonical
-formula_is_read f formed fits short =
+formula_is_read f plain formed fits short =
     let names = outside (numbers_of (vars_formula f set.empty)) in
     let text = formula_lexes names f formed short.0 short.1 0 in
     record {
       tokens = formula_tokens names 0 f [];
       length = text.0;
       whole = text.1;
-      reads = subst (λ (g : Formula). IsFormula LIMITS 200 (formula_tokens names 0 f []) g []) (opened_closed names f 0 0 formed)
+      reads = subst (λ (g : Formula). IsFormula LIMITS 200 (formula_tokens names 0 f []) g []) (opened_closed names f 0 0 plain formed)
           (formula_reads LIMITS names (names_rise f) (lit≤ tt) 0 f formed (names_apart f) fits.1 200 [] fits.0);
     }
 
@@ -92,9 +93,9 @@ formula_fits f g formed short text =
     let levels : 0 + formula_levels f ≤ 200 = shown.0 in
     (omega arith, shown.1)
 
-pub formula_only : (f g : Formula) → IsFormed f → AreNumbersInRange f → IsFormulaText (canonical f) g → g ≡ f
-formula_only f g formed short text =
-    one_text (formula_reading (canonical f)) (IsFormulaText (canonical f)) (IsFormulaFault (canonical f)) (exact_formula (canonical f)) g f text (formula_is_read f formed (formula_fits f g formed short text) short)
+pub formula_only : (f g : Formula) → has_body f ≡ false → IsFormed f → AreNumbersInRange f → IsFormulaText (canonical f) g → g ≡ f
+formula_only f g plain formed short text =
+    one_text (formula_reading (canonical f)) (IsFormulaText (canonical f)) (IsFormulaFault (canonical f)) (exact_formula (canonical f)) g f text (formula_is_read f plain formed (formula_fits f g formed short text) short)
 
 pub term_fits : (t u : Term) → IsFormedTerm t → AreTermNumbersInRange t → IsTermText (canonical_term t) u → IsTermWithinLimits t
 unfolding canonical_term
@@ -111,13 +112,13 @@ term_only t u formed short text =
 
 -- the reader's answer to a canonical text
 
-pub back_same : (bytes : List ℕ) (f : Formula) (r : Result Formula TextError) → bytes ≡ canonical f → IsFormed f → IfOk r (λ g. IsFormulaText bytes g) → AreNumbersInRange f → IfOk r (λ g. g ≡ f)
-back_same bytes f (Ok g) is formed text short = formula_only f g formed short (subst (λ (x : List ℕ). IsFormulaText x g) is text)
-back_same bytes f (Err e) is formed text short = tt
+pub back_same : (bytes : List ℕ) (f : Formula) (r : Result Formula TextError) → bytes ≡ canonical f → IsFormed f → IfOk r (λ g. IsFormulaText bytes g) → has_body f ≡ false → AreNumbersInRange f → IfOk r (λ g. g ≡ f)
+back_same bytes f (Ok g) is formed text plain short = formula_only f g plain formed short (subst (λ (x : List ℕ). IsFormulaText x g) is text)
+back_same bytes f (Err e) is formed text plain short = tt
 
-pub back_read : (bytes : List ℕ) (f : Formula) (r : Result Formula TextError) → bytes ≡ canonical f → IsFormed f → ((g : Formula) → IsFormulaText bytes g → GivesText (λ h. h) r (Ok g)) → IsWithinLimits f → AreNumbersInRange f
+pub back_read : (bytes : List ℕ) (f : Formula) (r : Result Formula TextError) → bytes ≡ canonical f → IsFormed f → ((g : Formula) → IsFormulaText bytes g → GivesText (λ h. h) r (Ok g)) → has_body f ≡ false → IsWithinLimits f → AreNumbersInRange f
     → GivesText (λ h. h) r (Ok f)
-back_read bytes f r is formed only fits short = only f (subst (λ (x : List ℕ). IsFormulaText x f) (sym is) (formula_is_read f formed fits short))
+back_read bytes f r is formed only plain fits short = only f (subst (λ (x : List ℕ). IsFormulaText x f) (sym is) (formula_is_read f plain formed fits short))
 
 -- each quantifier is a level
 
@@ -131,7 +132,7 @@ in_left_of_or : (f : Formula) (n : ℕ) → n ≤ left_of_or_levels f n
 in_left_of_or f n = elim (is_or f) as (λ (b : Bool). n ≤ (if b then n else unit_levels f n)) [ true ↦ omega arith | false ↦ in_unit f n ]
 
 in_negation : (f : Formula) (n : ℕ) → n ≤ negation_levels f n
-in_negation (atom s ts) n = elim (is_equality s ts) as (λ (b : Bool). n ≤ (if b then n else suc n)) [ true ↦ omega arith | false ↦ omega arith ]
+in_negation (atom p ts) n = elim (is_equality (pred_symbol p) ts) as (λ (b : Bool). n ≤ (if b then n else suc n)) [ true ↦ omega arith | false ↦ omega arith ]
 in_negation f n = omega (arith, in_unit f n)
 
 quantifiers_are_levels : (f : Formula) → quantifier_depth f ≤ formula_levels f

@@ -8,7 +8,7 @@ use Rattle.std.specs.Char.{is_ascii_uppercase, is_ascii_lowercase}
 use Rattle.fol.specs.declared.symbols.Sym.{Sym}
 use Rattle.fol.specs.declared.symbols.Var.{Var}
 use Rattle.fol.specs.declared.symbols.Var.TheVariants.{Word, Num}
-use Rattle.fol.specs.Syntax.{Term, free, bound, app, Terms, nil, cons, Formula, atom, top, bot, not, and, or, imp, all, ex}
+use Rattle.fol.specs.Syntax.{Term, free, bound, app, Terms, nil, cons, plain, pred_symbol, Formula, atom, top, bot, not, and, or, imp, all, ex}
 use Rattle.fol.specs.Order.{var_cmp}
 use Rattle.fol.specs.Formed.{is_word_byte, is_name, is_formed_sym, is_formed_var, is_formed_term_at, are_formed_terms_at, is_formed_at}
 use Rattle.free_variables.specs.Occurrence.{is_free_in, is_free_in_term, is_free_in_terms}
@@ -20,6 +20,7 @@ use Rattle.tptp_tokens.specs.declared.tokens.Token.{Token}
 use Rattle.tptp_tokens.specs.declared.tokens.Token.TheVariants.{Name, Variable, Equality, Negation, Quantifier as Quantifies, Chain, Binary, Close, OpenSquare, CloseSquare, Colon}
 use Rattle.tptp_print.specs.Canonical.{is_lower_word, quoted, name_text, numbered_text, variable_text, term_text, args_text, more_text, is_equals, is_equality, atom_text, is_binary, enclosed, unit_of, left_of_and, left_of_or, negated, head_text, formula_text, quantifier_depth}
 use Rattle.tptp_round_trip.proofs.Opened.{same_number}
+use Rattle.tptp_print.proofs.Agreement.{formed_application}
 use Rattle.tptp_round_trip.proofs.Tokens as tokens
 use Rattle.tptp_round_trip.proofs.Tokens.{term_tokens, args_tokens, more_tokens, sides_tokens, atom_tokens, unit_tokens, is_chain, left_tokens, negated_tokens, formula_tokens}
 use Rattle.tptp_round_trip.proofs.Bytes.{Lexes, open_lexes, close_lexes, comma_lexes, all_lexes, ex_lexes, head_end_lexes, and_lexes, or_lexes, implies_lexes, equal_lexes, different_lexes, IsApart, negation_lexes, goes_on, numbered_lexes, variable_lexes, name_lexes, true_lexes, false_lexes}
@@ -165,7 +166,7 @@ module _ (names : ℕ → ℕ) (most : ℕ) (few : AreNamesShort names most) whe
 
   -- the atoms
   module _ (k : ℕ) (le : k ≤ most) where
-    atom_spelt : (between : List ℕ) (sign : Bool) → IsBetween between (Equality sign) → (s : Sym) (ts : Terms) → is_formed_at k (atom s ts) ≡ true → AreShortTerms ts → IsSpelt (atom_text names k between s ts) (atom_tokens names k sign s ts)
+    atom_spelt : (between : List ℕ) (sign : Bool) → IsBetween between (Equality sign) → (s : Sym) (ts : Terms) → is_formed_at k (atom (plain s) ts) ≡ true → AreShortTerms ts → IsSpelt (atom_text names k between s ts) (atom_tokens names k sign s ts)
     atom_spelt between sign middle s nil h short = term_spelt k le (app s nil) h short
     atom_spelt between sign middle s (cons t nil) h short = term_spelt k le (app s (cons t nil)) h short
     atom_spelt between sign middle s (cons t (cons u nil)) h short =
@@ -179,14 +180,14 @@ module _ (names : ℕ → ℕ) (most : ℕ) (few : AreNamesShort names most) whe
         ]
     atom_spelt between sign middle s (cons t (cons u (cons v vs))) h short = term_spelt k le (app s (cons t (cons u (cons v vs)))) h short
 
-    plain_spelt : (s : Sym) (ts : Terms) → is_formed_at k (atom s ts) ≡ true → AreShortTerms ts → IsSpelt (atom_text names k (codes " = ") s ts) (atom_tokens names k true s ts)
+    plain_spelt : (s : Sym) (ts : Terms) → is_formed_at k (atom (plain s) ts) ≡ true → AreShortTerms ts → IsSpelt (atom_text names k (codes " = ") s ts) (atom_tokens names k true s ts)
     plain_spelt = atom_spelt (codes " = ") true (equal_lexes, λ rest. refl)
 
     differing : (s : Sym) (ts : Terms) → is_equality s ts ≡ true → IsSpelt (atom_text names k (codes " != ") s ts) (atom_tokens names k false s ts) → IsSpelt (atom_text names k (codes " != ") s ts) (sides_tokens names k false ts)
     differing s ts e spelt = subst (λ (b : Bool). IsSpelt (atom_text names k (codes " != ") s ts) (λ us. if b then sides_tokens names k false ts us else term_tokens names k (app s ts) us)) e spelt
 
-    negated_atom_spelt : (s : Sym) (ts : Terms) → is_formed_at k (atom s ts) ≡ true → AreShortTerms ts
-        → IsSpelt (negated names k (atom s ts) (formula_text names k (atom s ts))) (negated_tokens names k (atom s ts) (formula_tokens names k (atom s ts)))
+    negated_atom_spelt : (s : Sym) (ts : Terms) → is_formed_at k (atom (plain s) ts) ≡ true → AreShortTerms ts
+        → IsSpelt (negated names k (atom (plain s) ts) (formula_text names k (atom (plain s) ts))) (negated_tokens names k (atom (plain s) ts) (formula_tokens names k (atom (plain s) ts)))
     negated_atom_spelt s ts h short =
         elim (is_equality s ts) as (λ (b : Bool). is_equality s ts ≡ b → IsSpelt (if b then atom_text names k (codes " != ") s ts else 126 ∷ atom_text names k (codes " = ") s ts)
         (λ us. if b then sides_tokens names k false ts us else Negation ∷ atom_tokens names k true s ts us)) [
@@ -219,10 +220,10 @@ module _ (names : ℕ → ℕ) (most : ℕ) (few : AreNamesShort names most) whe
   )
 
   pub formula_spelt : (k : ℕ) (f : Formula) → Formed k f
-  formula_spelt k (atom s ts) le h short = plain_spelt k (omega arith) s ts h short
+  formula_spelt k (atom p ts) le h short = plain_spelt k (omega arith) (pred_symbol p) ts (formed_application k p ts h) short
   formula_spelt k top le h short = record { starts = starts_with 36 (codes "true") refl refl; lexes = true_lexes }
   formula_spelt k bot le h short = record { starts = starts_with 36 (codes "false") refl refl; lexes = false_lexes }
-  formula_spelt k (not (atom s ts)) le h short = negated_atom_spelt k (omega arith) s ts h short
+  formula_spelt k (not (atom p ts)) le h short = negated_atom_spelt k (omega arith) (pred_symbol p) ts (formed_application k p ts h) short
   formula_spelt k (not f) le h short = negated_spelt (unit_of f (formula_text names k f)) (unit_tokens f (formula_tokens names k f)) (unit_spelt f (formula_text names k f) (formula_tokens names k f) (formula_spelt k f le h short))
   formula_spelt k (and f g) le h short =
       let (p, q) = both_spelt k f g (formula_spelt k f) (formula_spelt k g) le h short in

@@ -3,7 +3,7 @@ use Rattle.std.proofs.Common.{◌≡◌, ℕ, zero, suc, ◌+◌, ◌-◌, ◌�
 use Rattle.std.proofs.lemmas.Bool.{and_parts, or_parts, eqb-true, le-ltb}
 use Rattle.fol.specs.declared.symbols.Sym.{Sym}
 use Rattle.fol.specs.declared.symbols.Var.TheVariants.{Num}
-use Rattle.fol.specs.Syntax.{Term, free, bound, app, Terms, nil, cons, Formula, atom, top, bot, not, and, or, imp, all, ex}
+use Rattle.fol.specs.Syntax.{Term, free, bound, app, Terms, nil, cons, plain, pred_symbol, Formula, atom, top, bot, not, and, or, imp, all, ex}
 use Rattle.fol.specs.Formed.{is_formed_sym, count_terms, is_formed_term_at, are_formed_terms_at, is_formed_at}
 use Rattle.free_variables.specs.Occurrence.{is_free_in}
 use Rattle.tptp_tokens.specs.declared.tokens.Quantifier.{Quantifier}
@@ -17,6 +17,7 @@ use Rattle.tptp_read.specs.declared.state.Limits.{Limits}
 use Rattle.tptp_read.specs.Meaning.{symbol_of, equality_sym, equation, chained_by, quantified}
 use Rattle.tptp_read.specs.Grammar.{IsTerm, variable, constant, applied, IsArguments, last_argument, argument, next_variable, all_variables, IsUnit, truth_value, predicate, equality, negation, group, quantifier, body, IsFormula, alone, binary, chain, IsMembers, last_member, member}
 use Rattle.tptp_print.specs.Canonical.{is_equals, is_equality, is_binary}
+use Rattle.tptp_print.proofs.Agreement.{formed_application}
 use Rattle.tptp_round_trip.specs.Limits.{term_levels, argument_levels, list_levels, atom_levels, unit_levels, negation_levels, formula_levels, AreChainsWithin}
 use Rattle.tptp_round_trip.proofs.Tokens.{term_tokens, more_tokens, sides_tokens, atom_tokens, enclosed, unit_tokens, left_tokens, left_levels, chain_operators, negated_tokens, head_tokens, formula_tokens, of_each}
 use Rattle.tptp_round_trip.proofs.Opened.{opened_term, opened_terms, count-opened, opened, AreRising, bind_opened}
@@ -67,9 +68,9 @@ module _ (lim : Limits) (names : ℕ → ℕ) where
           (rest_reads ts l us (opened_term names k 0 t) (term_tokens names k t) (λ vs. term_reads t l vs (omega arith) (and_parts _ (are_formed_terms_at k ts) h).0) (omega arith) (and_parts (is_formed_term_at k t) _ h).1)
 
     -- the atoms
-    module _ (s : Sym) (ts : Terms) (h : is_formed_at k (atom s ts) ≡ true) where
+    module _ (s : Sym) (ts : Terms) (h : is_formed_at k (atom (plain s) ts) ≡ true) where
       abbrev means : Formula
-      means = opened names k 0 (atom s ts)
+      means = opened names k 0 (atom (plain s) ts)
 
       atom_reads : (l : ℕ) (us : List Token) → argument_levels ts ≤ l → IsUnit lim l (term_tokens names k (app s ts) us) means us
       atom_reads l us fits = predicate l (term_tokens names k (app s ts) us) us s (opened_terms names k 0 ts) (term_reads (app s ts) l us fits h)
@@ -79,9 +80,9 @@ module _ (lim : Limits) (names : ℕ → ℕ) where
     signed true f = f
     signed false f = not f
 
-    sign_out : (sign : Bool) (s : Sym) (t u : Term) → equality_sym ≡ s → equation sign t u ≡ signed sign (atom s (cons t (cons u nil)))
-    sign_out true s t u e = ap (λ (r : Sym). atom r (cons t (cons u nil))) e
-    sign_out false s t u e = ap (λ (r : Sym). not (atom r (cons t (cons u nil)))) e
+    sign_out : (sign : Bool) (s : Sym) (t u : Term) → equality_sym ≡ s → equation sign t u ≡ signed sign (atom (plain s) (cons t (cons u nil)))
+    sign_out true s t u e = ap (λ (r : Sym). atom (plain r) (cons t (cons u nil))) e
+    sign_out false s t u e = ap (λ (r : Sym). not (atom (plain r) (cons t (cons u nil)))) e
 
     equality_symbol : (s : Sym) (ts : Terms) → is_equals s.name ≡ true → (is_formed_sym s && eqb 2 s.arity && are_formed_terms_at k ts) ≡ true → equality_sym ≡ s
     equality_symbol s ts e h =
@@ -89,8 +90,8 @@ module _ (lim : Limits) (names : ℕ → ℕ) where
         let arity = eqb-true 2 s.arity (and_parts (is_formed_sym s) _ (and_parts _ (are_formed_terms_at k ts) h).0).1 in
         λ i. record { name = sym name i; arity = arity i }
 
-    equality_reads : (sign : Bool) (s : Sym) (ts : Terms) (l : ℕ) (us : List Token) → is_equality s ts ≡ true → list_levels ts ≤ l → is_formed_at k (atom s ts) ≡ true
-        → IsUnit lim l (sides_tokens names k sign ts us) (signed sign (opened names k 0 (atom s ts))) us
+    equality_reads : (sign : Bool) (s : Sym) (ts : Terms) (l : ℕ) (us : List Token) → is_equality s ts ≡ true → list_levels ts ≤ l → is_formed_at k (atom (plain s) ts) ≡ true
+        → IsUnit lim l (sides_tokens names k sign ts us) (signed sign (opened names k 0 (atom (plain s) ts))) us
     equality_reads sign s (cons t (cons u nil)) l us e fits h =
         let vs = Equality sign ∷ term_tokens names k u us in
         let formed = (and_parts _ (are_formed_terms_at k (cons t (cons u nil))) h).1 in
@@ -103,10 +104,10 @@ module _ (lim : Limits) (names : ℕ → ℕ) where
     equality_reads sign s (cons t nil) l us e fits h = cc
     equality_reads sign s (cons t (cons u (cons v vs))) l us e fits h = cc
 
-    plain_atom : (s : Sym) (ts : Terms) (l : ℕ) (us : List Token) → atom_levels s ts ≤ l → is_formed_at k (atom s ts) ≡ true → IsUnit lim l (atom_tokens names k true s ts us) (opened names k 0 (atom s ts)) us
+    plain_atom : (s : Sym) (ts : Terms) (l : ℕ) (us : List Token) → atom_levels s ts ≤ l → is_formed_at k (atom (plain s) ts) ≡ true → IsUnit lim l (atom_tokens names k true s ts us) (opened names k 0 (atom (plain s) ts)) us
     plain_atom s ts l us fits h =
         elim (is_equality s ts) as (λ (b : Bool). is_equality s ts ≡ b → (if b then list_levels ts else argument_levels ts) ≤ l
-        → IsUnit lim l (if b then sides_tokens names k true ts us else term_tokens names k (app s ts) us) (opened names k 0 (atom s ts)) us) [
+        → IsUnit lim l (if b then sides_tokens names k true ts us else term_tokens names k (app s ts) us) (opened names k 0 (atom (plain s) ts)) us) [
           | true ↦ λ e few. equality_reads true s ts l us e few h
           | false ↦ λ e few. atom_reads s ts h l us few
         ] refl fits
@@ -115,13 +116,13 @@ module _ (lim : Limits) (names : ℕ → ℕ) where
     negate zero ts us f reads some = absurd (omega arith)
     negate (suc l) ts us f reads some = negation l ts us f (reads l refl)
 
-    negated_atom : (s : Sym) (ts : Terms) (l : ℕ) (us : List Token) → negation_levels (atom s ts) (atom_levels s ts) ≤ l → is_formed_at k (atom s ts) ≡ true
-        → IsUnit lim l (negated_tokens names k (atom s ts) (atom_tokens names k true s ts) us) (not (opened names k 0 (atom s ts))) us
+    negated_atom : (s : Sym) (ts : Terms) (l : ℕ) (us : List Token) → negation_levels (atom (plain s) ts) (atom_levels s ts) ≤ l → is_formed_at k (atom (plain s) ts) ≡ true
+        → IsUnit lim l (negated_tokens names k (atom (plain s) ts) (atom_tokens names k true s ts) us) (not (opened names k 0 (atom (plain s) ts))) us
     negated_atom s ts l us fits h =
         elim (is_equality s ts) as (λ (b : Bool). is_equality s ts ≡ b → (if b then (if b then list_levels ts else argument_levels ts) else suc (if b then list_levels ts else argument_levels ts)) ≤ l
-        → IsUnit lim l (if b then sides_tokens names k false ts us else Negation ∷ (if b then sides_tokens names k true ts us else term_tokens names k (app s ts) us)) (not (opened names k 0 (atom s ts))) us) [
+        → IsUnit lim l (if b then sides_tokens names k false ts us else Negation ∷ (if b then sides_tokens names k true ts us else term_tokens names k (app s ts) us)) (not (opened names k 0 (atom (plain s) ts))) us) [
           | true ↦ λ e few. equality_reads false s ts l us e few h
-          | false ↦ λ e few. negate l (term_tokens names k (app s ts) us) us (opened names k 0 (atom s ts)) (λ m q. atom_reads s ts h m us (omega arith)) (omega arith)
+          | false ↦ λ e few. negate l (term_tokens names k (app s ts) us) us (opened names k 0 (atom (plain s) ts)) (λ m q. atom_reads s ts h m us (omega arith)) (omega arith)
         ] refl fits
 
   -- a first member of a chain, and that what follows the formula f, which ends behind n operators, follows it
@@ -242,10 +243,12 @@ module _ (lim : Limits) (names : ℕ → ℕ) where
     both_pieces k f g p q h apart short = (p (and_parts _ _ h).0 (λ d. (or_parts _ _ (apart d)).0) short.0, q (and_parts _ _ h).1 (λ d. (or_parts _ _ (apart d)).1) short.1)
 
     piece : (k : ℕ) (f : Formula) → HasPiece k f
-    piece k (atom s ts) h apart short = unit_piece k (atom s ts) refl (λ l us fits. plain_atom k s ts l us fits h)
+    piece k (atom p ts) h apart short =
+        unit_piece k (atom p ts) refl (λ l us fits. plain_atom k (pred_symbol p) ts l us fits (formed_application k p ts h))
     piece k top h apart short = unit_piece k top refl (λ l us fits. truth_value l us true)
     piece k bot h apart short = unit_piece k bot refl (λ l us fits. truth_value l us false)
-    piece k (not (atom s ts)) h apart short = unit_piece k (not (atom s ts)) refl (λ l us fits. negated_atom k s ts l us fits h)
+    piece k (not (atom p ts)) h apart short =
+        unit_piece k (not (atom p ts)) refl (λ l us fits. negated_atom k (pred_symbol p) ts l us fits (formed_application k p ts h))
     piece k (not f) h apart short =
         let p = piece k f h apart short in
         unit_piece k (not f) refl (λ l us fits. negate k l (unit_tokens f (formula_tokens names k f) us) us (opened names k 0 f) (λ m e. p.unit m us (omega arith)) (omega arith))

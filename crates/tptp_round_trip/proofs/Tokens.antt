@@ -4,7 +4,7 @@
 use Rattle.std.proofs.Common.{ℕ, ◌+◌, ◌-◌, Bool, true, false, if◌then◌else◌, List, ◌∷◌}
 use Rattle.fol.specs.declared.symbols.Sym.{Sym}
 use Rattle.fol.specs.declared.symbols.Var.TheVariants.{Num}
-use Rattle.fol.specs.Syntax.{Term, free, bound, app, Terms, nil, cons, Formula, atom, top, bot, not, and, or, imp, all, ex}
+use Rattle.fol.specs.Syntax.{Term, free, bound, app, Terms, nil, cons, pred_symbol, Formula, atom, top, bot, not, and, or, imp, all, ex}
 use Rattle.tptp_tokens.specs.declared.tokens.Quantifier.{Quantifier}
 use Rattle.tptp_tokens.specs.declared.tokens.Quantifier.TheVariants.{All, Ex}
 use Rattle.tptp_tokens.specs.declared.tokens.ChainOperator.{ChainOperator}
@@ -53,7 +53,7 @@ abbrev pub left_tokens : ChainOperator → Formula → (List Token → List Toke
 left_tokens c f body us = if is_chain c f then body us else unit_tokens f body us
 
 abbrev pub negated_tokens : (ℕ → ℕ) → ℕ → Formula → (List Token → List Token) → List Token → List Token
-negated_tokens names k (atom s ts) body us = if is_equality s ts then sides_tokens names k false ts us else Negation ∷ body us
+negated_tokens names k (atom p ts) body us = if is_equality (pred_symbol p) ts then sides_tokens names k false ts us else Negation ∷ body us
 negated_tokens names k f body us = Negation ∷ unit_tokens f body us
 
 -- a quantifier with its one variable
@@ -61,7 +61,7 @@ abbrev pub head_tokens : Quantifier → ℕ → List Token → List Token
 head_tokens q n us = Quantifies q ∷ OpenSquare ∷ Variable (Num n) ∷ CloseSquare ∷ Colon ∷ us
 
 abbrev pub formula_tokens : (ℕ → ℕ) → ℕ → Formula → List Token → List Token
-formula_tokens names k (atom s ts) us = atom_tokens names k true s ts us
+formula_tokens names k (atom p ts) us = atom_tokens names k true (pred_symbol p) ts us
 formula_tokens names k top us = Truth true ∷ us
 formula_tokens names k bot us = Truth false ∷ us
 formula_tokens names k (not f) us = negated_tokens names k f (formula_tokens names k f) us

@@ -5,7 +5,7 @@
 use Rattle.std.specs.Prelude.{◌≡◌, ℕ, suc, ◌^◌, ◌<◌, ◌≤◌, max, true, if◌then◌else◌}
 use Rattle.fol.specs.declared.symbols.Sym.{Sym}
 use Rattle.fol.specs.declared.symbols.Var.TheVariants.{Num}
-use Rattle.fol.specs.Syntax.{Term, free, bound, app, Terms, nil, cons, Formula, atom, top, bot, not, and, or, imp, all, ex}
+use Rattle.fol.specs.Syntax.{Term, free, bound, app, Terms, nil, cons, pred_symbol, Formula, atom, top, bot, not, and, or, imp, all, ex}
 use Rattle.finite.specs.Finite as set
 use Rattle.free_variables.specs.Occurrence.{is_free_in, is_free_in_term, vars_formula}
 use Rattle.tptp_print.specs.Choice.{numbers_of, outside}
@@ -44,11 +44,11 @@ left_of_or_levels f n = if is_or f then n else unit_levels f n
 
 -- a negation is a level, and that of an equality, with `!=`, is none
 abbrev pub negation_levels : Formula → ℕ → ℕ
-negation_levels (atom s ts) n = if is_equality s ts then n else suc n
+negation_levels (atom p ts) n = if is_equality (pred_symbol p) ts then n else suc n
 negation_levels f n = suc (unit_levels f n)
 
 abbrev pub formula_levels : Formula → ℕ
-formula_levels (atom s ts) = atom_levels s ts
+formula_levels (atom p ts) = atom_levels (pred_symbol p) ts
 formula_levels top = 0
 formula_levels bot = 0
 formula_levels (not f) = negation_levels f (formula_levels f)

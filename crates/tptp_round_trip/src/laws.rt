@@ -1,7 +1,8 @@
 //! Canonical texts are read back. Each function does nothing: its contract is the law.
-ghost use Rattle.std.specs.Prelude.{◌≡◌, ℕ, ◌^◌, ◌<◌, true, length};
+ghost use Rattle.std.specs.Prelude.{◌≡◌, ℕ, ◌^◌, ◌<◌, true, false, length};
 ghost use Rattle.fol.specs.declared.symbols.Var.TheVariants.{Num};
 ghost use Rattle.fol.specs.Syntax.{Formula, Term};
+ghost use Rattle.fol.specs.Facts.{has_body};
 ghost use Rattle.fol.specs.Formed.{IsFormed, IsFormedTerm};
 ghost use Rattle.finite.specs.Finite as set;
 ghost use Rattle.free_variables.specs.Occurrence.{is_free_in, vars_formula};
@@ -9,12 +10,12 @@ ghost use Rattle.tptp_read.specs.Texts.{IsFormulaText, IsTermText};
 ghost use Rattle.tptp_print.specs.Canonical.{canonical, canonical_term};
 ghost use Rattle.tptp_round_trip.specs.Limits.{IsWithinLimits, IsTermWithinLimits, AreNumbersInRange, AreTermNumbersInRange};
 
-/// The canonical text of a formula within the reader's limits means the formula. If the text means anything, the formula is within the
-/// limits, and it is what the text means.
+/// The canonical text of a formula within the reader's limits means the formula, where none of its predicate symbols has a body: such a
+/// symbol is written as its name. If the text means anything, the formula is within the limits, and it is what the text means.
 pub fn canonical_formulas_are_read()
-    ensures read { (f : Formula) → IsFormed f → IsWithinLimits f → AreNumbersInRange f → IsFormulaText (canonical f) f }
+    ensures read { (f : Formula) → has_body f ≡ false → IsFormed f → IsWithinLimits f → AreNumbersInRange f → IsFormulaText (canonical f) f }
     ensures within { (f g : Formula) → IsFormed f → AreNumbersInRange f → IsFormulaText (canonical f) g → IsWithinLimits f }
-    ensures only { (f g : Formula) → IsFormed f → AreNumbersInRange f → IsFormulaText (canonical f) g → g ≡ f }
+    ensures only { (f g : Formula) → has_body f ≡ false → IsFormed f → AreNumbersInRange f → IsFormulaText (canonical f) g → g ≡ f }
 {}
 
 /// The same of terms.

@@ -1,10 +1,8 @@
 -- The trees get smaller, and a rule has at most two premises.
-use Rattle.std.proofs.Common.{◌≤◌, length, ap, subst, ◌∙◌, arith}
+use Rattle.std.proofs.Common.{◌≤◌, length, ap, ◌∙◌, arith}
 use Rattle.std.proofs.lemmas.List.{length-map}
-use Rattle.proof_trees.specs.Trees.{Trees}
 use Rattle.proof_graph.specs.Shown.{nodes_all}
 use Rattle.proof_graph.specs.References.{Reference}
-use Rattle.arena_graph.specs.FormedEnds.{HaveFormedEnds}
 use Rattle.arena_graph.proofs.Trees.{nodes_root, few_premises}
 use Rattle.arena_graph.proofs.Larger.{numbers_stay}
 use Rattle.arena_graph.proofs.imports.+import.Goals as goal
@@ -20,7 +18,6 @@ import_new-import_over-requires t c = record {
   of = c.requires.of;
   there = c.in_ok-premises.ensures.there;
   trees = c.in_ok-premises.ensures.trees ∙ c.premises.ensures.trees;
-  formed = subst (λ (ts : Trees). HaveFormedEnds ts) c.premises.ensures.trees c.in_ok-premises.ensures.formed;
 }
 
 pub import_new-returns-clause-numbers_stay : goal.import_new-returns-clause-numbers_stay

@@ -9,7 +9,7 @@ use Rattle.arena_cells.specs.Meaning.{trees_at}
 use Rattle.arena_cells.specs.Standing.{HasTree}
 use Rattle.arena_cells.proofs.Reading.{if_ok}
 use Rattle.arena_graph.specs.FormedEnds.{IsFormedSequent}
-use Rattle.arena_graph.proofs.Trees.{root_tree, formed_over}
+use Rattle.arena_graph.proofs.Trees.{root_tree}
 use Rattle.arena_graph.proofs.imports.import_over.Goals as goal
 
 pub returns-clause-tree : goal.returns-clause-tree
@@ -20,4 +20,5 @@ returns-clause-tree c =
     if_ok c.put_node.result _ (λ (n : ℕ). HasTree c.put_node.new.arena n p) (λ n s. s ∙ ap (λ (t : Tree). Some (tree t)) same) c.put_node.ensures.tree
 
 pub returns-clause-formed : goal.returns-clause-formed
-returns-clause-formed c = formed_over c.args.proof.now.tree (subst (λ (s : Sequent). IsFormedSequent s) (ap (λ (n : Node). n.end) c.get-root.ensures) c.see_formed.ensures) c.requires.formed
+returns-clause-formed c =
+    subst (λ (s : Sequent). IsFormedSequent s) (ap (λ (n : Node). n.end) c.get-root.ensures) c.see_formed.ensures

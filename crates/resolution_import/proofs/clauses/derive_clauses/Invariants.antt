@@ -1,7 +1,10 @@
--- The clauses of the steps so far are derived.
-use Rattle.std.proofs.Common.{◌≡◌, [], drop}
-use Rattle.resolution_import.specs.DerivedClauses.{clauses_derived}
+-- The clauses of the steps so far stand at their numbers.
+use Rattle.arena_cells.specs.Standing.{Extends}
+use Rattle.resolution_import.proofs.Refuted.{AreBegun}
 use Rattle.resolution_import.proofs.clauses.derive_clauses.Given as goal
 
 abbrev pub invariant-loop-number : goal.invariant-loop-number
-invariant-loop-number l = clauses_derived l.clauses l.derived.items l.number (drop l.number l.steps) ≡ clauses_derived l.clauses [] 0 l.steps
+invariant-loop-number l = record {
+  grown : Extends l.fn.arena l.arena;
+  begun : AreBegun l.arena l.clauses l.steps l.derived.items l.number;
+}

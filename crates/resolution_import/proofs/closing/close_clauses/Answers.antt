@@ -1,11 +1,21 @@
--- The closures stand in the sequent.
-use Rattle.resolution_import.proofs.Standing.{stand_in_set, closed_end}
+-- The closures stand, and make the sequent.
+use Rattle.std.proofs.Common.{List, map, ap, ◌∙◌}
+use Rattle.std.specs.Prelude.{Some}
+use Rattle.fol.specs.Syntax.{Formula}
+use Rattle.finite.specs.Finite as set
+use Rattle.arena_cells.specs.Items.{sequent}
+use Rattle.arena_cells.specs.Standing.{formula_at}
+use Rattle.arena_cells.proofs.Staying.{formula_there, formulas_stay}
 use Rattle.resolution_import.proofs.closing.close_clauses.Goals as goal
 
-pub returns : goal.returns
-returns c = record {
-  each = c.in_ok-closures.ensures.value;
-  formed = c.in_ok-closures.ensures.formed;
-  end = closed_end c.args.clauses.now c.in_ok-closures.closures.items c.deref.result.now c.in_ok-set_of.field-0 c.new.result c.in_ok-closures.ensures.value c.deref.ensures.value c.in_ok-set_of.ensures c.new.ensures;
-  stand = stand_in_set c.in_ok-set_of.field-0 c.in_ok-closures.closures.items c.deref.result.now c.deref.ensures.value c.in_ok-set_of.ensures;
-}
+pub returns-clause-closed : goal.returns-clause-closed
+returns-clause-closed c =
+    let a = c.close_each.new.arena in
+    let b = c.put_left.new.arena in
+    let each = c.in_ok-closures.ensures in
+    record {
+      there = λ k d l. formula_there a b c.put_left.ensures.grown _ (each.there k d l);
+      each = formulas_stay a b c.put_left.ensures.grown c.in_ok-closures.closures.items each.there ∙ each.closures;
+      end = c.in_ok-end.ensures.sequent
+          ∙ ap (λ (fs : List Formula). Some (sequent (record { left = set.adds_each set.empty fs; right = set.empty }))) (ap (map (formula_at a)) c.deref.ensures.value ∙ each.closures);
+    }

@@ -1,17 +1,17 @@
--- A key that the index doesn't give is that of no cell, and its item stands nowhere.
+-- A key is found where its item stands.
 use Rattle.std.proofs.Common.{◌≡◌, ℕ, List, sym, ◌∙◌, subst}
-use Rattle.std.specs.Prelude.{None}
-use Rattle.std.specs.BTreeMap as ordered
 use Rattle.arena_cells.specs.Items.{Item}
-use Rattle.arena_cells.specs.Keys.{key_cmp}
 use Rattle.arena_cells.specs.Standing.{Stands}
 use Rattle.arena_cells.specs.Meaning.{meaning, HasParts}
-use Rattle.arena_cells.proofs.Reading.{none_is}
-use Rattle.arena_cells.proofs.Growth.{absent_item}
+use Rattle.arena_cells.proofs.Growth.{found_item, absent_item}
 use Rattle.arena_cells.proofs.cells.Cells.find.Goals as goal
 
-pub returns-clause-absent : goal.returns-clause-absent
-returns-clause-absent c none =
-    let missing : ordered.get key_cmp c.self.inside.places c.args.key.now ≡ None = sym c.get.ensures.value ∙ sym c.copied.ensures ∙ none_is c.copied.result none in
+pub returns-in_err-number-clause-absent : goal.returns-in_err-number-clause-absent
+returns-in_err-number-clause-absent c none =
     subst (λ (a : List Item). (n : ℕ) → Stands a n (meaning a c.args.key.now) → ⊥) c.self.view_is
-    (absent_item c.self.inside c.self.invariant c.args.key.now (subst (λ (a : List Item). HasParts a c.args.key.now) (sym c.self.view_is) c.requires) missing)
+    (absent_item c.self.inside c.self.invariant c.args.key.now (subst (λ (a : List Item). HasParts a c.args.key.now) (sym c.self.view_is) c.requires) (sym c.in_err-number.ensures.found))
+
+pub returns-clause-found : goal.returns-clause-found
+returns-clause-found c =
+    subst (λ (a : List Item). Stands a c.in_ok-number.number (meaning a c.args.key.now)) c.self.view_is
+    (found_item c.self.inside c.self.invariant c.args.key.now c.in_ok-number.number (sym c.in_ok-number.ensures.index))

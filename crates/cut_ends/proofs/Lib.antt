@@ -1,2 +1,0 @@
-pub mod FormedCuts
-pub mod FormedResults

@@ -1,6 +1,0 @@
--- The entries so far are copied.
-use Rattle.std.proofs.Common.{◌≡◌, take}
-use Rattle.tptp_problem.proofs.problems.Entries.copy.Given as goal
-
-abbrev pub invariant-loop-entry : goal.invariant-loop-entry
-invariant-loop-entry l = l.items.items ≡ take l.entry-index l.entry-items
