@@ -15,7 +15,7 @@ use Rattle.expansion_laws.specs.Proofs.{are_distinct}
 use Rattle.exp_check.specs.Eigenvariables.{times, is_repeated, is_free_eigenvariable, IsLeast}
 use Rattle.exp_check.proofs.Repeats.{equal_back, self_tied, times_more, at_most_back, more_back, or_parts}
 
-none_times : (v : Var) (vs : List Var) → list_all (λ w. not (eq_by_cmp var_cmp v w)) vs ≡ true → times vs v ≡ 0
+pub none_times : (v : Var) (vs : List Var) → list_all (λ w. not (eq_by_cmp var_cmp v w)) vs ≡ true → times vs v ≡ 0
 none_times v [] h = refl
 none_times v (u ∷ us) h =
     let both = and_parts (not (eq_by_cmp var_cmp v u)) (list_all (λ w. not (eq_by_cmp var_cmp v w)) us) h in

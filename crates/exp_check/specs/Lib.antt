@@ -1,2 +1,7 @@
 pub mod Eigenvariables
 pub mod Edges
+pub mod Links
+pub mod Cycles
+pub mod Ranks
+pub mod Distances
+pub mod Checking

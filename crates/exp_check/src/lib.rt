@@ -1,8 +1,17 @@
-//! The check of expansion proofs: the conditions on the variables of strong quantifiers.
+//! The check of expansion proofs, after Miller (1987): the conditions on the variables of strong quantifiers, and the search for a proof of
+//! what the trees stand for.
 #![tactic(auto)]
 
+mod checking;
+mod cycles;
 mod dependency;
 mod eigenvariables;
+mod fault;
+pub mod laws;
+mod links;
+mod ranks;
 
+pub use checking::check_proof;
 pub use dependency::{Edge, edges};
 pub use eigenvariables::{eigen_free, eigen_twice};
+pub use fault::ExpFault;

@@ -17,4 +17,6 @@ pub mod RisingLists
 pub mod TableTrees
 pub mod Entered
 pub mod Written
+pub mod FlatReadings
+pub mod RightTrees
 mod Examples

@@ -10,6 +10,7 @@ pub mod Reading
 pub mod RootReading
 pub mod Sequents
 pub mod Reads
+pub mod FlatReading
 pub mod Instances
 pub mod Subtrees
 pub mod Writing

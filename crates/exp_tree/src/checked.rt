@@ -1,9 +1,10 @@
 //! Expansion proofs.
-ghost use Rattle.std.specs.Prelude.{◌≡◌};
+ghost use Rattle.std.specs.Prelude.{◌≡◌, IfOk};
 ghost use Rattle.expansion_laws.specs.Proofs.{shallow_sequent, IsExpansionProof};
 ghost use Rattle.exp_tree.specs.Reads.{expansion_of};
 
 use crate::sequents::ExpSequent;
+use std::alloc::{AllocError, Global};
 use std::marker::Model;
 
 /// Expansion trees that are an expansion proof of the sequent of their formulas.
@@ -42,5 +43,13 @@ impl CheckedExp {
         ensures proof { IsExpansionProof (expansion_of self.now) (shallow_sequent (expansion_of self.now)) }
     {
         &self.exps
+    }
+
+    /// The same expansion proof, whose trees are shared.
+    pub fn copy(&self, alloc: Global) -> Result<CheckedExp, AllocError>
+        ensures { IfOk result (λ copy. copy ≡ self.now) }
+    {
+        let exps = self.tree().copy(alloc)?;
+        Ok(CheckedExp::new(exps))
     }
 }

@@ -9,6 +9,7 @@ mod expansion;
 mod facts;
 mod flat;
 mod flat_insts;
+pub mod laws;
 mod node_keys;
 mod nodes;
 mod reading;

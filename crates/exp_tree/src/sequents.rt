@@ -1,10 +1,11 @@
 //! Expansion trees for the two sides of a sequent.
-ghost use Rattle.std.specs.Prelude.{◌≡◌, true};
+ghost use Rattle.std.specs.Prelude.{◌≡◌, true, IfOk};
 ghost use Rattle.std.specs.List.{All};
 ghost use Rattle.expansion_laws.specs.Building.{is_built};
 ghost use Rattle.exp_tree.specs.Sequents.{AreArranged};
 
 use crate::expansion::Exp;
+use std::alloc::{AllocError, Global};
 use std::marker::Model;
 
 /// Expansion trees by rising formula, of which no two have the same.
@@ -45,6 +46,17 @@ impl Exps {
     {
         self.items.as_slice()
     }
+
+    /// The same trees, which are shared.
+    pub fn copy(&self, alloc: Global) -> Result<Exps, AllocError>
+        ensures { IfOk result (λ copy. copy ≡ self.now) }
+    {
+        let mut items = Vec::with_capacity(alloc, self.as_slice().len())?;
+        for tree in self.as_slice() {
+            items.push(tree.copy()?)?;
+        }
+        Ok(Exps::from_vec(items))
+    }
 }
 
 /// Expansion trees for the formulas of a sequent: for the antecedent on the left, and for the succedent on the right.
@@ -63,5 +75,14 @@ impl ExpSequent {
     {
         let _left = self.left.as_slice();
         let _right = self.right.as_slice();
+    }
+
+    /// The same trees, which are shared.
+    pub fn copy(&self, alloc: Global) -> Result<ExpSequent, AllocError>
+        ensures { IfOk result (λ copy. copy ≡ self.now) }
+    {
+        let left = self.left.copy(alloc)?;
+        let right = self.right.copy(alloc)?;
+        Ok(ExpSequent { left, right })
     }
 }

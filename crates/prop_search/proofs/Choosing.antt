@@ -1,5 +1,5 @@
 -- The rule that is taken, by what is found first.
-use Rattle.std.proofs.Common.{◌≡◌, ℕ, ◌<◌, Bool, true, false, List, length, Option, Some, None, refl, sym, ap, ◌∙◌, if◌then◌else◌}
+use Rattle.std.proofs.Common.{◌≡◌, Bool, true, Option, Some, None, refl, sym, if◌then◌else◌}
 use Rattle.std.specs.Prelude.{find, option_map, option_and_then}
 use Rattle.fol.specs.Syntax.{Formula, top, bot, not, and, or, imp}
 use Rattle.finite.specs.Finite as set

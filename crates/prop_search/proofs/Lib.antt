@@ -6,9 +6,7 @@ pub mod Rooted
 pub mod SequentsOf
 pub mod LeastFormulas
 pub mod Picked
-pub mod Extended
 pub mod Walking
 pub mod ProofParts
-pub mod Taking
 pub mod PartsOf
 pub mod Choosing

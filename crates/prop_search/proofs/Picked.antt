@@ -1,6 +1,6 @@
 -- The formulas whose numbers are in a set, picked one after another; and the sequents with the formulas of lists.
-use Rattle.std.proofs.Common.{◌≡◌, ℕ, ◌+◌, ◌*◌, ◌<◌, Bool, true, false, ◌||◌, cond, List, [], ◌∷◌, ◌++◌, filter, take, length, get_or, append-nil, refl, sym, ap, ◌∙◌, if◌then◌else◌, arith}
-use Rattle.std.specs.List.{All, list_all, list_any}
+use Rattle.std.proofs.Common.{◌≡◌, ℕ, ◌+◌, ◌*◌, ◌<◌, Bool, true, false, ◌||◌, cond, List, [], ◌∷◌, ◌++◌, filter, take, length, get_or, refl, sym, ap, ◌∙◌, if◌then◌else◌}
+use Rattle.std.specs.List.{list_any}
 use Rattle.std.specs.Ordering.{eq_by_cmp}
 use Rattle.std.proofs.lemmas.List.{get_or_read, take_more}
 use Rattle.fol.specs.Syntax.{Formula, top}

@@ -1,8 +1,7 @@
 -- The connectives at the heads of formulas, one more, and their marks.
-use Rattle.std.proofs.Common.{◌≡◌, ◌≢◌, ℕ, ◌+◌, ◌<◌, ◌≤◌, Bool, true, false, ◌||◌, eqb, List, [], ◌∷◌, ◌++◌, length, get_or, Option, Some, None, is_some, below_more, refl, sym, ap, subst, ◌∙◌, arith}
-use Rattle.std.proofs.lemmas.Bool.{cases_eq, cases_lt, eq-eqb, ne_eqb}
+use Rattle.std.proofs.Common.{◌≡◌, ℕ, ◌+◌, ◌<◌, List, [], ◌∷◌, ◌++◌, length, get_or, Option, Some, None, is_some, below_more, sym, ap, subst, arith}
 use Rattle.std.proofs.lemmas.List.{get_or_read, get_or_append_left, get_or_push}
-use Rattle.fol.specs.Syntax.{Formula, top, not, and, or, imp}
+use Rattle.fol.specs.Syntax.{Formula, top}
 use Rattle.search_laws.specs.Search.{is_compound}
 use Rattle.prop_search.specs.declared.connective.Connective.{Connective}
 use Rattle.prop_search.specs.declared.connective.Connective.TheVariants.{Not, And, Or, Imp}

@@ -1,5 +1,5 @@
 -- Sequents of sets of numbers: with one more formula and with one fewer, and their sides apart.
-use Rattle.std.proofs.Common.{◌≡◌, ◌≢◌, ℕ, ◌+◌, ◌*◌, ◌/◌, ◌%◌, ◌<◌, ◌≤◌, Bool, true, false, not, ◌&&◌, ◌||◌, eqb, List, length, get_or, take, drop, refl, sym, ap, ◌∙◌, arith}
+use Rattle.std.proofs.Common.{◌≡◌, ◌≢◌, ℕ, ◌+◌, ◌*◌, ◌/◌, ◌%◌, ◌<◌, not, ◌&&◌, ◌||◌, eqb, List, length, get_or, take, drop, sym, ap, ◌∙◌, arith}
 use Rattle.std.specs.Int.{bit_at}
 use Rattle.std.proofs.lemmas.Bool.{ne_eqb}
 use Rattle.std.proofs.lemmas.Bool.Decides.{nat_tests}
@@ -7,13 +7,12 @@ use Rattle.std.proofs.lemmas.List.{get_or-take, get_or-drop}
 use Rattle.fol.specs.Syntax.{Formula}
 use Rattle.fol.specs.Order.{formula_cmp}
 use Rattle.finite.specs.Finite as set
-use Rattle.lk_rules.specs.declared.sequent.Sequent.{Sequent}
 use Rattle.lk_rules.specs.declared.sequent.Side.{Side}
 use Rattle.lk_rules.specs.declared.sequent.Side.TheVariants.{Left, Right}
 use Rattle.lk_rules.specs.Sequents.{adds_to}
 use Rattle.search_laws.proofs.Tests.{and-false}
 use Rattle.prop_search.specs.Bits.{has_number}
-use Rattle.prop_search.specs.Formulas.{formula_at, side_of, span, sequent_of, IsFit}
+use Rattle.prop_search.specs.Formulas.{formula_at, span, sequent_of, IsFit}
 use Rattle.prop_search.specs.Premises.{place_on, takes_from}
 use Rattle.prop_search.proofs.BitSets.{by_bit}
 use Rattle.prop_search.proofs.SideMembers.{same_side, side-insert, side-remove}

@@ -1,9 +1,8 @@
 -- Sides by numbers: which formulas they have, one more and one fewer, and the first one that passes a test.
-use Rattle.std.proofs.Common.{◌≡◌, ◌≢◌, ℕ, zero, suc, ◌+◌, ◌<◌, ◌≤◌, Bool, true, false, not, ◌&&◌, ◌||◌, cond, eqb, List, [], ◌∷◌, filter, length, get_or, Option, Some, None, IfSome, IsNone, inl, inr, refl, sym, ap, subst, ◌∙◌, arith}
+use Rattle.std.proofs.Common.{◌≡◌, ◌≢◌, ℕ, zero, suc, ◌+◌, ◌<◌, Bool, true, false, not, ◌&&◌, ◌||◌, cond, eqb, List, [], ◌∷◌, filter, length, Option, Some, None, IfSome, IsNone, inl, inr, refl, sym, ap, subst, ◌∙◌, arith}
 use Rattle.std.specs.Prelude.{find, option_map}
-use Rattle.std.specs.List.{list_any, position_or_len}
 use Rattle.std.specs.Ordering.{eq_by_cmp, is_eq}
-use Rattle.std.proofs.lemmas.Bool.{cases_eq, cases_lt, cases_order, eq-eqb, ne_eqb}
+use Rattle.std.proofs.lemmas.Bool.{cases_eq, cases_order, eq-eqb, ne_eqb}
 use Rattle.std.proofs.lemmas.List.Kept.{IsStrictlySortedBy-filter}
 use Rattle.std.proofs.lemmas.List.Sums.{position_or_len_is}
 use Rattle.std.proofs.lemmas.Map.Views.{any-filter_same}
@@ -23,7 +22,6 @@ use Rattle.refutations.specs.Refutations.{without}
 use Rattle.refutations.proofs.FormulaSets.{equal, tied, without_member}
 use Rattle.search_laws.proofs.Listed.{kept}
 use Rattle.search_laws.proofs.Tests.{split, clash, not_true, same_truth}
-use Rattle.prop_search.specs.Bits.{has_number}
 use Rattle.prop_search.specs.Formulas.{formula_at, number_of, is_listed, side_of}
 
 -- the formula at a place of a list is listed

@@ -1,12 +1,12 @@
 -- How a walk and its parts use up a budget.
-use Rattle.std.proofs.Common.{◌≡◌, ℕ, suc, ◌+◌, ◌-◌, ◌<◌, ◌≤◌, Bool, true, false, Some, None, refl, sym, ap, subst, ◌∙◌, arith, if◌then◌else◌}
-use Rattle.std.specs.Prelude.{Result, Ok, Err, nat_lt}
+use Rattle.std.proofs.Common.{◌≡◌, ℕ, suc, ◌+◌, ◌<◌, ◌≤◌, Bool, true, false, Some, None, refl, sym, ap, subst, ◌∙◌, arith, if◌then◌else◌}
+use Rattle.std.specs.Prelude.{◌↔◌, Result, Ok, Err, IfOk, nat_lt}
 use Rattle.std.proofs.lemmas.Bool.Decides.{nat_tests}
 use Rattle.lk_rules.specs.declared.sequent.Sequent.{Sequent}
 use Rattle.lk_rules.specs.declared.rule.Rule.{Rule}
 use Rattle.lk_rules.specs.Rules.{needs}
 use Rattle.proof_trees.specs.Trees.{Tree, node, none, more, size}
-use Rattle.search_laws.specs.Truth.{Assignment}
+use Rattle.search_laws.specs.Truth.{Assignment, IsTautology}
 use Rattle.search_laws.specs.Search.{Walk, proved, falsified, Walks, all_proved, one_falsified, visits, premises_from, after_first, with_first, walk_each, inferred, by_rule, rule_at, left_atoms, walk}
 use Rattle.prop_search.specs.declared.fault.SearchFault.{SearchFault}
 use Rattle.prop_search.specs.declared.fault.SearchFault.TheVariants.{Falsified, Budget, Memory}
@@ -105,15 +105,15 @@ by_verdict true w t e = cc
 by_verdict false (proved u) t e = cc
 by_verdict false (falsified n a) t e = cc
 
-by_false : (b : Bool) (w : Walk) (a : Assignment) → (if b then Err Budget else verdict w) ≡ Err (Falsified a) → (n : ℕ) × (w ≡ falsified n a)
-by_false true w a e = cc
-by_false false (proved u) a e = cc
-by_false false (falsified n c) a e = let same : c ≡ a = cc in (n, ap (falsified n) same)
-
 -- a proof was found
 pub proof_found : (n : ℕ) (w : Walk) (t : Tree) → found n w ≡ Ok t → w ≡ proved t
 proof_found n w t e = by_verdict (nat_lt n (visits w)) w t e
 
--- the sequent is false
-pub false_found : (result : Result (Unit {0}) SearchFault) (n : ℕ) (w : Walk) (a : Assignment) → Decides result (found n w) → result ≡ Err (Falsified a) → (k : ℕ) × (w ≡ falsified k a)
-false_found result n w a h e = by_false (nat_lt n (visits w)) w a (subst (λ r. Decides r (found n w)) e h)
+-- the sequent is a tautology
+pub tautology_found : (result : Result (Unit {0}) SearchFault) (n m : ℕ) (s : Sequent) → WalksTo result n m (walk s) → (IsTautology s ↔ ((t : Tree) × (walk s ≡ proved t))) → IfOk result (λ _. IsTautology s)
+tautology_found (Ok u) n m s h law = law.1 (h.0, h.1)
+tautology_found (Err e) n m s h law = tt
+
+-- it is false
+pub false_found : (result : Result (Unit {0}) SearchFault) (n m : ℕ) (w : Walk) (a : Assignment) → WalksTo result n m w → result ≡ Err (Falsified a) → (k : ℕ) × (w ≡ falsified k a)
+false_found result n m w a h e = let at = subst (λ r. WalksTo r n m w) e h in (at.0, at.1)

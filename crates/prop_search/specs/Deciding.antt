@@ -2,11 +2,14 @@
 --     verdict, found      the answer
 --     Decides, Finds      the code answers just that, unless memory runs out
 --     WalksTo, WalkInTurn      what one part of the walk does with the budget, and what some parts do one after the other
---     IsProved      the walk finds a proof
-use Rattle.std.specs.Prelude.{◌≡◌, ℕ, ◌+◌, ◌<◌, ◌≤◌, nat_lt, true, if◌then◌else◌, Result, Ok, Err}
+--     IsInferred      the walk goes on to these premises
+--     IsProvedIn, IsProved, AreProved      walks that find proofs
+use Rattle.std.specs.Prelude.{◌≡◌, ℕ, ◌+◌, ◌<◌, ◌≤◌, nat_lt, true, List, if◌then◌else◌, Result, Ok, Err}
 use Rattle.proof_trees.specs.Trees.{Tree, Trees, size, count_rules_all}
 use Rattle.proof_graph.specs.References.{Reference}
-use Rattle.search_laws.specs.Search.{Walk, proved, falsified, Walks, all_proved, one_falsified, visits}
+use Rattle.lk_rules.specs.declared.sequent.Sequent.{Sequent}
+use Rattle.lk_rules.specs.declared.rule.Rule.{Rule}
+use Rattle.search_laws.specs.Search.{Walk, proved, falsified, Walks, all_proved, one_falsified, visits, inferred, walk_each, walk}
 use Rattle.prop_search.specs.declared.fault.SearchFault.{SearchFault}
 use Rattle.prop_search.specs.declared.fault.SearchFault.TheVariants.{Falsified, Budget, Memory}
 
@@ -55,7 +58,19 @@ WalkInTurn (Err Memory) n m ws = Unit {0}
 WalkInTurn (Err Budget) n m ws = n < visits_each ws
 WalkInTurn (Err (Falsified a)) n m ws = (k : ℕ) × (ws ≡ one_falsified k a) × (k ≤ n)
 
--- the walk finds a proof
+-- the walk goes from the sequent to these premises
+abbrev pub IsInferred : Sequent → List Sequent → Type 0
+IsInferred s ss = (r : Rule) × (walk s ≡ inferred r s (walk_each walk ss))
+
+-- it visits so many sequents and finds a proof
+abbrev pub IsProvedIn : ℕ → Walk → Type 0
+IsProvedIn n w = (t : Tree) × (w ≡ proved t) × (n ≡ size t)
+
+-- the walk finds a proof, and some walks find proofs
 abbrev pub IsProved : Walk → Type 0
 IsProved (proved t) = Unit {0}
 IsProved (falsified n a) = ⊥
+
+abbrev pub AreProved : Walks → Type 0
+AreProved (all_proved ts) = Unit {0}
+AreProved (one_falsified n a) = ⊥

@@ -5,3 +5,5 @@ pub mod Parts
 pub mod Premises
 pub mod Numbering
 pub mod Choices
+pub mod Seen
+pub mod Made

@@ -1,8 +1,8 @@
 -- Compound formulas on a side of a sequent: their rules, their parts by number, and the premises that have these.
 --     rule_on, rule_with      the rule of a formula's connective on a side
---     parts_of, count_of, AreWithin      what takes the place of the formula
+--     parts_of, AreWithin      what takes the place of the formula
 --     place_on      where a formula stands in the set of numbers for both sides
---     takes_from, with_part, with_each, premises_by      sequents without the formula, and with others
+--     takes_from, without_main, with_part, with_each, premises_by, premises_of      sequents without the formula, and with others
 use Rattle.std.specs.Prelude.{ℕ, ◌+◌, ◌<◌, List, [], ◌∷◌, length, Option}
 use Rattle.fol.specs.Syntax.{Formula}
 use Rattle.finite.specs.Finite as set
@@ -54,12 +54,6 @@ parts_of Right (Or a b) = Both (on_right a) (on_right b)
 parts_of Left (Imp a b) = Either (on_right a) (on_left b)
 parts_of Right (Imp a b) = Both (on_left a) (on_right b)
 
--- how many premises have them
-abbrev pub count_of : Parts → ℕ
-count_of (One x) = 1
-count_of (Both x y) = 1
-count_of (Either x y) = 2
-
 -- the parts have numbers
 abbrev pub AreWithin : List Formula → Parts → Type 0
 AreWithin fs (One x) = x.number < length fs
@@ -76,6 +70,9 @@ abbrev pub takes_from : Sequent → Side → Formula → Sequent
 takes_from s Left f = record s { left = without s.left f }
 takes_from s Right f = record s { right = without s.right f }
 
+abbrev pub without_main : List Formula → Sequent → Signed → Sequent
+without_main fs s x = takes_from s x.side (formula_at fs x.number)
+
 -- a sequent with the formulas of a list on a side
 abbrev pub with_each : Sequent → Side → List Formula → Sequent
 with_each s Left fs = record s { left = set.adds_each s.left fs }
@@ -90,3 +87,7 @@ abbrev pub premises_by : List Formula → Sequent → Parts → List Sequent
 premises_by fs s (One x) = with_part fs s x ∷ []
 premises_by fs s (Both x y) = with_part fs (with_part fs s x) y ∷ []
 premises_by fs s (Either x y) = with_part fs s x ∷ with_part fs s y ∷ []
+
+-- those of a conclusion with its main formula
+abbrev pub premises_of : List Formula → Sequent → Signed → Parts → List Sequent
+premises_of fs s main x = premises_by fs (without_main fs s main) x

@@ -2,6 +2,8 @@
 ghost use Rattle.std.specs.Prelude.{◌≡◌, ◌*◌, ◌<◌, ◌≤◌, ◌^◌, ℕ, true, false, not, ◌&&◌, ◌||◌, ◌==◌, length, IfSome, IsNone};
 ghost use Rattle.prop_search.specs.Bits.{has_number};
 
+use fol::mix;
+
 /// Whether the number is in the set.
 pub(crate) fn has(words: &[u64], number: usize) -> bool
     requires { number < 64 * length words.now }
@@ -42,4 +44,11 @@ pub(crate) fn first_common(a: &[u64], b: &[u64]) -> Option<u32>
         }
     }
     None
+}
+
+/// A number in which unequal sets mostly differ.
+pub(crate) fn fingerprint(words: &[u64]) -> u64 {
+    words
+        .iter()
+        .fold(0, |fingerprint, word| mix(fingerprint, *word))
 }

@@ -1,8 +1,9 @@
 //! Connectives, and what takes the place of a formula with one.
 ghost use Rattle.std.specs.Prelude.{◌≡◌};
-ghost use Rattle.prop_search.specs.Premises.{on_left, on_right, parts_of};
+ghost use Rattle.prop_search.specs.Premises.{on_left, on_right, parts_of, rule_with};
 
-use lk_rules::Side;
+use fol::Formula;
+use lk_rules::{Rule, Side};
 
 /// The connective at the head of a formula, with the numbers of the parts.
 #[derive(Clone, Copy, Debug)]
@@ -71,6 +72,22 @@ impl Connective {
             (Side::Right, Connective::Imp(first, second)) => {
                 Parts::Both(left(first), right(second))
             }
+        }
+    }
+
+    /// The rule of the connective on that side, with the main formula.
+    pub fn rule(self, side: Side, main: Formula) -> Rule
+        ensures { result ≡ rule_with side self main }
+    {
+        match (side, self) {
+            (Side::Left, Connective::Not(_)) => Rule::NegL(main),
+            (Side::Right, Connective::Not(_)) => Rule::NegR(main),
+            (Side::Left, Connective::And(..)) => Rule::AndL(main),
+            (Side::Right, Connective::And(..)) => Rule::AndR(main),
+            (Side::Left, Connective::Or(..)) => Rule::OrL(main),
+            (Side::Right, Connective::Or(..)) => Rule::OrR(main),
+            (Side::Left, Connective::Imp(..)) => Rule::ImpL(main),
+            (Side::Right, Connective::Imp(..)) => Rule::ImpR(main),
         }
     }
 }

@@ -6,13 +6,13 @@ mod choices;
 mod connective;
 mod deciding;
 mod fault;
+mod made;
 mod numbered;
 mod numbering;
 mod parts;
-mod premises;
 mod proving;
 mod quantifiers;
-mod rules;
+mod seen;
 mod sides;
 
 pub use deciding::decide;

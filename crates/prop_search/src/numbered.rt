@@ -1,5 +1,5 @@
 //! Sequents by the numbers of their formulas.
-ghost use Rattle.std.specs.Prelude.{◌≡◌, ◌*◌, ◌<◌, ℕ, false, not, ◌&&◌, ◌||◌, ◌==◌, length, IfOk};
+ghost use Rattle.std.specs.Prelude.{◌≡◌, ◌*◌, ◌<◌, ℕ, false, not, ◌&&◌, ◌||◌, ◌==◌, length, IfOk, OnOk, IsTrue};
 ghost use Rattle.prop_search.specs.Bits.{has_number};
 
 use crate::bits;
@@ -66,5 +66,20 @@ impl Numbered {
     {
         let words = Vec::from_slice(alloc, self.words.as_slice())?;
         Ok(Numbered { words })
+    }
+
+    /// Becomes the other sequent, in the same memory where that suffices.
+    pub fn assign(&mut self, other: &Numbered) -> Result<(), AllocError>
+        ensures { OnOk result (self.new ≡ other.now) }
+    {
+        self.words.clear();
+        self.words.extend_from_slice(other.words())
+    }
+
+    /// Whether the sequents have the same numbers.
+    pub fn is_same(&self, other: &Numbered) -> bool
+        ensures { IsTrue result → self.now ≡ other.now }
+    {
+        self.words == other.words
     }
 }

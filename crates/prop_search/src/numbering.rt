@@ -1,23 +1,25 @@
 //! The formulas of a search by number.
-ghost use Rattle.std.specs.Prelude.{◌≡◌, ◌+◌, ◌*◌, ◌<◌, ◌≤◌, ◌^◌, ℕ, true, ◌&&◌, ◌||◌, ◌==◌, find, length, option_map, slice_index_or, IfOk, IfSome, Some, None};
+ghost use Rattle.std.specs.Prelude.{◌≡◌, ◌*◌, ◌<◌, ◌≤◌, ◌^◌, ℕ, true, ◌&&◌, ◌||◌, ◌==◌, find, length, option_map, slice_index_or, IfOk, IfSome, Some, None};
 ghost use Rattle.std.specs.List.{All, list_all};
 ghost use Rattle.fol.specs.Formed.{is_formed, IsFormed};
 ghost use Rattle.fol.specs.Order.{formula_cmp};
 ghost use Rattle.fol.specs.Syntax.{top as truth, bot as falsity};
 ghost use Rattle.finite.specs.Finite as set;
-ghost use Rattle.search_laws.specs.Search.{is_compound as has_connective, left_atoms as atoms_on_left};
+ghost use Rattle.lk_rules.specs.declared.sequent.Sequent.{Sequent as Conclusion};
+ghost use Rattle.lk_rules.specs.Rules.{needs};
+ghost use Rattle.search_laws.specs.Search.{is_compound as has_connective, premises_from};
 ghost use Rattle.prop_search.specs.Bits.{has_number, words_for};
 ghost use Rattle.prop_search.specs.Formulas.{formula_at, is_listed, side_of, span, sequent_of, IsNumberOf, IsFit, Marks};
 ghost use Rattle.prop_search.specs.Numbering.{IsRoot};
 ghost use Rattle.prop_search.specs.Parts.{HasParts, IsClosed};
-ghost use Rattle.prop_search.specs.Premises.{place_on, takes_from, with_part, with_each};
+ghost use Rattle.prop_search.specs.Premises.{place_on, rule_on, takes_from, without_main, with_part, AreWithin, premises_of};
 
 use crate::bits;
-use crate::connective::{Connective, Signed};
+use crate::connective::{Connective, Parts, Signed};
 use crate::numbered::Numbered;
 use crate::parts::parts_of;
 use fol::{Formula, FormulaNode};
-use lk_rules::{Formulas, Sequent, Side};
+use lk_rules::{Rule, Sequent, Side};
 use std::alloc::{AllocError, Global};
 use std::marker::Model;
 
@@ -247,6 +249,18 @@ impl Numbering {
         sequent.remove(place);
     }
 
+    /// Puts a part in the place of a main formula.
+    pub fn put(&self, sequent: &mut Numbered, main: Signed, part: Signed)
+        requires main { main.number < length self.now }
+        requires within { part.number < length self.now }
+        requires fit { IsFit self.now sequent.old }
+        ensures fit { IsFit self.now sequent.new }
+        ensures sequent { sequent_of self.now sequent.new ≡ with_part self.now (without_main self.now (sequent_of self.now sequent.old) main) part }
+    {
+        self.take(sequent, main.side, main.number);
+        self.add(sequent, part);
+    }
+
     /// The formula with the number.
     pub fn formula(&self, number: u32) -> &Formula
         requires { number < length self.now }
@@ -266,6 +280,19 @@ impl Numbering {
             Some(root) => root,
             None => unreachable!(),
         }
+    }
+
+    /// The rule of a compound formula's connective on a side, and what stands in its premises in place of the formula.
+    pub fn rule(&self, main: Signed) -> Result<(Rule, Parts), AllocError>
+        requires within { main.number < length self.now }
+        requires compound { has_connective (formula_at self.now main.number) ≡ true }
+        ensures rule { IfOk result (λ made. rule_on main.side (formula_at self.now main.number) ≡ Some made.0) }
+        ensures parts { IfOk result (λ made. AreWithin self.now made.1) }
+        ensures premises { IfOk result (λ made. (s : Conclusion) → premises_from made.0 s 0 (needs made.0) ≡ premises_of self.now s main made.1) }
+    {
+        let root = self.root(main.number);
+        let formula = self.formula(main.number).copy()?;
+        Ok((root.rule(main.side, formula), root.parts(main.side)))
     }
 
     /// The number of the least formula that stands on both sides.

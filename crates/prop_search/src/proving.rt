@@ -1,22 +1,29 @@
 //! Search for the proof of a sequent.
-ghost use Rattle.std.specs.Prelude.{◌≡◌, ◌≢◌, ◌<◌, ℕ, true, Some, Err, IfOk, IfErr};
+ghost use Rattle.std.specs.Prelude.{◌≡◌, ◌≢◌, ◌<◌, true, length, Some, Err, IfOk, IfErr};
 ghost use Rattle.std.specs.List.{All, list_all};
 ghost use mathlib.Core.List.{IsPrefix};
 ghost use Rattle.fol.specs.Formed.{IsFormed};
 ghost use Rattle.finite.specs.Finite as set;
-ghost use Rattle.lk_rules.specs.Rules.{IsFormedRule, has_shape, needs as needed};
+ghost use Rattle.lk_rules.specs.Rules.{needs};
 ghost use Rattle.proof_trees.specs.Trees.{concl, IsValid, IsCutFree};
 ghost use Rattle.proof_graph.specs.References.{trees_of};
 ghost use Rattle.proof_graph.specs.Graphs.{IsOf, IsPassOf, history};
 ghost use Rattle.refutations.specs.Clauses.{is_atom};
 ghost use Rattle.search_laws.specs.Truth.{Assignment, IsPropositional, falsifies};
-ghost use Rattle.search_laws.specs.Search.{premise_at as premise_of, premises_from, rule_at as rule_taken, proved, all_proved, walk_each, walk};
-ghost use Rattle.prop_search.specs.Deciding.{found, Finds, IsProved};
+ghost use Rattle.search_laws.specs.Search.{premises_from, rule_at, proved, all_proved, walk_each, walk};
+ghost use Rattle.prop_search.specs.Deciding.{found, Finds, IsProved, AreProved};
+ghost use Rattle.prop_search.specs.Formulas.{sequent_of, IsFit};
+ghost use Rattle.prop_search.specs.Made.{AreMade, IsProofOf};
+ghost use Rattle.prop_search.specs.Premises.{AreWithin, premises_of};
 
-use crate::deciding::decide;
+use crate::choices::{Choice, choose};
+use crate::connective::{Parts, Signed};
+use crate::deciding::decide_numbered;
 use crate::fault::SearchFault;
-use crate::premises::{needs, premise_at};
-use crate::rules::rule_at;
+use crate::made::Made;
+use crate::numbered::Numbered;
+use crate::numbering::Numbering;
+use crate::sides::numbered;
 use lk_rules::{Rule, Sequent};
 use proof_graph::{Graph, GraphPass, ProofRef};
 use search_laws::laws;
@@ -32,6 +39,31 @@ fn formed(sequent: &Sequent)
     let _right = sequent.right();
 }
 
+// The proof of a sequent by the rule that is taken there, from those of the premises.
+fn conclude<R: Wait>(
+    rt: &R,
+    alloc: Global,
+    graph: &Graph,
+    pass: &mut GraphPass,
+    rule: Rule,
+    sequent: Sequent,
+    premises: &[ProofRef],
+) -> Result<ProofRef, AllocError>
+    requires pass_of { IsPassOf graph.now pass.old }
+    requires taken { rule_at sequent ≡ Some rule }
+    requires premises_of { All (IsOf graph.now) premises.now }
+    requires trees { walk_each walk (premises_from rule sequent 0 (needs rule)) ≡ all_proved (trees_of premises.now) }
+    ensures tree { IfOk result (λ r. walk sequent ≡ proved r.tree) }
+    ensures of { IfOk result (IsOf graph.now) }
+    ensures grown { IsPrefix (history pass.old) (history pass.new) }
+    ensures pass_stays { IsPassOf graph.now pass.new }
+{
+    laws::steps();
+    laws::proofs();
+    formed(&sequent);
+    graph.intern(rt, alloc, pass, rule, sequent, premises)
+}
+
 // The proof of a sequent at which the search finds one.
 #[cycle(prove)]
 fn prove_at<R: Wait>(
@@ -39,54 +71,112 @@ fn prove_at<R: Wait>(
     alloc: Global,
     graph: &Graph,
     pass: &mut GraphPass,
-    sequent: &Sequent,
+    numbering: &Numbering,
+    made: &mut Made,
+    sequent: Numbered,
 ) -> Result<ProofRef, AllocError>
     requires pass_of { IsPassOf graph.now pass.old }
-    requires proved { IsProved (walk sequent.now) }
-    ensures tree { IfOk result (λ r. walk sequent.now ≡ proved r.tree) }
-    ensures of { IfOk result (IsOf graph.now) }
+    requires fit { IsFit numbering.now sequent }
+    requires made { AreMade graph.now numbering.now made.old }
+    requires proved { IsProved (walk (sequent_of numbering.now sequent)) }
+    ensures proof { IfOk result (IsProofOf graph.now numbering.now sequent) }
+    ensures made { AreMade graph.now numbering.now made.new }
+    ensures grown { IsPrefix (history pass.old) (history pass.new) }
+    ensures pass_stays { IsPassOf graph.now pass.new }
+{
+    if let Some(proof) = made.proof(graph, numbering, &sequent) {
+        return proof.keep();
+    }
+    let proof = prove_new(rt, alloc, graph, pass, numbering, made, &sequent)?;
+    made.note(graph, numbering, sequent, &proof)?;
+    Ok(proof)
+}
+
+// The proof of a sequent that isn't in the table.
+#[cycle(prove)]
+fn prove_new<R: Wait>(
+    rt: &R,
+    alloc: Global,
+    graph: &Graph,
+    pass: &mut GraphPass,
+    numbering: &Numbering,
+    made: &mut Made,
+    sequent: &Numbered,
+) -> Result<ProofRef, AllocError>
+    requires pass_of { IsPassOf graph.now pass.old }
+    requires fit { IsFit numbering.now sequent.now }
+    requires made { AreMade graph.now numbering.now made.old }
+    requires proved { IsProved (walk (sequent_of numbering.now sequent.now)) }
+    ensures proof { IfOk result (IsProofOf graph.now numbering.now sequent.now) }
+    ensures made { AreMade graph.now numbering.now made.new }
     ensures grown { IsPrefix (history pass.old) (history pass.new) }
     ensures pass_stays { IsPassOf graph.now pass.new }
 {
     laws::steps();
-    laws::proofs();
-    formed(sequent);
-    let Some(rule) = rule_at(alloc, sequent)? else {
-        unreachable!()
-    };
-    let premises = prove_premises(rt, alloc, graph, pass, &rule, sequent)?;
-    let end = sequent.copy()?;
-    graph.intern(rt, alloc, pass, rule, end, &premises)
+    let end = made.sequent(alloc, graph, numbering, sequent)?;
+    match choose(numbering, sequent) {
+        Some(Choice::Close(closing)) => {
+            let rule = closing.rule(numbering)?;
+            conclude(rt, alloc, graph, pass, rule, end, &[])
+        }
+        Some(Choice::Main(main)) => {
+            let (rule, parts) = numbering.rule(main)?;
+            let premises = prove_premises(
+                rt, alloc, graph, pass, numbering, made, sequent, main, parts,
+            )?;
+            conclude(rt, alloc, graph, pass, rule, end, &premises)
+        }
+        None => unreachable!(),
+    }
 }
 
-// The proofs of the premises of a sequent at which the search finds a proof.
+// The proofs of the premises of a rule, with these parts in the place of the main formula.
 #[cycle(prove)]
 fn prove_premises<R: Wait>(
     rt: &R,
     alloc: Global,
     graph: &Graph,
     pass: &mut GraphPass,
-    rule: &Rule,
-    sequent: &Sequent,
+    numbering: &Numbering,
+    made: &mut Made,
+    sequent: &Numbered,
+    main: Signed,
+    parts: Parts,
 ) -> Result<Vec<ProofRef>, AllocError>
     requires pass_of { IsPassOf graph.now pass.old }
-    requires taken { rule_taken sequent.now ≡ Some rule.now }
-    requires formed { IsFormedRule rule.now }
-    requires shape { has_shape rule.now ≡ true }
-    requires proved { (i : ℕ) → i < needed rule.now → IsProved (walk (premise_of rule.now sequent.now i)) }
-    ensures trees { IfOk result (λ proofs. walk_each walk (premises_from rule.now sequent.now 0 (needed rule.now)) ≡ all_proved (trees_of proofs.items)) }
+    requires fit { IsFit numbering.now sequent.now }
+    requires number { main.number < length numbering.now }
+    requires within { AreWithin numbering.now parts }
+    requires made { AreMade graph.now numbering.now made.old }
+    requires proved { AreProved (walk_each walk (premises_of numbering.now (sequent_of numbering.now sequent.now) main parts)) }
+    ensures trees { IfOk result (λ proofs. walk_each walk (premises_of numbering.now (sequent_of numbering.now sequent.now) main parts) ≡ all_proved (trees_of proofs.items)) }
     ensures of { IfOk result (λ proofs. All (IsOf graph.now) proofs.items) }
+    ensures made { AreMade graph.now numbering.now made.new }
     ensures grown { IsPrefix (history pass.old) (history pass.new) }
     ensures pass_stays { IsPassOf graph.now pass.new }
 {
-    laws::steps();
-    let mut proofs = Vec::new(alloc);
-    for place in 0..needs(rule) {
-        let premise = premise_at(alloc, rule, sequent, place)?;
-        let proof = prove_at(rt, alloc, graph, pass, &premise)?;
-        proofs.push(proof)?;
+    let mut premise = sequent.copy(alloc)?;
+    match parts {
+        Parts::One(part) => {
+            numbering.put(&mut premise, main, part);
+            let proof = prove_at(rt, alloc, graph, pass, numbering, made, premise)?;
+            Ok(vec![in alloc; proof]?)
+        }
+        Parts::Both(part, other) => {
+            numbering.put(&mut premise, main, part);
+            numbering.add(&mut premise, other);
+            let proof = prove_at(rt, alloc, graph, pass, numbering, made, premise)?;
+            Ok(vec![in alloc; proof]?)
+        }
+        Parts::Either(part, other) => {
+            let mut second = sequent.copy(alloc)?;
+            numbering.put(&mut premise, main, part);
+            let first = prove_at(rt, alloc, graph, pass, numbering, made, premise)?;
+            numbering.put(&mut second, main, other);
+            let second = prove_at(rt, alloc, graph, pass, numbering, made, second)?;
+            Ok(vec![in alloc; first, second]?)
+        }
     }
-    Ok(proofs)
 }
 
 /// Searches for a proof without cuts of a sequent without quantifiers, as `decide` does, and within its budget. The proof goes into the
@@ -114,10 +204,14 @@ pub fn search<R: Wait>(
     ensures pass_stays { IsPassOf graph.now pass.new }
 {
     laws::proofs();
-    if let Err(fault) = decide(alloc, sequent, budget) {
+    let numbering = Numbering::new(alloc, sequent)?;
+    let start = numbered(alloc, &numbering, sequent)?;
+    let copy = start.copy(alloc)?;
+    if let Err(fault) = decide_numbered(alloc, &numbering, sequent, copy, budget) {
         return Err(fault);
     }
-    let proof = prove_at(rt, alloc, graph, pass, sequent)?;
+    let mut made = Made::new(alloc);
+    let proof = prove_at(rt, alloc, graph, pass, &numbering, &mut made, start)?;
     proof.known();
     Ok(proof)
 }

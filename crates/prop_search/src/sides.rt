@@ -74,8 +74,12 @@ fn picked(alloc: Global, formulas: &[Formula], words: &[u64]) -> Result<Vec<Form
     Ok(picked)
 }
 
-// The set of the formulas whose numbers are in a set.
-fn side(alloc: Global, numbering: &Numbering, words: &[u64]) -> Result<Formulas, AllocError>
+/// The set of the formulas whose numbers are in a set.
+pub(crate) fn side(
+    alloc: Global,
+    numbering: &Numbering,
+    words: &[u64],
+) -> Result<Formulas, AllocError>
     requires { length numbering.now ≤ 64 * length words.now }
     ensures { IfOk result (λ side. side ≡ side_of numbering.now (has_number words.now)) }
 {

@@ -1,5 +1,5 @@
 -- The lowest bit of the first word with a bit of both.
-use Rattle.std.proofs.Common.{ℕ, ◌<◌, ◌≤◌, ◌*◌, ◌^◌, get_or, length, inl, inr, refl, arith}
+use Rattle.std.proofs.Common.{ℕ, ◌<◌, ◌*◌, ◌^◌, get_or, length, inl, inr, refl, arith}
 use Rattle.std.specs.Prelude.{bit_and}
 use Rattle.std.proofs.lemmas.Bool.{cases_lt}
 use Rattle.std.proofs.lemmas.Nat.{and_le_l}

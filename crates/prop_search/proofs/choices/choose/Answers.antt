@@ -1,6 +1,5 @@
 use Rattle.std.proofs.Common.{true, false, Some, None, refl, sym, ap, ◌∙◌}
 use Rattle.std.specs.Prelude.{option_map}
-use Rattle.lk_rules.specs.declared.rule.Rule.TheVariants.{Ax, TopR, BotL}
 use Rattle.prop_search.specs.Formulas.{formula_at, sequent_of}
 use Rattle.prop_search.proofs.Choosing.{taken, left_first}
 use Rattle.prop_search.proofs.choices.choose.Goals as goal
@@ -8,20 +7,22 @@ use Rattle.prop_search.proofs.choices.choose.Goals as goal
 pub returns-in-Some : goal.returns-in-Some
 returns-in-Some c =
     let fs = c.args.numbering.now in
-    let f = formula_at fs c.in-Some.field-0 in
-    (Ax f, taken (sequent_of fs c.args.sequent.now) (Some f) _ _ _ _ (sym (ap (option_map (formula_at fs)) c.in-Some.is) ∙ c.axiom.ensures.least) refl refl refl refl, refl)
+    let f = formula_at fs c.in-Some.number in (
+      c.in-Some.ensures.within,
+      taken (sequent_of fs c.args.sequent.now) (Some f) _ _ _ _ (sym (ap (option_map (formula_at fs)) c.in-Some.is) ∙ c.axiom.ensures.least) refl refl refl refl,
+    )
 
 pub returns-then-has_truth : goal.returns-then-has_truth
 returns-then-has_truth c =
     let fs = c.args.numbering.now in
     let none = sym (ap (option_map (formula_at fs)) c.in_default.is) ∙ c.axiom.ensures.least in
-    (TopR, taken (sequent_of fs c.args.sequent.now) None true _ _ _ none (sym c.if-has_truth.true ∙ c.has_truth.ensures) refl refl refl, refl)
+    (tt, taken (sequent_of fs c.args.sequent.now) None true _ _ _ none (sym c.if-has_truth.true ∙ c.has_truth.ensures) refl refl refl)
 
 pub returns-then-has_falsity : goal.returns-then-has_falsity
 returns-then-has_falsity c =
     let fs = c.args.numbering.now in
     let none = sym (ap (option_map (formula_at fs)) c.in_default.is) ∙ c.axiom.ensures.least in
-    (BotL, taken (sequent_of fs c.args.sequent.now) None false true _ _ none (sym c.if-has_truth.false ∙ c.has_truth.ensures) (sym c.if-has_falsity.true ∙ c.has_falsity.ensures) refl refl, refl)
+    (tt, taken (sequent_of fs c.args.sequent.now) None false true _ _ none (sym c.if-has_truth.false ∙ c.has_truth.ensures) (sym c.if-has_falsity.true ∙ c.has_falsity.ensures) refl refl)
 
 pub returns-in-Some-left_compound : goal.returns-in-Some-left_compound
 returns-in-Some-left_compound c =

@@ -1,5 +1,5 @@
 -- The marks of the formulas so far.
-use Rattle.std.proofs.Common.{◌≡◌, ℕ, ◌+◌, ◌/◌, ◌<◌, ◌≤◌, false, length}
+use Rattle.std.proofs.Common.{◌≡◌, ℕ, ◌<◌, ◌≤◌, false, length}
 use Rattle.search_laws.specs.Search.{is_compound}
 use Rattle.prop_search.specs.Bits.{has_number, words_for}
 use Rattle.prop_search.specs.Formulas.{formula_at}

@@ -1,5 +1,5 @@
 -- What was added first is there in the end.
-use Rattle.std.proofs.Common.{◌≡◌, true, List, sym, subst, ap, ◌∙◌}
+use Rattle.std.proofs.Common.{◌≡◌, true, List, sym, ap, ◌∙◌}
 use Rattle.std.specs.List.{list_all}
 use Rattle.fol.specs.Syntax.{Formula}
 use Rattle.prop_search.specs.Formulas.{is_listed}

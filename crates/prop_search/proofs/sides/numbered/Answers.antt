@@ -1,4 +1,4 @@
-use Rattle.std.proofs.Common.{◌∙◌, sym, ap}
+use Rattle.std.proofs.Common.{◌∙◌}
 use Rattle.finite.specs.Finite as set
 use Rattle.lk_rules.specs.declared.sequent.Side.TheVariants.{Left, Right}
 use Rattle.prop_search.specs.Premises.{with_each}

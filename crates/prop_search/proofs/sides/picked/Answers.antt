@@ -1,4 +1,3 @@
-use Rattle.std.proofs.Common.{sym}
 use Rattle.prop_search.proofs.Picked.{picked_more}
 use Rattle.prop_search.proofs.sides.picked.Goals as goal
 

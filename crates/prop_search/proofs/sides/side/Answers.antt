@@ -1,7 +1,6 @@
-use Rattle.std.proofs.Common.{List, filter, sym, subst, ap, ◌∙◌}
+use Rattle.std.proofs.Common.{filter, sym, subst, ap, ◌∙◌}
 use Rattle.std.specs.List.{All}
 use Rattle.std.proofs.lemmas.List.Elements.{All-filter}
-use Rattle.fol.specs.Syntax.{Formula}
 use Rattle.fol.specs.Formed.{IsFormed}
 use Rattle.finite.specs.Finite as set
 use Rattle.prop_search.specs.Bits.{has_number}

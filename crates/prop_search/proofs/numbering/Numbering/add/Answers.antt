@@ -1,4 +1,4 @@
-use Rattle.std.proofs.Common.{◌≡◌, ℕ, ◌||◌, eqb, ap, ◌∙◌}
+use Rattle.std.proofs.Common.{◌||◌, eqb, ap, ◌∙◌}
 use Rattle.prop_search.specs.Bits.{has_number}
 use Rattle.prop_search.proofs.SequentsOf.{fit_more, sequent_more}
 use Rattle.prop_search.proofs.numbering.Numbering.add.Goals as goal
