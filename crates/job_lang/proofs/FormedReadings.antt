@@ -1,18 +1,17 @@
 -- What the reading of a line gives is well formed.
-use Rattle.std.proofs.Common.{◌≡◌, ℕ, suc, Bool, true, false, ◌&&◌, if◌then◌else◌, List, [], ◌∷◌, length, codes, Option, Some, None, is_some, option_and_then, Result, Ok, Err, refl, ap, subst}
+use Rattle.std.proofs.Common.{◌≡◌, ℕ, List, length, codes, Some, None, is_some, option_and_then, Result, Ok, Err, refl, ap, subst}
 use Rattle.std.specs.List.{All}
-use Rattle.std.proofs.lemmas.List.Elements.{All-nil, All-cons}
 use Rattle.fol.specs.declared.symbols.Var.{Var}
 use Rattle.fol.specs.Syntax.{Term, Formula}
 use Rattle.fol.specs.Formed.{is_formed, is_formed_term, is_formed_var, IsFormed, IsFormedTerm, IsFormedVar}
 use Rattle.lk_rules.specs.declared.rule.Rule.{Rule}
 use Rattle.lk_rules.specs.declared.rule.Rule.TheVariants as rules
 use Rattle.lk_rules.specs.declared.rule.Step.{Step}
+use Rattle.lk_rules.specs.declared.sequent.Sequent.{Sequent}
 use Rattle.lk_rules.specs.Rules.{IsFormedRule}
-use Rattle.tptp_tokens.specs.declared.tokens.TextFault.{TextFault}
 use Rattle.tptp_tokens.specs.Lexer.{scanned, whole_variable}
-use Rattle.tptp_read.specs.Texts.{formula_reading, term_reading}
-use Rattle.tptp_read.proofs.FormedValues.{formula_value, term_value, variable_value}
+use Rattle.tptp_read.specs.Texts.{term_reading}
+use Rattle.tptp_read.proofs.FormedValues.{term_value}
 use Rattle.tptp_problem.specs.declared.errors.ProblemKind.{ProblemKind}
 use Rattle.tptp_problem.specs.declared.problems.Problem.{Problem as ProblemMeaning}
 use Rattle.tptp_problem.specs.ProblemClauses.{IsReadProblem}
@@ -25,71 +24,40 @@ use Rattle.substitution.specs.Image.{IsFormedMap}
 use Rattle.substitution.specs.Maps.{Map}
 use Rattle.substitution.proofs.ImageLaws.{formed_insert, formed_empty}
 use Rattle.std.specs.FinMap as fin
+use Rattle.finite.specs.Finite as set
 use Rattle.serde_json.specs.Data.{Data, Members, no_members, member}
 use Rattle.serde_json.specs.Find.{get, as_str, as_object}
 use Rattle.job_lang.specs.declared.places.Place.{Place}
 use Rattle.job_lang.specs.declared.places.Place.TheVariants as places
-use Rattle.job_words.specs.declared.causes.JobCause.{JobCause}
 use Rattle.job_words.specs.declared.causes.JobCause.TheVariants.{Field, Op as UnknownOp}
 use Rattle.job_words.specs.declared.kinds.RuleKind.{RuleKind}
 use Rattle.job_words.specs.declared.kinds.RuleKind.TheVariants as kinds
 use Rattle.job_lang.specs.declared.jobs.Op.{Op}
-use Rattle.job_lang.specs.declared.jobs.Op.TheVariants.{Lk, Problem, Proves, Show, Measure, Subst, Cutelim, Resolution}
+use Rattle.job_lang.specs.declared.jobs.Op.TheVariants.{Lk, Problem, Proves, Show, Measure, Subst, Cutelim, Resolution, Tautology, Expansion}
 use Rattle.job_lang.specs.Places.{path}
-use Rattle.job_lang.specs.Fields.{Reading, ◌>>=◌, or_fault, text_at, list_at, each}
-use Rattle.job_lang.specs.Formulas.{in_field, formula_text, formula_at, term_at, variable_at, side_at}
+use Rattle.job_lang.specs.Fields.{Reading, ◌>>=◌, or_fault, text_at, list_at}
+use Rattle.job_lang.specs.Formulas.{in_field, formula_at, term_at, variable_at, side_at}
 use Rattle.job_lang.specs.Problems.{problem_at}
 use Rattle.job_lang.specs.Rules.{main_at, rule_of_kind, rule_of}
 use Rattle.job_words.specs.RuleKinds.{is_text, kind_named}
-use Rattle.job_lang.specs.Steps.{premises_of, step_of, step_at, steps_of, steps_at}
+use Rattle.job_lang.specs.Steps.{step_of, step_at, steps_of, steps_at}
 use Rattle.job_lang.specs.FormedOps.{IsFormedOp}
 use Rattle.job_lang.specs.Maps.{member_path, binding_of, map_of, map_at}
 use Rattle.job_lang.specs.Budgets.{budget_at}
-use Rattle.job_lang.specs.Resolutions.{number_at, pair_at, input_step, subst_step, resolve_step, wrong_step, res_step_at, res_steps_of, res_steps_at}
+use Rattle.job_lang.specs.Numbers.{number_at, numbers_at, pair_at}
+use Rattle.job_lang.specs.Expansions.{flat_at}
+use Rattle.job_lang.specs.Resolutions.{input_step, subst_step, resolve_step, wrong_step, res_step_at, res_steps_of, res_steps_at}
 use Rattle.job_lang.specs.Problems as problems
-use Rattle.job_lang.specs.Jobs.{value_of, name_of, proves_of, subst_of, cutelim_of, resolution_of, op_named, op_of, reads_named, reads_value, reads_job}
-
--- what a reading of two parts gives comes of both
-both_read : {A B : Type 0} (r : Reading A) (f : A → Reading B) (y : B) → (r >>= f) ≡ Ok y → (x : A) × ((r ≡ Ok x) × (f x ≡ Ok y))
-both_read (Ok x) f y is = (x, (refl, is))
-both_read (Err c) f y is = cc
-
-same_value : {A : Type 0} (x y : A) → ◌≡◌ {A = Reading A} (Ok x) (Ok y) → x ≡ y
-same_value x y is = cc
-
-there : {A : Type 0} (c : JobCause) (o : Option A) (x : A) → or_fault c o ≡ Ok x → o ≡ Some x
-there c (Some a) x is = ap Some (same_value a x is)
-there c None x is = cc
-
-in_text : {A : Type 0} (field : List ℕ) (r : Result A TextFault) (x : A) → in_field field r ≡ Ok x → r ≡ Ok x
-in_text field (Ok a) x is = ap Ok (same_value a x is)
-in_text field (Err e) x is = cc
-
-both_true : (a b : Bool) → a ≡ true → b ≡ true → (a && b) ≡ true
-both_true true b p q = q
-both_true false b p q = cc
+use Rattle.job_lang.proofs.FormedFields.{both_read, same_value, in_text, both_true, formula_formed, term_formed, variable_formed, each_formed, chosen, side_formed}
+use Rattle.job_lang.proofs.FormedExpansions.{flat_formed}
+use Rattle.job_lang.specs.Jobs.{value_of, name_of, proves_of, subst_of, cutelim_of, resolution_of, sequent_at, tautology_of, expansion_of, op_named, op_of, reads_named, reads_value, reads_job}
 
 module _ (place : Place) (d : Data) where
-  formula_formed : (key : List ℕ) (f : Formula) → formula_at place key d ≡ Ok f → IsFormed f
-  formula_formed key f is =
-      let text = both_read (text_at place key d) (formula_text place key None) f is in
-      formula_value text.0 f (in_text (path place key None) (formula_reading text.0) f text.1.1)
-
-  term_formed : (key : List ℕ) (t : Term) → term_at place key d ≡ Ok t → IsFormedTerm t
-  term_formed key t is =
-      let text = both_read (text_at place key d) (λ x. in_field (path place key None) (term_reading x)) t is in
-      term_value text.0 t (in_text (path place key None) (term_reading text.0) t text.1.1)
-
-  variable_formed : (key : List ℕ) (v : Var) → variable_at place key d ≡ Ok v → IsFormedVar v
-  variable_formed key v is =
-      let text = both_read (text_at place key d) (λ x. or_fault (Field (path place key None)) (whole_variable (scanned x) (length x))) v is in
-      variable_value text.0 v (there (Field (path place key None)) (whole_variable (scanned text.0) (length text.0)) v text.1.1)
-
   -- a rule that names its main formula alone, and one that names a term or a variable too
   with_main : (f : Formula → Rule) (r : Rule) → ((a : Formula) → IsFormed a → IsFormedRule (f a)) → (main_at place d >>= λ a. Ok (f a)) ≡ Ok r → IsFormedRule r
   with_main f r formed is =
       let main = both_read (main_at place d) (λ a. Ok (f a)) r is in
-      subst IsFormedRule (same_value (f main.0) r main.1.1) (formed main.0 (formula_formed (codes "main") main.0 main.1.0))
+      subst IsFormedRule (same_value (f main.0) r main.1.1) (formed main.0 (formula_formed place d (codes "main") main.0 main.1.0))
 
   with_term : (f : Formula → Term → Rule) (r : Rule) → ((a : Formula) (t : Term) → IsFormed a → IsFormedTerm t → IsFormedRule (f a t))
       → (main_at place d >>= λ a. term_at place (codes "term") d >>= λ t. Ok (f a t)) ≡ Ok r → IsFormedRule r
@@ -97,7 +65,7 @@ module _ (place : Place) (d : Data) where
       let main = both_read (main_at place d) (λ a. term_at place (codes "term") d >>= λ t. Ok (f a t)) r is in
       let term = both_read (term_at place (codes "term") d) (λ t. Ok (f main.0 t)) r main.1.1 in
       subst IsFormedRule (same_value (f main.0 term.0) r term.1.1)
-      (formed main.0 term.0 (formula_formed (codes "main") main.0 main.1.0) (term_formed (codes "term") term.0 term.1.0))
+      (formed main.0 term.0 (formula_formed place d (codes "main") main.0 main.1.0) (term_formed place d (codes "term") term.0 term.1.0))
 
   with_variable : (f : Formula → Var → Rule) (r : Rule) → ((a : Formula) (y : Var) → IsFormed a → IsFormedVar y → IsFormedRule (f a y))
       → (main_at place d >>= λ a. variable_at place (codes "var") d >>= λ y. Ok (f a y)) ≡ Ok r → IsFormedRule r
@@ -105,7 +73,7 @@ module _ (place : Place) (d : Data) where
       let main = both_read (main_at place d) (λ a. variable_at place (codes "var") d >>= λ y. Ok (f a y)) r is in
       let var = both_read (variable_at place (codes "var") d) (λ y. Ok (f main.0 y)) r main.1.1 in
       subst IsFormedRule (same_value (f main.0 var.0) r var.1.1)
-      (formed main.0 var.0 (formula_formed (codes "main") main.0 main.1.0) (variable_formed (codes "var") var.0 var.1.0))
+      (formed main.0 var.0 (formula_formed place d (codes "main") main.0 main.1.0) (variable_formed place d (codes "var") var.0 var.1.0))
 
   kind_formed : (k : RuleKind) (r : Rule) → rule_of_kind place k d ≡ Ok r → IsFormedRule r
   kind_formed kinds.TopR r is = subst IsFormedRule (same_value rules.TopR r is) refl
@@ -135,7 +103,7 @@ module _ (place : Place) (d : Data) where
   members_formed : (s : Step) → step_of place d ≡ Ok s → IsFormedRule s.rule
   members_formed s is =
       let rule = both_read (rule_of place d) _ s is in
-      let premises = both_read (premises_of place d) _ s rule.1.1 in
+      let premises = both_read (numbers_at place (codes "premises") d) _ s rule.1.1 in
       let left = both_read (side_at place (codes "left") d) _ s premises.1.1 in
       let right = both_read (side_at place (codes "right") d) _ s left.1.1 in
       subst (λ (x : Step). IsFormedRule x.rule) (same_value _ s right.1.1) (rule_formed rule.0 rule.1.0)
@@ -145,16 +113,6 @@ step_formed i d s is =
     let object = both_read (or_fault (Field (path places.Top (codes "steps") (Some i))) (as_object d)) _ s is in
     members_formed (places.Step i) d s object.1.1
 
--- what holds of each value that is read holds of all of a list
-each_formed : {A : Type 0} (P : A → Type 0) (read : ℕ → Data → Reading A) → ((i : ℕ) (d : Data) (x : A) → read i d ≡ Ok x → P x)
-    → (i : ℕ) (ds : List Data) (xs : List A) → each read i ds ≡ Ok xs → All P xs
-each_formed P read formed i [] xs is = subst (All P) (same_value [] xs is) (All-nil P)
-each_formed P read formed i (d ∷ ds) xs is =
-    let first = both_read (read i d) _ xs is in
-    let rest = both_read (each read (suc i) ds) _ xs first.1.1 in
-    subst (All P) (same_value (first.0 ∷ rest.0) xs rest.1.1)
-    (All-cons P first.0 rest.0 (formed i d first.0 first.1.0) (each_formed P read formed (suc i) ds rest.0 rest.1.0))
-
 -- the rules of these steps name what is well formed
 abbrev AreFormed : List Step → Type 0
 AreFormed steps = All (λ s. IsFormedRule s.rule) steps
@@ -163,10 +121,6 @@ steps_formed : (d : Data) (steps : List Step) → steps_at d ≡ Ok steps → Ar
 steps_formed d steps is =
     let list = both_read (list_at places.Top (codes "steps") d) steps_of steps is in
     each_formed (λ (s : Step). IsFormedRule s.rule) step_at step_formed 0 list.0 steps list.1.1
-
-chosen : {A P : Type 0} (b : Bool) (x y z : A) → (x ≡ z → P) → (y ≡ z → P) → (if b then x else y) ≡ z → P
-chosen true x y z f g is = f is
-chosen false x y z f g is = g is
 
 -- maps
 
@@ -235,6 +189,18 @@ problem_formed d p is =
     let text = both_read (text_at places.Top (codes "text") d) (λ x. problems.in_text (problem_reading x)) p is in
     problem_read text.0 p (problem_value (problem_reading text.0) p text.1.1)
 
+-- sequents
+
+-- the formulas of both sides are well formed
+abbrev AreFormedSides : Sequent → Type 0
+AreFormedSides s = All IsFormed (set.listing s.left) × All IsFormed (set.listing s.right)
+
+sequent_formed : (d : Data) (s : Sequent) → sequent_at d ≡ Ok s → AreFormedSides s
+sequent_formed d s is =
+    let left = both_read (side_at places.Top (codes "left") d) _ s is in
+    let right = both_read (side_at places.Top (codes "right") d) _ s left.1.1 in
+    subst AreFormedSides (same_value _ s right.1.1) (side_formed places.Top (codes "left") d left.0 left.1.0, side_formed places.Top (codes "right") d right.0 right.1.0)
+
 module _ (d : Data) (op : Op) where
   in_lk : (steps_at d >>= λ read. Ok (Lk read)) ≡ Ok op → IsFormedOp op
   in_lk is =
@@ -280,6 +246,18 @@ module _ (d : Data) (op : Op) where
       let steps = both_read (res_steps_at d) (λ x. Ok (Resolution problem.0 x)) op problem.1.1 in
       subst IsFormedOp (same_value (Resolution problem.0 steps.0) op steps.1.1) (res_steps_formed d steps.0 steps.1.0)
 
+  in_tautology : tautology_of d ≡ Ok op → IsFormedOp op
+  in_tautology is =
+      let sequent = both_read (sequent_at d) _ op is in
+      let budget = both_read (budget_at d) (λ x. Ok (Tautology sequent.0 x)) op sequent.1.1 in
+      subst IsFormedOp (same_value (Tautology sequent.0 budget.0) op budget.1.1) (sequent_formed d sequent.0 sequent.1.0)
+
+  in_expansion : expansion_of d ≡ Ok op → IsFormedOp op
+  in_expansion is =
+      let flat = both_read (flat_at d) _ op is in
+      let budget = both_read (budget_at d) (λ x. Ok (Expansion flat.0 x)) op flat.1.1 in
+      subst IsFormedOp (same_value (Expansion flat.0 budget.0) op budget.1.1) (flat_formed d flat.0 flat.1.0)
+
   in_none : ◌≡◌ {A = Reading Op} (Err UnknownOp) (Ok op) → IsFormedOp op
   in_none is = cc
 
@@ -292,7 +270,9 @@ module _ (d : Data) (op : Op) where
       (chosen (is_text name (codes "measure")) _ _ (Ok op) in_measure
       (chosen (is_text name (codes "subst")) _ _ (Ok op) in_subst
       (chosen (is_text name (codes "cutelim")) _ _ (Ok op) in_cutelim
-      (chosen (is_text name (codes "resolution")) _ _ (Ok op) in_resolution in_none))))))) is
+      (chosen (is_text name (codes "resolution")) _ _ (Ok op) in_resolution
+      (chosen (is_text name (codes "tautology")) _ _ (Ok op) in_tautology
+      (chosen (is_text name (codes "expansion")) _ _ (Ok op) in_expansion in_none))))))))) is
 
   op_formed : op_of d ≡ Ok op → IsFormedOp op
   op_formed is =

@@ -1,4 +1,4 @@
--- Budgets as fields: how many reductions an elimination of cuts may take.
+-- Budgets as fields: how much an operation may do.
 use Rattle.std.specs.Prelude.{ℕ, codes, Option, Some, None, Ok, Err, option_and_then, Bool, ◌&&◌, nat_le, if◌then◌else◌}
 use Rattle.serde_json.specs.Data.{Data}
 use Rattle.serde_json.specs.Find.{get, as_number, as_u64}

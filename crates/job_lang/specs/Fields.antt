@@ -1,7 +1,7 @@
 -- The fields of a JSON object: reading one gives a value or a fault. Faults are met in the order of reading, and the first is named.
 use Rattle.std.specs.Prelude.{◌≡◌, ℕ, suc, List, [], ◌∷◌, Option, Some, None, option_and_then, option_map, Result, Ok, Err}
 use Rattle.serde_json.specs.Data.{Data, Items, no_items, item}
-use Rattle.serde_json.specs.Find.{get, as_str, as_array, as_number, as_u64}
+use Rattle.serde_json.specs.Find.{get, as_str, as_array}
 use Rattle.job_lang.specs.declared.places.Place.{Place}
 use Rattle.job_words.specs.declared.causes.JobCause.{JobCause}
 use Rattle.job_words.specs.declared.causes.JobCause.TheVariants.{Field}
@@ -35,10 +35,6 @@ text_at place key d = or_fault (Field (path place key None)) (option_and_then as
 -- a member that is a list
 abbrev pub list_at : Place → List ℕ → Data → Reading (List Data)
 list_at place key d = or_fault (Field (path place key None)) (option_map elements (option_and_then as_array (get key d)))
-
--- an element that is a whole number from 0 to 2^64 - 1
-abbrev pub number_of : Place → List ℕ → ℕ → Data → Reading ℕ
-number_of place key i d = or_fault (Field (path place key (Some i))) (option_and_then as_u64 (as_number d))
 
 -- what each element gives; the first of them has the number i
 abbrev pub each : {A : Type 0} → (ℕ → Data → Reading A) → ℕ → List Data → Reading (List A)

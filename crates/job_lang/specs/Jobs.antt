@@ -8,19 +8,22 @@ use Rattle.job_words.specs.declared.causes.JobCause.TheVariants.{Json, Field, Op
 use Rattle.job_lang.specs.declared.reading.ReadError.{ReadError}
 use Rattle.job_lang.specs.declared.reading.ReadError.TheVariants.{Fault as ReadFault, Memory as ReadMemory}
 use Rattle.job_lang.specs.declared.jobs.Op.{Op}
-use Rattle.job_lang.specs.declared.jobs.Op.TheVariants.{Lk, Problem, Proves, Show, Measure, Subst, Cutelim, Resolution}
+use Rattle.job_lang.specs.declared.jobs.Op.TheVariants.{Lk, Problem, Proves, Show, Measure, Subst, Cutelim, Resolution, Tautology, Expansion}
 use Rattle.job_lang.specs.declared.jobs.Job.{Job}
 use Rattle.job_lang.specs.declared.jobs.JobError.{JobError}
 use Rattle.job_lang.specs.declared.jobs.JobError.TheVariants.{Memory, Fault}
 use Rattle.job_words.specs.Names.{is_job_name}
 use Rattle.job_lang.specs.Places.{path}
 use Rattle.job_lang.specs.Fields.{Reading, ◌>>=◌, or_fault, text_at}
+use Rattle.lk_rules.specs.declared.sequent.Sequent.{Sequent}
+use Rattle.job_lang.specs.Formulas.{side_at}
 use Rattle.job_lang.specs.Maps.{map_at}
 use Rattle.job_lang.specs.Budgets.{budget_at}
 use Rattle.job_lang.specs.Problems.{problem_at}
 use Rattle.job_words.specs.RuleKinds.{is_text}
 use Rattle.job_lang.specs.Steps.{steps_at}
 use Rattle.job_lang.specs.Resolutions.{res_steps_at}
+use Rattle.job_lang.specs.Expansions.{flat_at}
 
 -- the JSON value of a line, where it has one: a line that isn't UTF-8 has none
 abbrev pub value_of : List ℕ → Reading Data
@@ -60,6 +63,27 @@ resolution_of d = do
   steps ← res_steps_at d
   Ok (Resolution problem steps)
 
+-- the sides of a sequent
+abbrev pub sequent_at : Data → Reading Sequent
+sequent_at d = do
+  left ← side_at Top (codes "left") d
+  right ← side_at Top (codes "right") d
+  Ok (record { left = left; right = right })
+
+-- a sequent and a budget
+abbrev pub tautology_of : Data → Reading Op
+tautology_of d = do
+  sequent ← sequent_at d
+  budget ← budget_at d
+  Ok (Tautology sequent budget)
+
+-- a flat list of expansion trees and a budget
+abbrev pub expansion_of : Data → Reading Op
+expansion_of d = do
+  flat ← flat_at d
+  budget ← budget_at d
+  Ok (Expansion flat budget)
+
 -- the operation of this name with its fields
 abbrev pub op_named : List ℕ → Data → Reading Op
 op_named name d =
@@ -71,7 +95,9 @@ op_named name d =
     else (if is_text name (codes "subst") then subst_of d
     else (if is_text name (codes "cutelim") then cutelim_of d
     else (if is_text name (codes "resolution") then resolution_of d
-    else Err UnknownOp)))))))
+    else (if is_text name (codes "tautology") then tautology_of d
+    else (if is_text name (codes "expansion") then expansion_of d
+    else Err UnknownOp)))))))))
 
 abbrev pub op_of : Data → Reading Op
 op_of d = text_at Top (codes "op") d >>= λ name. op_named name d

@@ -1,5 +1,6 @@
 pub mod Places
 pub mod Fields
+pub mod Numbers
 pub mod Formulas
 pub mod Maps
 pub mod Budgets
@@ -7,5 +8,6 @@ pub mod Problems
 pub mod Rules
 pub mod Steps
 pub mod Resolutions
+pub mod Expansions
 pub mod Jobs
 pub mod FormedOps

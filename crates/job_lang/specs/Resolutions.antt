@@ -1,29 +1,18 @@
 -- The steps of a refutation as fields.
-use Rattle.std.specs.Prelude.{ℕ, List, [], ◌∷◌, codes, Some, None, Ok, Err, option_and_then, is_some, if◌then◌else◌}
+use Rattle.std.specs.Prelude.{ℕ, List, codes, Some, Ok, Err, is_some, if◌then◌else◌}
 use Rattle.refutations.specs.declared.step.ResStep.{ResStep}
 use Rattle.refutations.specs.declared.step.ResStep.TheVariants.{Input, Subst, Resolve}
 use Rattle.serde_json.specs.Data.{Data}
-use Rattle.serde_json.specs.Find.{get, as_number, as_u64, as_object}
+use Rattle.serde_json.specs.Find.{get, as_object}
 use Rattle.job_lang.specs.declared.places.Place.{Place}
 use Rattle.job_lang.specs.declared.places.Place.TheVariants.{Top, Step}
 use Rattle.job_words.specs.declared.causes.JobCause.{JobCause}
 use Rattle.job_words.specs.declared.causes.JobCause.TheVariants.{Field}
 use Rattle.job_lang.specs.Places.{path}
-use Rattle.job_lang.specs.Fields.{Reading, ◌>>=◌, or_fault, list_at, number_of, each}
+use Rattle.job_lang.specs.Fields.{Reading, ◌>>=◌, or_fault, list_at, each}
+use Rattle.job_lang.specs.Numbers.{number_at, pair_at}
 use Rattle.job_lang.specs.Formulas.{formula_at}
 use Rattle.job_lang.specs.Maps.{map_at}
-
--- a member that is a whole number from 0 to 2^64 - 1
-abbrev pub number_at : Place → List ℕ → Data → Reading ℕ
-number_at place key d = or_fault (Field (path place key None)) (option_and_then as_u64 (option_and_then as_number (get key d)))
-
--- a list of exactly two numbers
-abbrev pub pair_of : Place → List ℕ → List Data → Reading (ℕ × ℕ)
-pair_of place key (d ∷ e ∷ []) = number_of place key 0 d >>= λ m. number_of place key 1 e >>= λ n. Ok (m, n)
-pair_of place key ds = Err (Field (path place key None))
-
-abbrev pub pair_at : Place → List ℕ → Data → Reading (ℕ × ℕ)
-pair_at place key d = list_at place key d >>= pair_of place key
 
 -- a clause, by its number
 abbrev pub input_step : Place → Data → Reading ResStep

@@ -7,19 +7,16 @@ use Rattle.job_lang.specs.declared.places.Place.{Place}
 use Rattle.job_lang.specs.declared.places.Place.TheVariants as places
 use Rattle.job_words.specs.declared.causes.JobCause.TheVariants.{Field}
 use Rattle.job_lang.specs.Places.{path}
-use Rattle.job_lang.specs.Fields.{Reading, ◌>>=◌, or_fault, list_at, number_of, each}
+use Rattle.job_lang.specs.Fields.{Reading, ◌>>=◌, or_fault, list_at, each}
+use Rattle.job_lang.specs.Numbers.{numbers_at}
 use Rattle.job_lang.specs.Formulas.{side_at}
 use Rattle.job_lang.specs.Rules.{rule_of}
-
--- the numbers of the steps that are the premises
-abbrev pub premises_of : Place → Data → Reading (List ℕ)
-premises_of place d = list_at place (codes "premises") d >>= each (number_of place (codes "premises")) 0
 
 -- a step's members: its rule, the numbers of its premises, and the two sides of its conclusion
 abbrev pub step_of : Place → Data → Reading Step
 step_of place d = do
   rule ← rule_of place d
-  premises ← premises_of place d
+  premises ← numbers_at place (codes "premises") d
   left ← side_at place (codes "left") d
   right ← side_at place (codes "right") d
   Ok (record { rule = rule; premises = premises; end = record { left = left; right = right } })

@@ -10,10 +10,11 @@ use serde_json::Value;
 use std::alloc::Global;
 use std::marker::Model;
 
-/// How many reductions an elimination of cuts may take: from 1 to 1,000,000,000.
+/// How much an operation may do, as reductions of an elimination of cuts, sequents that a search visits or nodes of unfolded
+/// expansion trees: from 1 to 1,000,000,000.
 #[derive(Debug, Drop)]
 pub struct Budget {
-    reductions: u64,
+    amount: u64,
 }
 
 impl Model for Budget {
@@ -22,9 +23,9 @@ impl Model for Budget {
 
     ghost Value = { ℕ };
 
-    ghost view = { λ b. b.reductions };
+    ghost view = { λ b. b.amount };
 
-    ghost invariant = { λ b. is_budget b.reductions ≡ true };
+    ghost invariant = { λ b. is_budget b.amount ≡ true };
 }
 
 impl Budget {
@@ -32,17 +33,15 @@ impl Budget {
     pub fn usual() -> Budget
         ensures { result ≡ usual_budget }
     {
-        Budget {
-            reductions: 100_000,
-        }
+        Budget { amount: 100_000 }
     }
 
-    /// How many reductions it allows.
+    /// How much it allows.
     pub fn get(&self) -> u64
         ensures value { result ≡ self.now }
         ensures limits { is_budget self.now ≡ true }
     {
-        self.reductions
+        self.amount
     }
 }
 
@@ -56,9 +55,7 @@ pub fn budget_at(alloc: Global, value: &Value) -> Result<Budget, ReadError>
         None => return Ok(Budget::usual()),
     };
     match number {
-        Some(reductions) if reductions >= 1 && reductions <= 1_000_000_000 => {
-            Ok(Budget { reductions })
-        }
+        Some(amount) if amount >= 1 && amount <= 1_000_000_000 => Ok(Budget { amount }),
         _ => Err(field_fault(alloc, Place::Top, "budget", None)),
     }
 }

@@ -2,16 +2,20 @@
 ghost use Rattle.std.specs.Prelude.{◌≡◌, IfOk};
 ghost use Rattle.serde_json.specs.View.{view};
 ghost use Rattle.job_lang.specs.Fields.{Gives};
-ghost use Rattle.job_lang.specs.Jobs.{error_with, value_of as line_value, name_of as name_data, subst_of as subst_data, cutelim_of as cutelim_data, resolution_of as resolution_data, op_named as named_op, op_of as op_data, reads_job, GivesJob};
+ghost use Rattle.job_lang.specs.Jobs.{error_with, value_of as line_value, name_of as name_data, subst_of as subst_data, cutelim_of as cutelim_data, resolution_of as resolution_data, sequent_at as sequent_members, tautology_of as tautology_data, expansion_of as expansion_data, op_named as named_op, op_of as op_data, reads_job, GivesJob};
 
 use crate::budgets::{Budget, budget_at};
+use crate::expansions::flat_at;
+use crate::formulas::side_at;
 use crate::maps::{FormedMap, map_at};
 use crate::places::Place;
 use crate::problems::problem_at;
 use crate::reading::{ReadError, field_fault, text_at, written_at};
 use crate::resolutions::{ResSteps, res_steps_at};
 use crate::steps::steps_at;
+use exp_tree::FlatExp;
 use job_words::{JobCause, Name, Steps, Utf8Text, is_name};
+use lk_rules::Sequent;
 use serde_json::Value;
 use std::alloc::Global;
 use text_tables::FormulaTexts;
@@ -36,6 +40,11 @@ pub enum Op {
     Cutelim { proof: Utf8Text, budget: Budget },
     /// The steps of a refutation of the clauses of a problem, which is named by its job.
     Resolution { problem: Utf8Text, steps: ResSteps },
+    /// A search for a proof of a sequent without quantifiers, within a budget of sequents that are visited.
+    Tautology { sequent: Sequent, budget: Budget },
+    /// The nodes of expansion trees and which of them are roots, to be checked as an expansion proof, within a budget of nodes of the
+    /// unfolded trees and of sequents that are visited.
+    Expansion { flat: FlatExp, budget: Budget },
 }
 
 /// A job: what it asks for, under a name.
@@ -88,6 +97,30 @@ fn resolution_of(alloc: Global, texts: &mut FormulaTexts, value: &Value) -> Resu
     Ok(Op::Resolution { problem, steps })
 }
 
+fn sequent_at(alloc: Global, texts: &mut FormulaTexts, value: &Value) -> Result<Sequent, ReadError>
+    ensures { Gives (λ s. s) result (sequent_members (view value.now)) }
+{
+    let left = side_at(alloc, texts, value, Place::Top, "left")?;
+    let right = side_at(alloc, texts, value, Place::Top, "right")?;
+    Ok(Sequent { left, right })
+}
+
+fn tautology_of(alloc: Global, texts: &mut FormulaTexts, value: &Value) -> Result<Op, ReadError>
+    ensures { Gives (λ op. op) result (tautology_data (view value.now)) }
+{
+    let sequent = sequent_at(alloc, texts, value)?;
+    let budget = budget_at(alloc, value)?;
+    Ok(Op::Tautology { sequent, budget })
+}
+
+fn expansion_of(alloc: Global, texts: &mut FormulaTexts, value: &Value) -> Result<Op, ReadError>
+    ensures { Gives (λ op. op) result (expansion_data (view value.now)) }
+{
+    let flat = flat_at(alloc, texts, value)?;
+    let budget = budget_at(alloc, value)?;
+    Ok(Op::Expansion { flat, budget })
+}
+
 fn op_named(
     alloc: Global,
     texts: &mut FormulaTexts,
@@ -125,6 +158,12 @@ fn op_named(
     }
     if name == "resolution" {
         return resolution_of(alloc, texts, value);
+    }
+    if name == "tautology" {
+        return tautology_of(alloc, texts, value);
+    }
+    if name == "expansion" {
+        return expansion_of(alloc, texts, value);
     }
     Err(ReadError::Fault(JobCause::Op))
 }

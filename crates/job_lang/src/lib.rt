@@ -2,10 +2,12 @@
 #![tactic(auto)]
 
 mod budgets;
+mod expansions;
 mod formulas;
 mod jobs;
 pub mod laws;
 mod maps;
+mod numbers;
 mod places;
 mod problems;
 mod reading;

@@ -4,7 +4,7 @@ ghost use Rattle.serde_json.specs.View.{view};
 ghost use Rattle.tptp_tokens.specs.declared.tokens.TextFault.{TextFault as Fault};
 ghost use Rattle.job_words.specs.declared.causes.JobCause.TheVariants.{Field as FieldCause, Formula as FormulaCause};
 ghost use Rattle.job_lang.specs.Places.{path};
-ghost use Rattle.job_lang.specs.Fields.{IsCause, Gives, text_at as text_member, list_at as list_member, number_of as number_data, each};
+ghost use Rattle.job_lang.specs.Fields.{IsCause, Gives, text_at as text_member, list_at as list_member};
 
 use crate::places::{Place, field_path};
 use job_words::{JobCause, Utf8Text};
@@ -115,38 +115,4 @@ pub fn list_at<'v>(
         },
         None => Err(field_fault(alloc, place, key, None)),
     }
-}
-
-/// The whole number that an element of a list is.
-#[tactic(auto, using(crate::proofs::Given::cause_given))]
-pub fn number_of(
-    alloc: Global,
-    value: &Value,
-    place: Place,
-    key: &str,
-    index: usize,
-) -> Result<u64, ReadError>
-    ensures { Gives (λ n. n) result (number_data place key.now index (view value.now)) }
-{
-    match value.as_u64() {
-        Some(number) => Ok(number),
-        None => Err(field_fault(alloc, place, key, Some(index))),
-    }
-}
-
-/// The whole numbers that the elements of a list are.
-pub fn numbers_of(
-    alloc: Global,
-    values: &[Value],
-    place: Place,
-    key: &str,
-) -> Result<Vec<u64>, ReadError>
-    ensures { Gives (λ v. v.items) result (each (number_data place key.now) 0 (map view values.now)) }
-{
-    let mut numbers = Vec::new(alloc);
-    for (index, value) in values.iter().enumerate() {
-        let number = number_of(alloc, value, place, key, index)?;
-        numbers.push(number)?;
-    }
-    Ok(numbers)
 }

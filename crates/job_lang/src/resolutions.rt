@@ -4,12 +4,13 @@ ghost use Rattle.serde_json.specs.Find.{get};
 ghost use Rattle.serde_json.specs.View.{view};
 ghost use Rattle.refutations.specs.Refutations.{IsFormedStep, AreFormedSteps};
 ghost use Rattle.job_lang.specs.Fields.{Gives};
-ghost use Rattle.job_lang.specs.Resolutions.{number_at as number_member, pair_of as pair_data, pair_at as pair_member, input_step as input_data, subst_step as subst_data, resolve_step as resolve_data, res_step_of as step_data, res_step_at as step_element, res_steps_of as steps_data, res_steps_at as steps_member};
+ghost use Rattle.job_lang.specs.Resolutions.{input_step as input_data, subst_step as subst_data, resolve_step as resolve_data, res_step_of as step_data, res_step_at as step_element, res_steps_of as steps_data, res_steps_at as steps_member};
 
 use crate::formulas::formula_at;
 use crate::maps::map_at;
+use crate::numbers::{number_at, pair_at};
 use crate::places::Place;
-use crate::reading::{ReadError, field_fault, list_at, number_of};
+use crate::reading::{ReadError, field_fault, list_at};
 use refutations::ResStep;
 use serde_json::Value;
 use std::alloc::Global;
@@ -61,47 +62,6 @@ fn has_member(value: &Value, key: &str) -> bool
     ensures { result ≡ is_some (get key.now (view value.now)) }
 {
     value.get(key).is_some()
-}
-
-/// The member that is a whole number.
-#[tactic(auto, using(crate::proofs::Given::cause_given))]
-fn number_at(alloc: Global, value: &Value, place: Place, key: &str) -> Result<u64, ReadError>
-    ensures { Gives (λ n. n) result (number_member place key.now (view value.now)) }
-{
-    match value.get(key) {
-        Some(member) => match member.as_u64() {
-            Some(number) => Ok(number),
-            None => Err(field_fault(alloc, place, key, None)),
-        },
-        None => Err(field_fault(alloc, place, key, None)),
-    }
-}
-
-#[tactic(auto, using(crate::proofs::Given::cause_given))]
-fn pair_of(
-    alloc: Global,
-    values: &[Value],
-    place: Place,
-    key: &str,
-) -> Result<(u64, u64), ReadError>
-    ensures { Gives (λ p. p) result (pair_data place key.now (map view values.now)) }
-{
-    match values {
-        [first, second] => {
-            let first = number_of(alloc, first, place, key, 0)?;
-            let second = number_of(alloc, second, place, key, 1)?;
-            Ok((first, second))
-        }
-        _ => Err(field_fault(alloc, place, key, None)),
-    }
-}
-
-/// The two whole numbers that the member is.
-fn pair_at(alloc: Global, value: &Value, place: Place, key: &str) -> Result<(u64, u64), ReadError>
-    ensures { Gives (λ p. p) result (pair_member place key.now (view value.now)) }
-{
-    let values = list_at(alloc, value, place, key)?;
-    pair_of(alloc, values, place, key)
 }
 
 fn input_step(alloc: Global, value: &Value, place: Place) -> Result<ResStep, ReadError>

@@ -4,25 +4,18 @@ ghost use Rattle.std.specs.List.{All};
 ghost use Rattle.lk_rules.specs.Rules.{IsFormedRule};
 ghost use Rattle.serde_json.specs.View.{view};
 ghost use Rattle.job_lang.specs.Fields.{Gives};
-ghost use Rattle.job_lang.specs.Steps.{premises_of as premises_data, step_of as step_data, step_at as step_element, steps_of as steps_data, steps_at as steps_member};
+ghost use Rattle.job_lang.specs.Steps.{step_of as step_data, step_at as step_element, steps_of as steps_data, steps_at as steps_member};
 
 use crate::formulas::side_at;
+use crate::numbers::numbers_at;
 use crate::places::Place;
-use crate::reading::{ReadError, field_fault, list_at, numbers_of};
+use crate::reading::{ReadError, field_fault, list_at};
 use crate::rules::rule_of;
 use job_words::Steps;
-use lk_rules::{Numbers, Sequent, Step};
+use lk_rules::{Sequent, Step};
 use serde_json::Value;
 use std::alloc::Global;
 use text_tables::FormulaTexts;
-
-fn premises_of(alloc: Global, value: &Value, place: Place) -> Result<Numbers, ReadError>
-    ensures { Gives (λ n. n) result (premises_data place (view value.now)) }
-{
-    let values = list_at(alloc, value, place, "premises")?;
-    let numbers = numbers_of(alloc, values, place, "premises")?;
-    Ok(Numbers::from_vec(numbers))
-}
 
 fn members_of_step(
     alloc: Global,
@@ -34,7 +27,7 @@ fn members_of_step(
     ensures formed { IfOk result (λ s. IsFormedRule s.rule) }
 {
     let rule = rule_of(alloc, texts, value, place)?;
-    let premises = premises_of(alloc, value, place)?;
+    let premises = numbers_at(alloc, value, place, "premises")?;
     let left = side_at(alloc, texts, value, place, "left")?;
     let right = side_at(alloc, texts, value, place, "right")?;
     Ok(Step {

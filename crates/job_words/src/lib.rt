@@ -1,14 +1,19 @@
-//! What jobs and replies both speak of: names of jobs, texts, the rules by their names, the steps of a proof, and why a line isn't read.
+//! What jobs and replies both speak of: names of jobs, texts, the rules and the nodes of expansion trees by their names, the steps of a
+//! proof, formulas and variables that are well formed, and why a line isn't read.
 #![tactic(auto)]
 
 mod causes;
+mod formed;
 mod kinds;
 mod names;
+mod node_kinds;
 mod steps;
 mod texts;
 
 pub use causes::JobCause;
+pub use formed::{FormedFormula, FormedVar, FormedVars};
 pub use kinds::RuleKind;
 pub use names::{Name, is_name};
+pub use node_kinds::NodeKind;
 pub use steps::Steps;
 pub use texts::Utf8Text;

@@ -2,6 +2,9 @@ pub mod Suffixes
 pub mod Givings
 pub mod Eliminated
 pub mod Refuted
+pub mod Searched
+pub mod StrongVars
+pub mod Expanded
 pub mod Making
 pub mod Sound
 pub mod Claimed

@@ -1,15 +1,19 @@
 -- What an operation makes, by what it is given.
-use Rattle.std.proofs.Common.{◌≡◌, ℕ, Bool, true, false, cond, List, [], ◌∷◌, ◌++◌, length, drop_of_length-le, append-nil, Option, Some, None, Result, Ok, Err, refl, ap, ◌∙◌, subst, arith}
+use Rattle.std.proofs.Common.{◌≡◌, ℕ, Bool, true, false, cond, List, [], ◌∷◌, ◌++◌, length, drop_of_length-le, append-nil, Option, Some, None, Result, Ok, Err, refl, sym, ap, ◌∙◌, subst, arith}
 use Rattle.std.specs.Prelude.{◌^◌, is_some, IfSome}
 use Rattle.std.specs.List.{All, list_all}
 use Rattle.std.specs.FinMap as fin
+use Rattle.finite.specs.Finite as set
 use Rattle.std.proofs.lemmas.Bool.{ltb-true}
 use Rattle.std.proofs.lemmas.List.Elements.{All-cons, All-head, All-tail}
 use Rattle.fol.specs.Formed.{IsFormed}
+use Rattle.fol.specs.Syntax.{Formula}
 use Rattle.substitution.specs.Image.{IsFormedMap}
 use Rattle.substitution.specs.Maps.{Map}
 use Rattle.lk_rules.specs.declared.rule.Step.{Step}
 use Rattle.lk_rules.specs.Rules.{IsFormedRule}
+use Rattle.lk_rules.specs.declared.sequent.Sequent.{Sequent}
+use Rattle.lk_rules.specs.declared.sequent.Side.{Side}
 use Rattle.lk_rules.specs.Sequents.{image_sequent}
 use Rattle.lk_rules.proofs.Subsequents.{and_left, and_right}
 use Rattle.proof_trees.specs.Trees.{Tree, concl, IsValid}
@@ -26,6 +30,23 @@ use Rattle.refutations.specs.Clauses.{IsClauseOf, closure_of, closures}
 use Rattle.refutations.specs.Refutations.{refutation, AreFormedSteps}
 use Rattle.refutations.proofs.InputTrees.{few_variables}
 use Rattle.refutations.proofs.Refuting.{end_of_refutation, valid_refutation}
+use Rattle.search_laws.specs.Search.{walk}
+use Rattle.search_laws.proofs.Found.{IsFound, found as found_tree, formed_sequent}
+use Rattle.prop_search.specs.declared.fault.SearchFault.{SearchFault}
+use Rattle.prop_search.specs.declared.fault.SearchFault.TheVariants as search
+use Rattle.prop_search.specs.Deciding.{found as found_within}
+use Rattle.lk_rules.specs.declared.sequent.Side.TheVariants.{Left, Right}
+use Rattle.expansion_laws.specs.Building.{is_built}
+use Rattle.expansion_laws.specs.Dependency.{Expansion}
+use Rattle.expansion_laws.specs.Proofs.{stands, shallow_sequent, IsExpansionProof}
+use Rattle.exp_tree.specs.Roots.{expansion_over}
+use Rattle.exp_tree.specs.FlatReading.{AreRight, reading}
+use Rattle.exp_tree.specs.declared.flat.FlatExp.{FlatExp}
+use Rattle.exp_tree.specs.declared.flat.NodesFault.{NodesFault}
+use Rattle.exp_tree.specs.declared.flat.NodesFault.TheVariants as reading_faults
+use Rattle.exp_check.specs.declared.fault.ExpFault.{ExpFault}
+use Rattle.exp_check.specs.declared.fault.ExpFault.TheVariants as checks
+use Rattle.exp_check.specs.Checking.{checking}
 use Rattle.lk_check.specs.declared.admission.AdmitFault.{AdmitFault}
 use Rattle.lk_check.specs.declared.admission.AdmitFault.TheVariants as admission
 use Rattle.lk_check.specs.Checking.{last_end}
@@ -37,10 +58,11 @@ use Rattle.tptp_problem.proofs.ReadClauses.{all_clauses}
 use Rattle.operations.specs.declared.answers.Refusal.TheVariants.{Kind}
 use Rattle.operations.specs.Values.{Value, IsSound}
 use Rattle.operations.specs.Values as values
-use Rattle.operations.specs.Answers.{Product, proof, reduced, Answer, lacking, product}
-use Rattle.operations.specs.Given.{pair_name, Found, missing, wanting, found, proof_given, problem_given, first_of}
-use Rattle.operations.specs.Running.{over, over_both, admits, eliminates, has_closure, refuted, refutes}
-use Rattle.operations.specs.Claims.{IsProofOf, AProof, AReducedProof, IsEliminated}
+use Rattle.operations.specs.Answers.{Product, proof, reduced, expansion, Answer, lacking, product}
+use Rattle.operations.specs.Given.{pair_name, Found, missing, wanting, found, proof_given, problem_given, ToShow, of_proof, of_expansion, shown_given, first_of}
+use Rattle.operations.specs.Running.{over, over_both, admits, eliminates, has_closure, refuted, refutes, quantified_in, searched, searches, checked, reads}
+use Rattle.operations.specs.Claims.{IsProofOf, AProof, AReducedProof, AnExpansion, IsEliminated, IsCutFreeProofOf, IsExpansionOf}
+use Rattle.operations.proofs.Searched.{found_proved}
 
 -- a field that is given something
 whole_is : {A : Type 0} (text : List ℕ) (b : Bool) (a x : A) → cond b (missing (Kind text)) (found a) ≡ found x → a ≡ x
@@ -54,6 +76,7 @@ proof_is text (Some values.refused) t is = cc
 proof_is text (Some values.lacking) t is = cc
 proof_is text (Some (values.proof u)) t is = ap (λ w. Some (values.proof w)) (whole_is text (is_some (pair_name text)) u t is)
 proof_is text (Some (values.problem p)) t is = cc
+proof_is text (Some (values.expansion x)) t is = cc
 
 pub problem_is : (text : List ℕ) (v : Option Value) (p : Problem) → problem_given text v ≡ found p → v ≡ Some (values.problem p)
 problem_is text None p is = cc
@@ -62,6 +85,21 @@ problem_is text (Some values.refused) p is = cc
 problem_is text (Some values.lacking) p is = cc
 problem_is text (Some (values.proof t)) p is = cc
 problem_is text (Some (values.problem q)) p is = ap (λ w. Some (values.problem w)) (whole_is text (is_some (pair_name text)) q p is)
+problem_is text (Some (values.expansion x)) p is = cc
+
+-- the value that is shown
+abbrev pub value_of : ToShow → Value
+value_of (of_proof t) = values.proof t
+value_of (of_expansion x) = values.expansion x
+
+pub shown_is : (text : List ℕ) (v : Option Value) (s : ToShow) → shown_given text v ≡ found s → v ≡ Some (value_of s)
+shown_is text None s is = cc
+shown_is text (Some values.nothing) s is = cc
+shown_is text (Some values.refused) s is = cc
+shown_is text (Some values.lacking) s is = cc
+shown_is text (Some (values.proof t)) s is = ap (λ w. Some (value_of w)) (whole_is text (is_some (pair_name text)) (of_proof t) s is)
+shown_is text (Some (values.problem p)) s is = cc
+shown_is text (Some (values.expansion x)) s is = ap (λ w. Some (value_of w)) (whole_is text (is_some (pair_name text)) (of_expansion x) s is)
 
 -- something is made only of what is found
 pub over_made : {A : Type 0} (f : Found A) (k : A → Answer) (made : Product) → over f k ≡ product made → (a : A) × (f ≡ found a) × (k a ≡ product made)
@@ -168,3 +206,64 @@ resolution_made of list v made formed sound is =
     let given = problem_is of v one.0 one.1 in
     let read : IsReadProblem one.0 = subst (λ o. IfSome o IsSound) given sound in
     (one.0, given, refutes_by one.0 list made (list_all has_closure (clauses_of one.0.entries)) read formed refl one.2)
+
+-- a proof that a search finds
+
+abbrev pub AreFormedSides : Sequent → Type 0
+AreFormedSides s = All IsFormed (set.listing s.left) × All IsFormed (set.listing s.right)
+
+searched_by : (s : Sequent) (n : ℕ) (made : Product) (r : Result Tree SearchFault) → AreFormedSides s → found_within n (walk s) ≡ r → searched r ≡ product made
+    → AProof made (λ t. IsCutFreeProofOf t s)
+searched_by s n made (Ok t) formed by is =
+    let found : IsFound s t = found_tree s t (found_proved n (walk s) t by) in
+    this_proof t made _ is (record {
+      right = record { valid = found.valid (formed_sequent s formed.0 formed.1); ends = found.end };
+      cut_free = found.without_cuts;
+    })
+searched_by s n made (Err (search.Falsified atoms)) formed by is = cc
+searched_by s n made (Err search.Budget) formed by is = cc
+searched_by s n made (Err search.Memory) formed by is = cc
+
+searches_by : (s : Sequent) (n : ℕ) (made : Product) (q : Option (Formula × Side)) → AreFormedSides s → searches q s n ≡ product made
+    → AProof made (λ t. IsCutFreeProofOf t s)
+searches_by s n made (Some q) formed is = cc
+searches_by s n made None formed is = searched_by s n made (found_within n (walk s)) formed refl is
+
+pub tautology_made : (s : Sequent) (n : ℕ) (made : Product) → AreFormedSides s → searches (quantified_in s) s n ≡ product made
+    → AProof made (λ t. IsCutFreeProofOf t s)
+tautology_made s n made formed is = searches_by s n made (quantified_in s) formed is
+
+-- expansion trees that are read and checked
+
+-- what is read of a flat list, and what passes the check of trees
+abbrev pub ReadsRightly : Type 0
+ReadsRightly = (flat : FlatExp) (n : ℕ) (x : Expansion) → reading flat n ≡ Ok x → (x ≡ expansion_over flat) × AreRight x
+
+abbrev pub ChecksRightly : Type 0
+ChecksRightly = (x y : Expansion) (n : ℕ) → All (λ e. is_built e ≡ true) x.left → All (λ e. is_built e ≡ true) x.right → All (λ e. stands Left e ≡ true) x.left
+    → All (λ e. stands Right e ≡ true) x.right → checking x n ≡ Ok y → (y ≡ x) × IsExpansionProof x (shallow_sequent x)
+
+module _ (reads_right : ReadsRightly) (checks_right : ChecksRightly) (flat : FlatExp) (n : ℕ) (made : Product) where
+  checked_by : (x : Expansion) (r : Result Expansion ExpFault) → reading flat n ≡ Ok x → checking x n ≡ r → checked r ≡ product made → AnExpansion made (IsExpansionOf flat)
+  checked_by x (Ok y) by is done =
+      let read = reads_right flat n x by in
+      let right = read.1 in
+      let proof = checks_right x y n right.built_left right.built_right right.stand_left right.stand_right is in
+      let same : expansion y ≡ made = cc in
+      subst (λ p. AnExpansion p (IsExpansionOf flat)) (ap expansion (sym proof.0) ∙ same) (record { trees = read.0; right = proof.1 })
+  checked_by x (Err (checks.EigenTwice v)) by is done = cc
+  checked_by x (Err (checks.EigenFree v)) by is done = cc
+  checked_by x (Err (checks.Cycle vs)) by is done = cc
+  checked_by x (Err (checks.Falsified a)) by is done = cc
+  checked_by x (Err checks.Budget) by is done = cc
+  checked_by x (Err checks.Memory) by is done = cc
+
+  read_by : (r : Result Expansion NodesFault) → reading flat n ≡ r → reads r n ≡ product made → AnExpansion made (IsExpansionOf flat)
+  read_by (Ok x) by is = checked_by x (checking x n) by refl is
+  read_by (Err (reading_faults.Node i cause)) by is = cc
+  read_by (Err (reading_faults.Root i cause)) by is = cc
+  read_by (Err reading_faults.Budget) by is = cc
+  read_by (Err reading_faults.Memory) by is = cc
+
+  pub expansion_made : reads (reading flat n) n ≡ product made → AnExpansion made (IsExpansionOf flat)
+  expansion_made is = read_by (reading flat n) refl is

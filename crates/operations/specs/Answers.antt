@@ -7,19 +7,24 @@
 use Rattle.std.specs.Prelude.{◌≡◌, ℕ, ◌-◌, ◌^◌, min, length, Bool, true, false, List, [], ◌∷◌}
 use Rattle.lk_rules.specs.declared.rule.Step.{Step}
 use Rattle.proof_trees.specs.Trees.{Tree, concl, cuts, quants}
+use Rattle.expansion_laws.specs.Dependency.{Expansion, strongs_of}
+use Rattle.expansion_laws.specs.Proofs.{shallow_sequent}
+use Rattle.exp_tree.specs.Instances.{instances_of}
+use Rattle.exp_tree.specs.declared.flat.FlatExp.{FlatExp}
 use Rattle.tptp_problem.specs.declared.problems.Problem.{Problem}
 use Rattle.reply_lines.specs.declared.replies.Outcome.{Outcome}
 use Rattle.reply_lines.specs.declared.replies.Outcome.TheVariants as outcomes
 use Rattle.reply_lines.specs.declared.replies.Summary.{Summary}
+use Rattle.reply_lines.specs.declared.replies.ExpSummary.{ExpSummary}
 use Rattle.operations.specs.declared.answers.Refusal.{Refusal}
 use Rattle.operations.specs.declared.answers.Refusal.TheVariants.{UnknownName, Kind, Empty, Step as Faulty}
 use Rattle.operations.specs.declared.answers.Failure.{Failure}
-use Rattle.operations.specs.declared.answers.Failure.TheVariants.{Budget, Refutation}
+use Rattle.operations.specs.declared.answers.Failure.TheVariants.{Budget, Refutation, Quantified, Falsified, Node, Root, EigenTwice, EigenFree, Cycle}
 use Rattle.operations.specs.Values.{Value}
 use Rattle.operations.specs.Values as values
 
--- a proof, a proof that was met after a number of replacements, a problem, whether a proof proves a problem, the steps of a proof, or the
--- numbers of its cuts, of its nodes that differ, of its quantifier rules and of all its nodes
+-- a proof, a proof that was met after a number of replacements, a problem, whether a proof proves a problem, the steps of a proof, the
+-- numbers of its cuts, of its nodes that differ, of its quantifier rules and of all its nodes, expansion trees, or trees as a flat list
 pub data Product : Type 0 where
   proof : Tree → Product
   reduced : Tree → ℕ → Product
@@ -27,6 +32,8 @@ pub data Product : Type 0 where
   proves : Bool → Product
   steps : List Step → Product
   sizes : ℕ → ℕ → ℕ → ℕ → Product
+  expansion : Expansion → Product
+  nodes : FlatExp → Product
 
 pub data Answer : Type 0 where
   refused : Refusal → Answer
@@ -42,6 +49,10 @@ capped n = min n (2 ^ 64 - 1)
 abbrev pub summary_of : Tree → Summary
 summary_of t = record { cuts = capped (cuts t); end = concl t; quants = capped (quants t) }
 
+-- expansion trees in short
+abbrev pub exp_summary_of : Expansion → ExpSummary
+exp_summary_of x = record { end = shallow_sequent x; instances = capped (instances_of x); strong = capped (length (strongs_of x)) }
+
 abbrev pub shown_refusal : Refusal → Outcome
 shown_refusal (UnknownName text) = outcomes.UnknownName text
 shown_refusal (Kind text) = outcomes.Kind text
@@ -51,6 +62,13 @@ shown_refusal (Faulty step cause) = outcomes.Step step cause
 abbrev pub shown_failure : Failure → Outcome
 shown_failure Budget = outcomes.Budget
 shown_failure (Refutation step cause) = outcomes.Refutation step cause
+shown_failure (Quantified f side) = outcomes.Quantified f side
+shown_failure (Falsified atoms) = outcomes.Falsified atoms
+shown_failure (Node i cause) = outcomes.Node i cause
+shown_failure (Root i cause) = outcomes.Root i cause
+shown_failure (EigenTwice v) = outcomes.EigenTwice v
+shown_failure (EigenFree v) = outcomes.EigenFree v
+shown_failure (Cycle vs) = outcomes.Cycle vs
 
 abbrev pub shown_product : Product → Outcome
 shown_product (proof t) = outcomes.Proof (summary_of t)
@@ -58,7 +76,9 @@ shown_product (reduced t n) = outcomes.Reduced (summary_of t) n
 shown_product (problem p) = outcomes.Entries (length p.entries) p.sequent
 shown_product (proves b) = outcomes.Proves b
 shown_product (steps list) = outcomes.Steps list
-shown_product (sizes cuts nodes quants size) = outcomes.Measure cuts nodes quants size
+shown_product (sizes cuts distinct quants size) = outcomes.Measure cuts distinct quants size
+shown_product (expansion x) = outcomes.Expansion (exp_summary_of x)
+shown_product (nodes flat) = outcomes.Nodes flat
 
 -- what is replied
 abbrev pub shown : Answer → Outcome
@@ -73,7 +93,9 @@ held_product (reduced t n) = values.proof t
 held_product (problem p) = values.problem p
 held_product (proves b) = values.nothing
 held_product (steps list) = values.nothing
-held_product (sizes cuts nodes quants size) = values.nothing
+held_product (sizes cuts distinct quants size) = values.nothing
+held_product (expansion x) = values.expansion x
+held_product (nodes flat) = values.nothing
 
 -- what the job holds
 abbrev pub held : Answer → Value
@@ -89,7 +111,9 @@ proofs_in (reduced t n) = t ∷ []
 proofs_in (problem p) = []
 proofs_in (proves b) = []
 proofs_in (steps list) = []
-proofs_in (sizes cuts nodes quants size) = []
+proofs_in (sizes cuts distinct quants size) = []
+proofs_in (expansion x) = []
+proofs_in (nodes flat) = []
 
 -- Where memory ran out a failure or a product gives way to want of it; a refusal needs none.
 abbrev pub with_lack : Bool → Answer → Answer

@@ -1,16 +1,17 @@
 -- What an operation is given: the values that its names of jobs stand for.
 --     names_in      the names in an operation, as they are written
 --     base_name      the name of the job that a written name is about
---     proof_given, problem_given      what a field is given
+--     proof_given, problem_given, shown_given      what a field is given
 use Rattle.std.specs.Prelude.{ℕ, ◌-◌, is_some, List, [], ◌∷◌, length, take, drop, codes, Option, Some, None, unwrap_or, if◌then◌else◌}
 use Rattle.proof_trees.specs.Trees.{Tree}
+use Rattle.expansion_laws.specs.Dependency.{Expansion}
 use Rattle.tptp_problem.specs.declared.problems.Problem.{Problem}
 use Rattle.job_words.specs.RuleKinds.{is_text}
 use Rattle.job_lang.specs.declared.jobs.Op.{Op}
 use Rattle.job_lang.specs.declared.jobs.Op.TheVariants as ops
 use Rattle.operations.specs.declared.answers.Refusal.{Refusal}
 use Rattle.operations.specs.declared.answers.Refusal.TheVariants.{UnknownName, Kind}
-use Rattle.operations.specs.Values.{Value, nothing, refused, lacking, proof, problem}
+use Rattle.operations.specs.Values.{Value, nothing, refused, lacking, proof, problem, expansion}
 
 -- the names of jobs in an operation, as they are written, in the order in which its fields are read
 abbrev pub names_in : Op → List (List ℕ)
@@ -22,6 +23,8 @@ names_in (ops.Measure of) = of ∷ []
 names_in (ops.Subst of m) = of ∷ []
 names_in (ops.Cutelim of n) = of ∷ []
 names_in (ops.Resolution of steps) = of ∷ []
+names_in (ops.Tautology s n) = []
+names_in (ops.Expansion flat n) = []
 
 -- the text without a suffix that it has
 abbrev pub without : List ℕ → List ℕ → Option (List ℕ)
@@ -58,6 +61,7 @@ proof_given text (Some refused) = missing (Kind text)
 proof_given text (Some lacking) = wanting
 proof_given text (Some (proof t)) = whole text t
 proof_given text (Some (problem p)) = missing (Kind text)
+proof_given text (Some (expansion x)) = missing (Kind text)
 
 -- the same of a field for a problem
 abbrev pub problem_given : List ℕ → Option Value → Found Problem
@@ -67,6 +71,22 @@ problem_given text (Some refused) = missing (Kind text)
 problem_given text (Some lacking) = wanting
 problem_given text (Some (proof t)) = missing (Kind text)
 problem_given text (Some (problem p)) = whole text p
+problem_given text (Some (expansion x)) = missing (Kind text)
+
+-- what can be shown: a proof, or expansion trees
+pub data ToShow : Type 0 where
+  of_proof : Tree → ToShow
+  of_expansion : Expansion → ToShow
+
+-- the same of a field for either
+abbrev pub shown_given : List ℕ → Option Value → Found ToShow
+shown_given text None = missing (UnknownName text)
+shown_given text (Some nothing) = missing (Kind text)
+shown_given text (Some refused) = missing (Kind text)
+shown_given text (Some lacking) = wanting
+shown_given text (Some (proof t)) = whole text (of_proof t)
+shown_given text (Some (problem p)) = missing (Kind text)
+shown_given text (Some (expansion x)) = whole text (of_expansion x)
 
 -- the value of the first name and that of the second; of a name that has none, as of one that no job has
 abbrev pub first_of : List (Option Value) → Option Value

@@ -5,8 +5,13 @@
 --     Comes      what an operation came to stands for an answer
 --     IsAnswerOf      an outcome and a value are what is answered
 use Rattle.std.specs.Prelude.{◌≡◌, ◌⊎◌, Option, Some, None, Result, Ok, Err}
+use Rattle.std.specs.List.{All}
 use Rattle.proof_graph.specs.declared.graph.Graph.{Graph}
 use Rattle.proof_graph.specs.Graphs.{IsOf}
+use Rattle.fol.specs.Formed.{IsFormedVar}
+use Rattle.exp_tree.specs.Reads.{expansion_of}
+use Rattle.exp_check.specs.declared.fault.ExpFault.{ExpFault}
+use Rattle.exp_check.specs.declared.fault.ExpFault.TheVariants as checks
 use Rattle.tptp_problem.specs.ProblemClauses.{IsReadProblem}
 use Rattle.reply_lines.specs.declared.replies.Outcome.{Outcome}
 use Rattle.reply_lines.specs.declared.replies.Outcome.TheVariants.{Memory}
@@ -18,11 +23,13 @@ use Rattle.operations.specs.declared.answers.Made.{Made}
 use Rattle.operations.specs.declared.answers.Made.TheVariants as made
 use Rattle.operations.specs.declared.answers.Ran.{Ran}
 use Rattle.operations.specs.declared.answers.Ran.TheVariants as ran
-use Rattle.operations.specs.Values.{Value, nothing, refused, lacking, proof, problem}
+use Rattle.operations.specs.Values.{Value, nothing, refused, lacking, proof, problem, expansion}
 use Rattle.operations.specs.Answers.{Product, Answer, shown_refusal, shown_failure, shown_product, held_product}
 use Rattle.operations.specs.Answers as answers
 use Rattle.operations.specs.Given.{Found}
 use Rattle.operations.specs.Given as given
+use Rattle.operations.specs.declared.given.ToShow.{ToShow}
+use Rattle.operations.specs.declared.given.ToShow.TheVariants as to_show
 use Rattle.operations.specs.declared.answers.Absent.{Absent}
 use Rattle.operations.specs.declared.answers.Absent.TheVariants as absent
 
@@ -33,6 +40,7 @@ sense held.Unheld = Some lacking
 sense held.Unknown = None
 sense (held.Proof r) = Some (proof r.tree)
 sense (held.Problem p) = Some (problem p)
+sense (held.Expansion e) = Some (expansion (expansion_of e))
 
 -- a reference is of the graph, and a problem is such as is read
 abbrev pub Fits : Graph → Held → Type 0
@@ -42,6 +50,7 @@ Fits g held.Unheld = Unit {0}
 Fits g held.Unknown = Unit {0}
 Fits g (held.Proof r) = IsOf g r
 Fits g (held.Problem p) = IsReadProblem p
+Fits g (held.Expansion e) = Unit {0}
 
 -- what a product of the program means
 abbrev pub made_of : Made → Product
@@ -51,6 +60,8 @@ made_of (made.Problem p) = answers.problem p
 made_of (made.Proves b) = answers.proves b
 made_of (made.Steps list) = answers.steps list
 made_of (made.Sizes cuts nodes quants size) = answers.sizes cuts nodes quants size
+made_of (made.Expansion e) = answers.expansion (expansion_of e)
+made_of (made.Nodes flat) = answers.nodes flat
 
 -- its references are of the graph, and a problem is such as is read
 abbrev pub FitsMade : Graph → Made → Type 0
@@ -60,6 +71,8 @@ FitsMade g (made.Problem p) = IsReadProblem p
 FitsMade g (made.Proves b) = Unit {0}
 FitsMade g (made.Steps list) = Unit {0}
 FitsMade g (made.Sizes cuts nodes quants size) = Unit {0}
+FitsMade g (made.Expansion e) = Unit {0}
+FitsMade g (made.Nodes flat) = Unit {0}
 
 -- the refusal shows a name
 abbrev pub ShowsName : Refusal → Type 0
@@ -81,6 +94,24 @@ Finds of (Err (absent.Refused r)) wanted = wanted ≡ given.missing r
 Finds of (Err absent.Unnamed) (given.missing r) = ShowsName r
 Finds of (Err absent.Unnamed) wanted = ⊥
 Finds of (Err absent.Wanting) wanted = wanted ≡ given.wanting
+
+-- what can be shown, in the program
+abbrev pub shown_as : ToShow → given.ToShow
+shown_as (to_show.Proof r) = given.of_proof r.now.tree
+shown_as (to_show.Expansion e) = given.of_expansion (expansion_of e.now)
+
+abbrev pub FitsShown : Graph → ToShow → Type 0
+FitsShown g (to_show.Proof r) = IsOf g r.now
+FitsShown g (to_show.Expansion e) = Unit {0}
+
+-- the variables that a fault of expansion trees names are well formed
+abbrev pub HasFormedVars : ExpFault → Type 0
+HasFormedVars (checks.EigenTwice v) = IsFormedVar v
+HasFormedVars (checks.EigenFree v) = IsFormedVar v
+HasFormedVars (checks.Cycle vs) = All IsFormedVar vs
+HasFormedVars (checks.Falsified a) = Unit {0}
+HasFormedVars checks.Budget = Unit {0}
+HasFormedVars checks.Memory = Unit {0}
 
 -- what an operation comes to, in the program, where a field is given nothing
 abbrev pub without : Absent → Ran

@@ -16,11 +16,13 @@ ghost use Rattle.operations.specs.Means.{sense, Fits, Comes, IsAnswerOf};
 
 use crate::answers::{Made, Ran};
 use crate::concluding::conclude;
+use crate::expanding::check_expansion;
 use crate::given::{first, second};
 use crate::held::Held;
 use crate::proofs::{admit_steps, eliminate_in, substitute_in};
 use crate::readings::{measure, prove, show};
 use crate::refuting::refute;
+use crate::searching::prove_sequent;
 use cut_elim::{Desk, DeskPass};
 use job_lang::Op;
 use reply_lines::Outcome;
@@ -29,11 +31,11 @@ use std::sync::Wait;
 use tptp_problem::Problem;
 
 // A problem, as it is read.
-fn hold(alloc: Global, problem: &Problem) -> Ran
+fn hold(problem: &Problem) -> Ran
     requires { IsReadProblem problem.now }
     ensures { (g : Graph) → Comes g result (product (problem_made problem.now)) }
 {
-    match problem.copy(alloc) {
+    match problem.copy() {
         Ok(problem) => Ran::Done(Made::Problem(problem)),
         Err(_) => Ran::Lacking,
     }
@@ -64,7 +66,7 @@ fn run_given<R: Wait>(
         Op::Lk { steps } => {
             admit_steps(rt, alloc, bench, Desk::bench_pass(pass), steps.as_slice())
         }
-        Op::Problem { problem } => hold(alloc, problem),
+        Op::Problem { problem } => hold(problem),
         Op::Proves { proof, problem } => {
             prove(graph, alloc, proof, first(given), problem, second(given))
         }
@@ -91,11 +93,20 @@ fn run_given<R: Wait>(
             first(given),
             steps.as_slice(),
         ),
+        Op::Tautology { sequent, budget } => prove_sequent(
+            rt,
+            alloc,
+            bench,
+            Desk::bench_pass(pass),
+            sequent,
+            budget.get(),
+        ),
+        Op::Expansion { flat, budget } => check_expansion(alloc, flat, budget.get()),
     }
 }
 
 /// Runs an operation over the values that its names of jobs stand for: `given` has one for each, in the order in which the fields are read
-/// (none for `Lk` and `Problem`, the proof and then the problem for `Proves`, and one for the others). The answer is the outcome with what
+/// (none for `Lk`, `Problem`, `Tautology` and `Expansion`, the proof and then the problem for `Proves`, and one for the others). The answer is the outcome with what
 /// the job holds.
 ///
 /// A value that has a fault is refused, the first such value alone: at `Unknown` by `UnknownName`, and by `Kind` at another kind of value

@@ -1,5 +1,7 @@
 //! What operations come to.
-use job_words::{Steps, Utf8Text};
+use exp_tree::{CheckedExp, FlatExp, NodeCause, RootCause};
+use job_words::{FormedFormula, FormedVar, FormedVars, Steps, Utf8Text};
+use lk_rules::{Formulas, Side};
 use proof_graph::ProofRef;
 use reply_lines::{RefutationShown, StepShown};
 use tptp_problem::Problem;
@@ -18,12 +20,26 @@ pub enum Refusal {
 }
 
 /// Why an operation has no product, where that was found by work.
-#[derive(Clone, Copy, Debug, PartialEq, Eq)]
+#[derive(Drop)]
 pub enum Failure {
-    /// After as many replacements as the budget allows a cut is left.
+    /// After as much work as the budget allows there is more to do.
     Budget,
     /// The first faulty step of a refutation, counted from 0, and its fault.
     Refutation { step: u64, cause: RefutationShown },
+    /// The first formula of a sequent that has a quantifier, the left side before the right one.
+    Quantified { formula: FormedFormula, side: Side },
+    /// The sequent is false where just these atoms are true.
+    Falsified(Formulas),
+    /// The first faulty node of a flat list, counted from 0, and its first fault.
+    Node { node: u64, cause: NodeCause },
+    /// The first faulty root of a flat list, and its first fault. Left roots are counted before right ones, from 0.
+    Root { root: u64, cause: RootCause },
+    /// The least variable of two strong quantifiers of expansion trees.
+    EigenTwice(FormedVar),
+    /// The least variable of a strong quantifier of expansion trees that is free in one of their formulas.
+    EigenFree(FormedVar),
+    /// Variables of strong quantifiers each of which has to be there before the next, and the last before the first.
+    Cycle(FormedVars),
 }
 
 /// What an operation makes.
@@ -46,6 +62,10 @@ pub enum Made {
         quants: u64,
         size: u64,
     },
+    /// Expansion trees that are an expansion proof of the sequent of their formulas.
+    Expansion(CheckedExp),
+    /// The trees of an expansion proof as a flat list.
+    Nodes(FlatExp),
 }
 
 /// Why a field is given nothing that the operation could take.

@@ -2,15 +2,17 @@
 ghost use Rattle.std.specs.Prelude.{◌≡◌, IfOk};
 ghost use Rattle.proof_graph.specs.declared.graph.Graph.{Graph as GraphMeaning};
 ghost use Rattle.proof_graph.specs.Graphs.{IsOf};
+ghost use Rattle.exp_tree.specs.Reads.{expansion_of};
 ghost use Rattle.tptp_problem.specs.ProblemClauses.{IsReadProblem};
-ghost use Rattle.operations.specs.Answers.{Answer, product, proof as proof_made, reduced as reduced_made, problem as problem_made, summary_of, shown_refusal as refusal_shown, shown_failure as failure_shown};
+ghost use Rattle.operations.specs.Answers.{Answer, product, proof as proof_made, reduced as reduced_made, problem as problem_made, expansion as expansion_made, summary_of, exp_summary_of, shown_refusal as refusal_shown, shown_failure as failure_shown};
 ghost use Rattle.operations.specs.Means.{Fits, FitsMade, made_of, Comes, IsAnswerOf};
 
 use crate::answers::{Failure, Made, Ran, Refusal};
 use crate::held::Held;
+use exp_tree::{CheckedExp, count_instances, shallow_sequent, strong_vars};
 use proof_graph::{Graph, ProofRef};
 use proof_steps::{cuts, quants};
-use reply_lines::{Outcome, Summary};
+use reply_lines::{ExpSummary, Outcome, Summary};
 use std::alloc::{AllocError, Global};
 use tptp_problem::Problem;
 
@@ -31,6 +33,13 @@ fn shown_failure(failure: Failure) -> Outcome
     match failure {
         Failure::Budget => Outcome::Budget,
         Failure::Refutation { step, cause } => Outcome::Refutation { step, cause },
+        Failure::Quantified { formula, side } => Outcome::Quantified { formula, side },
+        Failure::Falsified(atoms) => Outcome::Falsified(atoms),
+        Failure::Node { node, cause } => Outcome::Node { node, cause },
+        Failure::Root { root, cause } => Outcome::Root { root, cause },
+        Failure::EigenTwice(var) => Outcome::EigenTwice(var),
+        Failure::EigenFree(var) => Outcome::EigenFree(var),
+        Failure::Cycle(vars) => Outcome::Cycle(vars),
     }
 }
 
@@ -82,6 +91,32 @@ fn hold_problem(problem: Problem) -> (Outcome, Held)
     }
 }
 
+// Expansion trees in short.
+#[tactic(auto, using(crate::proofs::Expanded::few_capped))]
+fn exp_summary(alloc: Global, checked: &CheckedExp) -> Result<ExpSummary, AllocError>
+    ensures { IfOk result (λ s. s ≡ exp_summary_of (expansion_of checked.now)) }
+{
+    let trees = checked.tree();
+    let end = shallow_sequent(alloc, trees)?;
+    let instances = count_instances(trees);
+    let strong = strong_vars(alloc, trees)?.len() as u64;
+    Ok(ExpSummary {
+        end,
+        instances,
+        strong,
+    })
+}
+
+fn hold_expansion(alloc: Global, checked: CheckedExp) -> (Outcome, Held)
+    ensures answered { IsAnswerOf result (product (expansion_made (expansion_of checked))) }
+    ensures fits { (g : GraphMeaning) → Fits g result.1 }
+{
+    match exp_summary(alloc, &checked) {
+        Ok(summary) => (Outcome::Expansion(summary), Held::Expansion(checked)),
+        Err(_) => (Outcome::Memory, Held::Unheld),
+    }
+}
+
 // What is replied to a job whose operation is done, with what the job holds.
 fn hold(graph: &Graph, alloc: Global, made: Made) -> (Outcome, Held)
     requires { FitsMade graph.now made }
@@ -108,6 +143,8 @@ fn hold(graph: &Graph, alloc: Global, made: Made) -> (Outcome, Held)
             },
             Held::Nothing,
         ),
+        Made::Expansion(checked) => hold_expansion(alloc, checked),
+        Made::Nodes(flat) => (Outcome::Nodes(flat), Held::Nothing),
     }
 }
 

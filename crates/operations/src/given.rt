@@ -3,12 +3,13 @@ ghost use Rattle.std.specs.Prelude.{◌≡◌, ◌<◌, IfOk, is_some, length, m
 ghost use Rattle.std.specs.List.{All};
 ghost use Rattle.proof_graph.specs.declared.graph.Graph.{Graph};
 ghost use Rattle.operations.specs.declared.answers.Refusal.TheVariants.{UnknownName, Kind as OtherKind};
-ghost use Rattle.operations.specs.Given.{names_in, without as without_suffix, pair_name as pair_of, base_name as base_of, proof_given as proof_found, problem_given as problem_found, first_of, second_of};
-ghost use Rattle.operations.specs.Means.{sense, Fits, Finds, IsAbsent};
+ghost use Rattle.operations.specs.Given.{names_in, without as without_suffix, pair_name as pair_of, base_name as base_of, proof_given as proof_found, problem_given as problem_found, shown_given as shown_found, first_of, second_of};
+ghost use Rattle.operations.specs.Means.{sense, Fits, FitsShown, Finds, shown_as, IsAbsent};
 ghost use Rattle.operations.specs.declared.held.Held.TheVariants.{Proof as ProofHeld, Problem as ProblemHeld};
 
 use crate::answers::{Absent, Refusal};
 use crate::held::Held;
+use exp_tree::CheckedExp;
 use job_lang::Op;
 use job_words::Utf8Text;
 use proof_graph::ProofRef;
@@ -20,7 +21,7 @@ pub fn name_at(op: &Op, place: usize) -> Option<&str>
     ensures { option_map (λ name. name.now) result ≡ slice_get (names_in op.now) place }
 {
     match op {
-        Op::Lk { .. } | Op::Problem { .. } => None,
+        Op::Lk { .. } | Op::Problem { .. } | Op::Tautology { .. } | Op::Expansion { .. } => None,
         Op::Proves { proof, problem } => match place {
             0 => Some(proof.as_str()),
             1 => Some(problem.as_str()),
@@ -113,7 +114,9 @@ pub fn proof_given<'h>(
             }
             Ok(proof)
         }
-        Held::Nothing | Held::Refused | Held::Problem(_) => Err(other_kind(alloc, text)),
+        Held::Nothing | Held::Refused | Held::Problem(_) | Held::Expansion(_) => {
+            Err(other_kind(alloc, text))
+        }
     }
 }
 
@@ -135,7 +138,45 @@ pub fn problem_given<'h>(
             }
             Ok(problem)
         }
-        Held::Nothing | Held::Refused | Held::Proof(_) => Err(other_kind(alloc, text)),
+        Held::Nothing | Held::Refused | Held::Proof(_) | Held::Expansion(_) => {
+            Err(other_kind(alloc, text))
+        }
+    }
+}
+
+/// What can be shown.
+pub enum ToShow<'h> {
+    /// A proof.
+    Proof(&'h ProofRef),
+    /// Expansion trees that are an expansion proof of the sequent of their formulas.
+    Expansion(&'h CheckedExp),
+}
+
+/// The proof or the trees that a field with this text is given, or why there is neither.
+pub fn shown_given<'h>(
+    alloc: Global,
+    text: &Utf8Text,
+    value: &'h Held,
+) -> Result<ToShow<'h>, Absent>
+    ensures fits { IfOk result (λ s. (g : Graph) → Fits g value.now → FitsShown g s) }
+    ensures found { Finds shown_as result (shown_found text.now (sense value.now)) }
+{
+    match value {
+        Held::Unknown => Err(unknown(alloc, text)),
+        Held::Unheld => Err(Absent::Wanting),
+        Held::Proof(proof) => {
+            if is_of_pair(text) {
+                return Err(other_kind(alloc, text));
+            }
+            Ok(ToShow::Proof(proof))
+        }
+        Held::Expansion(trees) => {
+            if is_of_pair(text) {
+                return Err(other_kind(alloc, text));
+            }
+            Ok(ToShow::Expansion(trees))
+        }
+        Held::Nothing | Held::Refused | Held::Problem(_) => Err(other_kind(alloc, text)),
     }
 }
 

@@ -1,6 +1,7 @@
 //! What jobs hold for later ones.
 ghost use Rattle.std.specs.Prelude.{◌≡◌, IfOk};
 
+use exp_tree::CheckedExp;
 use proof_graph::ProofRef;
 use std::alloc::{AllocError, Global};
 use tptp_problem::Problem;
@@ -19,6 +20,8 @@ pub enum Held {
     Proof(ProofRef),
     /// A problem.
     Problem(Problem),
+    /// Expansion trees that are an expansion proof of the sequent of their formulas.
+    Expansion(CheckedExp),
 }
 
 impl Drop for Held {
@@ -26,13 +29,14 @@ impl Drop for Held {
         match self {
             Held::Proof(proof) => drop(proof),
             Held::Problem(problem) => drop(problem),
+            Held::Expansion(trees) => drop(trees),
             Held::Nothing | Held::Refused | Held::Unheld | Held::Unknown => {}
         }
     }
 }
 
 impl Held {
-    /// The same value, whose proof or problem is shared.
+    /// The same value, whose proof, problem or trees are shared.
     pub fn copy(&self, alloc: Global) -> Result<Held, AllocError>
         ensures { IfOk result (λ copy. copy ≡ self.now) }
     {
@@ -42,7 +46,8 @@ impl Held {
             Held::Unheld => Ok(Held::Unheld),
             Held::Unknown => Ok(Held::Unknown),
             Held::Proof(proof) => Ok(Held::Proof(proof.keep()?)),
-            Held::Problem(problem) => Ok(Held::Problem(problem.copy(alloc)?)),
+            Held::Problem(problem) => Ok(Held::Problem(problem.copy()?)),
+            Held::Expansion(trees) => Ok(Held::Expansion(trees.copy(alloc)?)),
         }
     }
 }

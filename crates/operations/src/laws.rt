@@ -20,7 +20,10 @@ pub fn claims()
         → run op vs ≡ product made → All IsValid (proofs_in made) }
     ensures sound { (op : Operation) (vs : List (Option Value)) → IsFormedOp op → All (λ v. IfSome v IsSound) vs
         → IsSound (held (run op vs)) }
-{}
+{
+    exp_tree::laws::readings();
+    exp_check::laws::checks();
+}
 
 /// What is replied is want of memory exactly where memory ran out, and no error exactly where it shows a product.
 pub fn replies()

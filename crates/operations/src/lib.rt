@@ -4,12 +4,14 @@
 mod answering;
 mod answers;
 mod concluding;
+mod expanding;
 mod given;
 mod held;
 pub mod laws;
 mod proofs;
 mod readings;
 mod refuting;
+mod searching;
 
 pub use answering::answer;
 pub use given::{base_name, name_at};

@@ -1,16 +1,19 @@
 //! What operations come to that only read the values that they are given.
 ghost use Rattle.std.specs.Prelude.{◌≡◌, [], ◌∷◌, IfOk};
+ghost use Rattle.exp_tree.specs.Reads.{expansion_of};
+ghost use Rattle.exp_tree.specs.Writing.{flat_of};
 ghost use Rattle.proof_steps.specs.Places.{steps_of};
 ghost use Rattle.proof_graph.specs.declared.graph.Graph.{Graph as GraphMeaning};
 ghost use Rattle.proof_graph.specs.Graphs.{IsOf};
-ghost use Rattle.operations.specs.Answers.{lacking, product, steps as steps_made};
+ghost use Rattle.operations.specs.Answers.{lacking, product, steps as steps_made, nodes as nodes_made};
 ghost use Rattle.operations.specs.Given.{problem_given as problem_found};
 ghost use Rattle.operations.specs.Running.{over, sizes_of, compares, run};
 ghost use Rattle.operations.specs.Means.{sense, Fits, made_of, Comes};
 
 use crate::answers::{Absent, Made, Ran};
-use crate::given::{problem_given, proof_given};
+use crate::given::{ToShow, problem_given, proof_given, shown_given};
 use crate::held::Held;
+use exp_tree::{CheckedExp, write_nodes};
 use job_lang::Op;
 use job_words::{Steps, Utf8Text};
 use proof_graph::{Graph, ProofRef};
@@ -27,14 +30,25 @@ fn listed(graph: &Graph, alloc: Global, proof: &ProofRef) -> Ran
     }
 }
 
-/// The canonical steps of the proof that is named.
+// Expansion trees as a flat list.
+fn written(alloc: Global, checked: &CheckedExp) -> Ran
+    ensures { (g : GraphMeaning) → Comes g result (product (nodes_made (flat_of (expansion_of checked.now)))) }
+{
+    match write_nodes(alloc, checked.tree()) {
+        Ok(flat) => Ran::Done(Made::Nodes(flat)),
+        Err(_) => Ran::Lacking,
+    }
+}
+
+/// The canonical steps of the proof that is named, or the flat list of the expansion trees.
 #[tactic(auto, using(crate::proofs::Givings::absent_comes))]
 pub fn show(graph: &Graph, alloc: Global, of: &Utf8Text, value: &Held) -> Ran
     requires { Fits graph.now value.now }
     ensures { Comes graph.now result (run (Op.Show of.now) (sense value.now ∷ [])) }
 {
-    match proof_given(alloc, of, value) {
-        Ok(proof) => listed(graph, alloc, proof),
+    match shown_given(alloc, of, value) {
+        Ok(ToShow::Proof(proof)) => listed(graph, alloc, proof),
+        Ok(ToShow::Expansion(checked)) => written(alloc, checked),
         Err(absent) => Ran::from(absent),
     }
 }

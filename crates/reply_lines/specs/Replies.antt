@@ -5,6 +5,8 @@ use Rattle.fol.specs.declared.symbols.Var.{Var}
 use Rattle.fol.specs.Syntax.{Term, free, Formula}
 use Rattle.lk_rules.specs.Formulas.{FormulaSet}
 use Rattle.lk_rules.specs.declared.sequent.Sequent.{Sequent}
+use Rattle.lk_rules.specs.declared.sequent.Side.{Side}
+use Rattle.lk_rules.specs.declared.sequent.Side.TheVariants.{Left, Right}
 use Rattle.lk_rules.specs.declared.inference.RuleFault.TheVariants.{Premises, Shape, MainMissing, EigenFree, Premise}
 use Rattle.tptp_problem.specs.declared.errors.ProblemKind.{ProblemKind}
 use Rattle.tptp_problem.specs.declared.errors.ProblemKind.TheVariants.{Text, Include, Language, NameTwice, Role, Clause}
@@ -12,6 +14,13 @@ use Rattle.tptp_tokens.specs.declared.tokens.TextKind.{TextKind}
 use Rattle.tptp_tokens.specs.declared.tokens.TextKind.TheVariants.{Token, Expected, Deep, DefinedWord, Number, Distinct, OpenQuote, OpenComment}
 use Rattle.lk_rules.specs.declared.rule.Step.{Step}
 use Rattle.lk_rules.specs.RuleOrder.{formula_of, term_of, variable_of}
+use Rattle.exp_tree.specs.declared.flat.ExpNode.{ExpNode}
+use Rattle.exp_tree.specs.declared.flat.ExpNode.TheVariants as nodes
+use Rattle.exp_tree.specs.declared.flat.FlatExp.{FlatExp}
+use Rattle.exp_tree.specs.declared.flat.NodeCause.{NodeCause}
+use Rattle.exp_tree.specs.declared.flat.NodeCause.TheVariants as node_causes
+use Rattle.exp_tree.specs.declared.flat.RootCause.{RootCause}
+use Rattle.exp_tree.specs.declared.flat.RootCause.TheVariants as root_causes
 use Rattle.tptp_print.specs.Canonical.{canonical, canonical_term}
 use Rattle.serde_json.specs.Data.{Data, null, boolean, number, unsigned, string, array, object, member, no_members}
 use Rattle.serde_json.specs.View.{items_of}
@@ -19,14 +28,18 @@ use Rattle.serde_json.specs.Written.{compact_text}
 use Rattle.job_words.specs.declared.causes.JobCause.{JobCause}
 use Rattle.job_words.specs.declared.causes.JobCause.TheVariants as causes
 use Rattle.reply_lines.specs.declared.replies.Summary.{Summary}
+use Rattle.reply_lines.specs.declared.replies.ExpSummary.{ExpSummary}
 use Rattle.reply_lines.specs.declared.replies.StepShown.{StepShown}
 use Rattle.reply_lines.specs.declared.replies.StepShown.TheVariants.{Reference, Rule}
 use Rattle.reply_lines.specs.declared.replies.RefutationShown.{RefutationShown}
 use Rattle.reply_lines.specs.declared.replies.RefutationShown.TheVariants as refutations
 use Rattle.reply_lines.specs.declared.replies.Outcome.{Outcome}
-use Rattle.reply_lines.specs.declared.replies.Outcome.TheVariants.{Proof, Reduced, Entries, Proves, Steps, Measure, LineTooLong, Reading, NameTaken, UnknownName, Kind, Empty, Step as Faulty, Refutation, Budget, Memory}
+use Rattle.reply_lines.specs.declared.replies.Outcome.TheVariants.{Proof, Reduced, Entries, Proves, Steps, Measure, Expansion, Nodes, LineTooLong, Reading, NameTaken, UnknownName, Kind, Empty, Step as Faulty, Refutation, Quantified, Falsified, Node, Root, EigenTwice, EigenFree, Cycle, Budget, Memory}
 use Rattle.reply_lines.specs.declared.replies.Reply.{Reply}
 use Rattle.job_words.specs.RuleKinds.{kind_of, kind_name}
+use Rattle.job_words.specs.declared.node_kinds.NodeKind.{NodeKind}
+use Rattle.job_words.specs.declared.node_kinds.NodeKind.TheVariants as node_kinds
+use Rattle.job_words.specs.NodeKinds.{node_name}
 
 abbrev pub count_data : ℕ → Data
 count_data n = number (unsigned n)
@@ -65,6 +78,9 @@ measure_data cuts nodes quants size = object (member (codes "cuts") (count_data 
 abbrev pub term_data : Term → Data
 term_data t = string (canonical_term t)
 
+abbrev pub variable_data : Var → Data
+variable_data v = term_data (free v)
+
 abbrev pub numbers_data : List ℕ → Data
 numbers_data ns = array (items_of (map count_data ns))
 
@@ -86,7 +102,7 @@ term_step end premises rule main term = object (member (codes "left") (side_data
 abbrev pub variable_step : Sequent → List ℕ → List ℕ → Formula → Var → Data
 variable_step end premises rule main var = object (member (codes "left") (side_data end.left) (member (codes "main") (string (canonical main))
     (member (codes "premises") (numbers_data premises) (member (codes "right") (side_data end.right) (member (codes "rule") (string rule)
-    (member (codes "var") (term_data (free var)) no_members))))))
+    (member (codes "var") (variable_data var) no_members))))))
 
 abbrev pub step_by : Sequent → List ℕ → List ℕ → Option Formula → Option Term → Option Var → Data
 step_by end premises rule None term var = bare_step end premises rule
@@ -99,6 +115,55 @@ proof_step step = step_by step.end step.premises (kind_name (kind_of step.rule))
 
 abbrev pub steps_data : List Step → Data
 steps_data steps = object (member (codes "steps") (array (items_of (map proof_step steps))) no_members)
+
+-- expansion trees in short: how many instances and how many strong quantifiers they have, and the sequent of their formulas
+abbrev pub expansion_data : ExpSummary → Data
+expansion_data s = object (member (codes "instances") (count_data s.instances) (member (codes "left") (side_data s.end.left)
+    (member (codes "right") (side_data s.end.right) (member (codes "strong") (count_data s.strong) no_members))))
+
+-- A node of a flat list: its formula, if it names one, its instances, if it may have several, its kind, the places of its children, and
+-- its variable, if it has one.
+abbrev pub formula_node : NodeKind → Formula → Data
+formula_node kind f = object (member (codes "formula") (string (canonical f)) (member (codes "kind") (string (node_name kind)) no_members))
+
+abbrev pub not_node : ℕ → Data
+not_node of = object (member (codes "kind") (string (node_name node_kinds.Not)) (member (codes "of") (count_data of) no_members))
+
+abbrev pub pair_node : NodeKind → ℕ → ℕ → Data
+pair_node kind first second = object (member (codes "kind") (string (node_name kind)) (member (codes "of") (numbers_data (first ∷ second ∷ [])) no_members))
+
+-- an instance: the place of its node, and its term
+abbrev pub instance_data : Term × ℕ → Data
+instance_data i = object (member (codes "of") (count_data i.1) (member (codes "term") (term_data i.0) no_members))
+
+abbrev pub instances_data : List (Term × ℕ) → Data
+instances_data is = array (items_of (map instance_data is))
+
+abbrev pub weak_node : Formula → List (Term × ℕ) → Data
+weak_node f is = object (member (codes "formula") (string (canonical f)) (member (codes "instances") (instances_data is)
+    (member (codes "kind") (string (node_name node_kinds.Weak)) no_members)))
+
+abbrev pub strong_node : Formula → Var → ℕ → Data
+strong_node f var of = object (member (codes "formula") (string (canonical f)) (member (codes "kind") (string (node_name node_kinds.Strong))
+    (member (codes "of") (count_data of) (member (codes "var") (variable_data var) no_members))))
+
+abbrev pub node_data : ExpNode → Data
+node_data (nodes.Wk f) = formula_node node_kinds.Wk f
+node_data (nodes.Leaf f) = formula_node node_kinds.Leaf f
+node_data (nodes.Not m) = not_node m
+node_data (nodes.And m n) = pair_node node_kinds.And m n
+node_data (nodes.Or m n) = pair_node node_kinds.Or m n
+node_data (nodes.Imp m n) = pair_node node_kinds.Imp m n
+node_data (nodes.Weak f is) = weak_node f is
+node_data (nodes.Strong f y m) = strong_node f y m
+
+abbrev pub node_list : List ExpNode → Data
+node_list ns = array (items_of (map node_data ns))
+
+-- a flat list: its nodes, and the places of the roots on the left and on the right
+abbrev pub nodes_data : FlatExp → Data
+nodes_data flat = object (member (codes "left") (numbers_data flat.left) (member (codes "nodes") (node_list flat.nodes)
+    (member (codes "right") (numbers_data flat.right) no_members)))
 
 -- an error that says no more than its kind
 abbrev pub plain : List ℕ → Data
@@ -176,6 +241,46 @@ abbrev pub refutation_data : ℕ → RefutationShown → Data
 refutation_data step cause = object (member (codes "cause") (string (refutation_cause cause)) (member (codes "kind") (string (codes "refutation"))
     (member (codes "step") (count_data step) no_members)))
 
+abbrev pub side_name : Side → List ℕ
+side_name Left = codes "left"
+side_name Right = codes "right"
+
+-- a formula of a sequent that may not stand there
+abbrev pub quantified_data : Formula → Side → Data
+quantified_data f side = object (member (codes "formula") (string (canonical f)) (member (codes "kind") (string (codes "quantified"))
+    (member (codes "side") (string (side_name side)) no_members)))
+
+-- the atoms that are true where a sequent is false
+abbrev pub falsified_data : FormulaSet → Data
+falsified_data atoms = object (member (codes "kind") (string (codes "falsified")) (member (codes "true") (side_data atoms) no_members))
+
+-- the fault of a node or of a root of a flat list, with its number
+abbrev pub place_fault : List ℕ → List ℕ → ℕ → Data
+place_fault cause kind place = object (member (codes "cause") (string cause) (member (codes "kind") (string kind)
+    (member kind (count_data place) no_members)))
+
+abbrev pub node_cause : NodeCause → List ℕ
+node_cause node_causes.Reference = codes "reference"
+node_cause node_causes.Shape = codes "shape"
+node_cause node_causes.Instance = codes "instance"
+node_cause node_causes.Polarity = codes "polarity"
+
+abbrev pub root_cause : RootCause → List ℕ
+root_cause root_causes.Reference = codes "reference"
+root_cause root_causes.Polarity = codes "polarity"
+root_cause root_causes.Twice = codes "twice"
+
+-- a fault of the variable of a strong quantifier
+abbrev pub variable_fault : List ℕ → Var → Data
+variable_fault kind var = object (member (codes "kind") (string kind) (member (codes "var") (variable_data var) no_members))
+
+abbrev pub variables_data : List Var → Data
+variables_data vars = array (items_of (map variable_data vars))
+
+-- variables of strong quantifiers of which each has to be there before the next
+abbrev pub cycle_data : List Var → Data
+cycle_data vars = object (member (codes "cycle") (variables_data vars) (member (codes "kind") (string (codes "cycle")) no_members))
+
 -- the job's name, where the reply has one
 abbrev pub name_data : Option (List ℕ) → Data
 name_data None = null
@@ -195,6 +300,8 @@ answer_data (Entries entries sequent) = Ok (entries_data entries sequent)
 answer_data (Proves proves) = Ok (proves_data proves)
 answer_data (Steps steps) = Ok (steps_data steps)
 answer_data (Measure cuts nodes quants size) = Ok (measure_data cuts nodes quants size)
+answer_data (Expansion summary) = Ok (expansion_data summary)
+answer_data (Nodes flat) = Ok (nodes_data flat)
 answer_data LineTooLong = Err (plain (codes "line_too_long"))
 answer_data (Reading cause) = Err (reading_data cause)
 answer_data NameTaken = Err (plain (codes "name_taken"))
@@ -203,6 +310,13 @@ answer_data (Kind name) = Err (named (codes "kind") name)
 answer_data Empty = Err (plain (codes "empty"))
 answer_data (Faulty step cause) = Err (step_data step cause)
 answer_data (Refutation step cause) = Err (refutation_data step cause)
+answer_data (Quantified f side) = Err (quantified_data f side)
+answer_data (Falsified atoms) = Err (falsified_data atoms)
+answer_data (Node node cause) = Err (place_fault (node_cause cause) (codes "node") node)
+answer_data (Root root cause) = Err (place_fault (root_cause cause) (codes "root") root)
+answer_data (EigenTwice var) = Err (variable_fault (codes "eigen_twice") var)
+answer_data (EigenFree var) = Err (variable_fault (codes "eigen_free") var)
+answer_data (Cycle vars) = Err (cycle_data vars)
 answer_data Budget = Err (plain (codes "budget"))
 answer_data Memory = Err (plain (codes "memory"))
 

@@ -4,10 +4,14 @@ ghost use Rattle.reply_lines.specs.Replies.{summary_data, reduced_data, entries_
 ghost use Rattle.reply_lines.specs.Tokens.{data_tokens, Adds, said, fault_data};
 ghost use Rattle.reply_lines.specs.declared.replies.StepShown.TheVariants.{Rule};
 
+use crate::expansions::{put_expansion, put_nodes};
 use crate::json_text::JsonText;
 use crate::members::{put_number, put_side, put_text};
 use crate::replies::{Outcome, RefutationShown, StepShown, Summary};
 use crate::steps::put_steps;
+use crate::tree_faults::{
+    put_cycle, put_falsified, put_node_fault, put_quantified, put_root_fault, put_variable_fault,
+};
 use job_words::JobCause;
 use lk_rules::{RuleFault, Sequent};
 use std::alloc::Global;
@@ -245,6 +249,8 @@ pub fn put_answer(out: &mut JsonText, alloc: Global, texts: &mut CanonicalTexts,
             quants,
             size,
         } => put_measure(out, *cuts, *nodes, *quants, *size),
+        Outcome::Expansion(summary) => put_expansion(out, alloc, texts, summary),
+        Outcome::Nodes(flat) => put_nodes(out, alloc, texts, flat),
         Outcome::LineTooLong => put_plain(out, "line_too_long"),
         Outcome::Reading(cause) => put_reading(out, cause),
         Outcome::NameTaken => put_plain(out, "name_taken"),
@@ -253,6 +259,15 @@ pub fn put_answer(out: &mut JsonText, alloc: Global, texts: &mut CanonicalTexts,
         Outcome::Empty => put_plain(out, "empty"),
         Outcome::Step { step, cause } => put_step_fault(out, *step, *cause),
         Outcome::Refutation { step, cause } => put_refutation_fault(out, *step, *cause),
+        Outcome::Quantified { formula, side } => {
+            put_quantified(out, alloc, texts, formula.get(), *side)
+        }
+        Outcome::Falsified(atoms) => put_falsified(out, alloc, texts, atoms),
+        Outcome::Node { node, cause } => put_node_fault(out, *node, *cause),
+        Outcome::Root { root, cause } => put_root_fault(out, *root, *cause),
+        Outcome::EigenTwice(var) => put_variable_fault(out, alloc, "eigen_twice", var),
+        Outcome::EigenFree(var) => put_variable_fault(out, alloc, "eigen_free", var),
+        Outcome::Cycle(vars) => put_cycle(out, alloc, vars.as_slice()),
         Outcome::Budget => put_plain(out, "budget"),
         Outcome::Memory => put_plain(out, "memory"),
     }

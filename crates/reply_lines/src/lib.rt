@@ -2,12 +2,15 @@
 #![tactic(auto)]
 
 mod answers;
+mod expansions;
 mod json_text;
 pub mod laws;
 mod lines;
 mod members;
 mod replies;
 mod steps;
+mod terms;
+mod tree_faults;
 
 pub use lines::reply_line;
-pub use replies::{Outcome, RefutationShown, Reply, StepShown, Summary};
+pub use replies::{ExpSummary, Outcome, RefutationShown, Reply, StepShown, Summary};

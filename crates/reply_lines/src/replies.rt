@@ -1,8 +1,9 @@
 //! What is replied to a job.
 ghost use Rattle.std.specs.Prelude.{◌≡◌};
 
-use job_words::{JobCause, Name, Steps, Utf8Text};
-use lk_rules::{RuleFault, Sequent};
+use exp_tree::{FlatExp, NodeCause, RootCause};
+use job_words::{FormedFormula, FormedVar, FormedVars, JobCause, Name, Steps, Utf8Text};
+use lk_rules::{Formulas, RuleFault, Sequent, Side};
 
 /// A proof in short: how many cuts and quantifier rules it has, and its end sequent.
 #[derive(Drop)]
@@ -10,6 +11,15 @@ pub struct Summary {
     pub cuts: u64,
     pub end: Sequent,
     pub quants: u64,
+}
+
+/// Expansion trees in short: how many instances they have at weak quantifiers and how many strong quantifiers, and the sequent of their
+/// formulas.
+#[derive(Drop)]
+pub struct ExpSummary {
+    pub end: Sequent,
+    pub instances: u64,
+    pub strong: u64,
 }
 
 /// What is wrong with a step.
@@ -54,6 +64,10 @@ pub enum Outcome {
         quants: u64,
         size: u64,
     },
+    /// The job is an expansion proof.
+    Expansion(ExpSummary),
+    /// The trees of an expansion proof as a flat list.
+    Nodes(FlatExp),
     /// The line has more bytes than a job may have.
     LineTooLong,
     /// The line isn't a job.
@@ -76,7 +90,30 @@ pub enum Outcome {
         step: u64,
         cause: RefutationShown,
     },
-    /// After as many reductions as the budget allows a cut is left.
+    /// The first formula of a sequent that has a quantifier, where none may have one, and its side.
+    Quantified {
+        formula: FormedFormula,
+        side: Side,
+    },
+    /// The sequent is no tautology: it is false where just these atoms are true.
+    Falsified(Formulas),
+    /// The first faulty node of a flat list, counted from 0, and its first fault.
+    Node {
+        node: u64,
+        cause: NodeCause,
+    },
+    /// The first faulty root of a flat list, and its first fault. Left roots are counted before right ones, from 0.
+    Root {
+        root: u64,
+        cause: RootCause,
+    },
+    /// The least variable that two strong quantifiers of expansion trees have.
+    EigenTwice(FormedVar),
+    /// The least variable of a strong quantifier of expansion trees that is free in one of their formulas.
+    EigenFree(FormedVar),
+    /// Variables of strong quantifiers each of which has to be there before the next, and the last before the first.
+    Cycle(FormedVars),
+    /// The work takes more than the budget allows.
     Budget,
     /// Memory ran out while the job was run.
     Memory,
@@ -91,6 +128,12 @@ impl Drop for Outcome {
                 sequent,
             } => drop(sequent),
             Outcome::Steps(steps) => drop(steps),
+            Outcome::Expansion(summary) => drop(summary),
+            Outcome::Nodes(flat) => drop(flat),
+            Outcome::Quantified { formula, side: _ } => drop(formula),
+            Outcome::Falsified(atoms) => drop(atoms),
+            Outcome::EigenTwice(var) | Outcome::EigenFree(var) => drop(var),
+            Outcome::Cycle(vars) => drop(vars),
             Outcome::Reading(cause) => drop(cause),
             Outcome::UnknownName(name) | Outcome::Kind(name) => drop(name),
             Outcome::Proves(_)
@@ -102,6 +145,8 @@ impl Drop for Outcome {
             }
             | Outcome::Step { step: _, cause: _ }
             | Outcome::Refutation { step: _, cause: _ }
+            | Outcome::Node { node: _, cause: _ }
+            | Outcome::Root { root: _, cause: _ }
             | Outcome::LineTooLong
             | Outcome::NameTaken
             | Outcome::Empty
@@ -126,6 +171,8 @@ impl Outcome {
                 | Outcome::Proves(_)
                 | Outcome::Steps(_)
                 | Outcome::Measure { .. }
+                | Outcome::Expansion(_)
+                | Outcome::Nodes(_)
         )
     }
 }

@@ -1,50 +1,23 @@
 //! The steps of a proof in a reply.
-ghost use Rattle.std.specs.Prelude.{◌≡◌, [], ◌∷◌, map, codes, IfOk};
+ghost use Rattle.std.specs.Prelude.{◌≡◌, [], ◌∷◌, map, codes};
 ghost use Rattle.std.specs.List.{All};
 ghost use Rattle.fol.specs.Formed.{IsFormed, IsFormedTerm, IsFormedVar};
-ghost use Rattle.fol.specs.Syntax.{free};
 ghost use Rattle.lk_rules.specs.Rules.{IsFormedRule};
 ghost use Rattle.json.specs.Token.{key as key_token, string as string_token};
 ghost use Rattle.serde_json.specs.Data.{array};
 ghost use Rattle.serde_json.specs.View.{items_of};
 ghost use Rattle.tptp_print.specs.Canonical.{canonical};
-ghost use Rattle.reply_lines.specs.Replies.{term_data, bare_step, main_step, term_step, variable_step, proof_step, steps_data};
+ghost use Rattle.reply_lines.specs.Replies.{bare_step, main_step, term_step, variable_step, proof_step, steps_data};
 ghost use Rattle.reply_lines.specs.Tokens.{data_tokens, Adds};
 
 use crate::json_text::JsonText;
-use crate::members::{printable, put_formula, put_numbers, put_side, put_text};
+use crate::members::{put_formula, put_numbers, put_side, put_text};
+use crate::terms::{put_term, put_variable};
 use fol::{Formula, Term, Var};
 use job_words::RuleKind;
 use lk_rules::{Rule, Sequent, Step};
-use std::alloc::{AllocError, Global};
+use std::alloc::Global;
 use text_tables::CanonicalTexts;
-use tptp_print::print_term;
-
-fn put_term(out: &mut JsonText, alloc: Global, term: &Term)
-    requires { IsFormedTerm term.now }
-    ensures { Adds out.old out.new (data_tokens (term_data term.now)) }
-{
-    match print_term(alloc, term) {
-        Ok(text) => out.string(printable(text.as_bytes())),
-        Err(_) => out.lack(),
-    }
-}
-
-fn term_of(alloc: Global, var: &Var) -> Result<Term, AllocError>
-    ensures { IfOk result (λ t. t ≡ free var.now) }
-{
-    Term::free(alloc, var.copy()?)
-}
-
-fn put_variable(out: &mut JsonText, alloc: Global, var: &Var)
-    requires { IsFormedVar var.now }
-    ensures { Adds out.old out.new (data_tokens (term_data (free var.now))) }
-{
-    match term_of(alloc, var) {
-        Ok(term) => put_term(out, alloc, &term),
-        Err(_) => out.lack(),
-    }
-}
 
 // The member that is the main formula.
 fn put_main(out: &mut JsonText, alloc: Global, texts: &mut CanonicalTexts, main: &Formula)

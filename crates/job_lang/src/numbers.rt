@@ -1,0 +1,105 @@
+//! Reading whole numbers, and lists of them.
+ghost use Rattle.std.specs.Prelude.{◌≡◌, map};
+ghost use Rattle.serde_json.specs.View.{view};
+ghost use Rattle.job_lang.specs.Fields.{Gives, each};
+ghost use Rattle.job_lang.specs.Numbers.{number_at as number_member, number_of as number_data, numbers_at as numbers_member, pair_of as pair_data, pair_at as pair_member};
+
+use crate::places::Place;
+use crate::reading::{ReadError, field_fault, list_at};
+use lk_rules::Numbers;
+use serde_json::Value;
+use std::alloc::Global;
+
+/// The member that is a whole number.
+#[tactic(auto, using(crate::proofs::Given::cause_given))]
+pub fn number_at(alloc: Global, value: &Value, place: Place, key: &str) -> Result<u64, ReadError>
+    ensures { Gives (λ n. n) result (number_member place key.now (view value.now)) }
+{
+    match value.get(key) {
+        Some(member) => match member.as_u64() {
+            Some(number) => Ok(number),
+            None => Err(field_fault(alloc, place, key, None)),
+        },
+        None => Err(field_fault(alloc, place, key, None)),
+    }
+}
+
+/// The whole number that an element of a list is.
+#[tactic(auto, using(crate::proofs::Given::cause_given))]
+fn number_of(
+    alloc: Global,
+    value: &Value,
+    place: Place,
+    key: &str,
+    index: usize,
+) -> Result<u64, ReadError>
+    ensures { Gives (λ n. n) result (number_data place key.now index (view value.now)) }
+{
+    match value.as_u64() {
+        Some(number) => Ok(number),
+        None => Err(field_fault(alloc, place, key, Some(index))),
+    }
+}
+
+/// The whole numbers that the elements of a list are.
+fn numbers_of(
+    alloc: Global,
+    values: &[Value],
+    place: Place,
+    key: &str,
+) -> Result<Vec<u64>, ReadError>
+    ensures { Gives (λ v. v.items) result (each (number_data place key.now) 0 (map view values.now)) }
+{
+    let mut numbers = Vec::new(alloc);
+    for (index, value) in values.iter().enumerate() {
+        let number = number_of(alloc, value, place, key, index)?;
+        numbers.push(number)?;
+    }
+    Ok(numbers)
+}
+
+/// The member that is a list of whole numbers.
+pub fn numbers_at(
+    alloc: Global,
+    value: &Value,
+    place: Place,
+    key: &str,
+) -> Result<Numbers, ReadError>
+    ensures { Gives (λ n. n) result (numbers_member place key.now (view value.now)) }
+{
+    let values = list_at(alloc, value, place, key)?;
+    let numbers = numbers_of(alloc, values, place, key)?;
+    Ok(Numbers::from_vec(numbers))
+}
+
+#[tactic(auto, using(crate::proofs::Given::cause_given))]
+fn pair_of(
+    alloc: Global,
+    values: &[Value],
+    place: Place,
+    key: &str,
+) -> Result<(u64, u64), ReadError>
+    ensures { Gives (λ p. p) result (pair_data place key.now (map view values.now)) }
+{
+    match values {
+        [first, second] => {
+            let first = number_of(alloc, first, place, key, 0)?;
+            let second = number_of(alloc, second, place, key, 1)?;
+            Ok((first, second))
+        }
+        _ => Err(field_fault(alloc, place, key, None)),
+    }
+}
+
+/// The two whole numbers that the member is.
+pub fn pair_at(
+    alloc: Global,
+    value: &Value,
+    place: Place,
+    key: &str,
+) -> Result<(u64, u64), ReadError>
+    ensures { Gives (λ p. p) result (pair_member place key.now (view value.now)) }
+{
+    let values = list_at(alloc, value, place, key)?;
+    pair_of(alloc, values, place, key)
+}

@@ -1,0 +1,6 @@
+use Rattle.reply_lines.proofs.Adding.{adds_then}
+use Rattle.reply_lines.proofs.expansions.put_weak.Goals as goal
+
+pub returns : goal.returns
+returns c =
+    adds_then c.begin_object.ensures (adds_then c.key.ensures (adds_then c.put_formula.ensures (adds_then c.key-2.ensures (adds_then c.put_instances.ensures (adds_then c.put_kind.ensures c.end_object.ensures)))))
