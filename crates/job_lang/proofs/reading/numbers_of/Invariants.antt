@@ -1,7 +1,0 @@
-use Rattle.serde_json.specs.View.{view}
-use Rattle.job_lang.specs.Fields.{number_of}
-use Rattle.job_lang.proofs.Each.{Reads}
-use Rattle.job_lang.proofs.reading.numbers_of.Given as goal
-
-abbrev pub invariant-loop-index : goal.invariant-loop-index
-invariant-loop-index l = Reads view (number_of l.place l.key) l.values l.index l.numbers.items
