@@ -121,6 +121,7 @@ pub fn eliminate<R: Wait, L: Ledger>(
     ensures cut_free { IfOk result (λ made. IsCutFree made.proof.tree) }
     ensures valid { IfOk result (λ made. IsValid made.proof.tree) }
     ensures end { IfOk result (λ made. concl made.proof.tree ≡ concl proof.now.tree) }
+    ensures unchanged { result ≡ Err ElimFault.Budget → history (pass_in (bench_pass_in pass.new)) ≡ history (pass_in (bench_pass_in pass.old)) }
     ensures grown { IsPrefix (history (pass_in (bench_pass_in pass.old))) (history (pass_in (bench_pass_in pass.new))) }
     ensures pass_stays { IsDeskPassOf desk.now pass.new }
     ensures counted_ok { IfOk result (λ made. steps.new ≤ steps.old + made.reductions) }
