@@ -2,13 +2,13 @@
 use Rattle.std.proofs.Common.{◌≡◌, ◌≢◌, ℕ, ◌<◌, List, [], map, length, get_or, refl, sym, ap, ◌∙◌, subst, arith}
 use Rattle.std.specs.Prelude.{Some, None}
 use Rattle.std.specs.List.{All, AllPairs, Contains}
-use Rattle.std.specs.BTreeMap as ordered
+use Rattle.std.specs.HashMap as hash
 use Rattle.std.proofs.lemmas.List.{get_or-map, length-map}
 use Rattle.std.proofs.lemmas.List.Elements.{All-map, All-weaker}
 use Rattle.proof_trees.specs.Trees.{IsValid}
 use Rattle.proof_graph.specs.declared.node.Node.{Node}
 use Rattle.proof_graph.specs.declared.index.Index.TheInside.{Inside}
-use Rattle.proof_graph.specs.Order.{node_cmp}
+use Rattle.proof_graph.specs.Keys.{same_node}
 use Rattle.proof_graph.specs.References.{Reference, key_of}
 use Rattle.proof_graph.specs.History.{Entry, entry_of, IsRight, IsLegal, IsAbsent}
 use Rattle.proof_graph.specs.Indexed.{recorded, IsIndexed}
@@ -34,7 +34,7 @@ keys_differ : (i : Inside) → IsIndexed i → AllPairs (λ r s. key_of r ≢ ke
 keys_differ i h a b d lt within = λ same.
     let first = h.found a d (omega arith) in
     let second = h.found b d within in
-    let places : a ≡ b = some_same a b (sym first ∙ ap (ordered.get node_cmp i.places) same ∙ second) in
+    let places : a ≡ b = some_same a b (sym first ∙ ap (hash.get same_node i.places) same ∙ second) in
     absurd (omega arith)
 
 pub legal : (i : Inside) → IsIndexed i → IsLegal (recorded i).history
@@ -50,10 +50,10 @@ listed_there i k r within is =
     (k, subst (λ (n : ℕ). k < n) (sym (length-map i.refs.items entry_of)) within, get_or-map entry_of i.refs.items k r (entry_of r) within ∙ ap entry_of (sym is))
 
 -- a key that the map doesn't give is that of no entry
-pub absent : (i : Inside) → IsIndexed i → (n : Node) → ordered.get node_cmp i.places n ≡ None → IsAbsent (recorded i).history n
+pub absent : (i : Inside) → IsIndexed i → (n : Node) → hash.get same_node i.places n ≡ None → IsAbsent (recorded i).history n
 absent i h n missing = All-map (λ e. e.key ≢ n) entry_of i.refs.items (λ k d within same.
     let there = h.found k d within in
-    let same_key : ordered.get node_cmp i.places n ≡ Some k = ap (ordered.get node_cmp i.places) (sym same) ∙ there in
+    let same_key : hash.get same_node i.places n ≡ Some k = ap (hash.get same_node i.places) (sym same) ∙ there in
     absurd (cc))
 
 -- a number above the top is that of no entry

@@ -2,9 +2,8 @@
 use Rattle.std.proofs.Common.{◌≡◌, ◌≢◌, ℕ, ◌+◌, ◌<◌, ◌≤◌, ◌⊎◌, Bool, true, false, List, [], ◌∷◌, ◌++◌, map, length, get_or, refl, sym, ap, ◌∙◌, subst, arith, inl, inr, length-append}
 use Rattle.std.specs.Prelude.{Some}
 use Rattle.std.specs.List.{All, AllPairs}
-use Rattle.std.specs.Ordering.{eq_by_cmp}
-use Rattle.std.specs.BTreeMap as ordered
-use Rattle.std.specs.BTreeMap.{BTreeMap, Updates, is_at}
+use Rattle.std.specs.HashMap as hash
+use Rattle.std.specs.HashMap.{HashMap, Updates}
 use Rattle.std.specs.Map.{lookup}
 use Rattle.std.proofs.lemmas.Bool.{cases_lt}
 use Rattle.std.proofs.lemmas.List.{get_or-map, length-map, get_or_append_left, get_or_at, map-append}
@@ -13,11 +12,11 @@ use Rattle.std.proofs.lemmas.List.Quantifiers.{all_pairs_push}
 use Rattle.proof_trees.specs.Trees.{IsValid}
 use Rattle.proof_graph.specs.declared.node.Node.{Node}
 use Rattle.proof_graph.specs.declared.index.Index.TheInside.{Inside}
-use Rattle.proof_graph.specs.Order.{node_cmp}
+use Rattle.proof_graph.specs.SameCodes.{same_by_decides}
+use Rattle.proof_graph.specs.Keys.{coded_node, same_node}
 use Rattle.proof_graph.specs.References.{Reference, key_of}
 use Rattle.proof_graph.specs.History.{entry_of, IsAbsent}
 use Rattle.proof_graph.specs.Indexed.{recorded, IsIndexed}
-use Rattle.proof_graph.proofs.NodeTies.{node_equality_same}
 
 -- what holds of the entries of references holds of the references
 pub All-unmap : {X Y : Type 0} (P : Y → Type 0) (f : X → Y) (xs : List X) → All P (map f xs) → All (λ x. P (f x)) xs
@@ -43,35 +42,35 @@ at_place rs r k d within = elim (split k (length rs) (omega (arith, length-appen
     ]
 
 -- the index at a place of the new map
-module _ (places grown : BTreeMap Node ℕ) (key : Node) (place : ℕ) (updates : Updates node_cmp places grown key (Some place)) where
-  pub at_key : ordered.get node_cmp grown key ≡ Some place
+module _ {S : Type 0} (places grown : HashMap Node ℕ S) (key : Node) (place : ℕ) (updates : Updates same_node places grown key (Some place)) where
+  pub at_key : hash.get same_node grown key ≡ Some place
   at_key = updates.1
 
-  elsewhere_at : (n : Node) (b : Bool) → eq_by_cmp node_cmp key n ≡ b → (key ≡ n → ⊥) → ordered.get node_cmp grown n ≡ ordered.get node_cmp places n
-  elsewhere_at n true is apart = absurd (apart ((node_equality_same key n (eq_by_cmp node_cmp key n) refl).0 is))
+  elsewhere_at : (n : Node) (b : Bool) → same_node key n ≡ b → (key ≡ n → ⊥) → hash.get same_node grown n ≡ hash.get same_node places n
+  elsewhere_at n true is apart = absurd (apart ((same_by_decides coded_node key n).0 is))
   elsewhere_at n false is apart = updates.2 n is
 
-  pub elsewhere : (n : Node) → (key ≡ n → ⊥) → ordered.get node_cmp grown n ≡ ordered.get node_cmp places n
-  elsewhere n apart = elsewhere_at n (eq_by_cmp node_cmp key n) refl apart
+  pub elsewhere : (n : Node) → (key ≡ n → ⊥) → hash.get same_node grown n ≡ hash.get same_node places n
+  elsewhere n apart = elsewhere_at n (same_node key n) refl apart
 
   -- what the new map gives is the new place or what the old map gave
-  given_at : (n : Node) (k : ℕ) (b : Bool) → eq_by_cmp node_cmp key n ≡ b → ordered.get node_cmp grown n ≡ Some k
-      → ((key ≡ n) × (k ≡ place)) ⊎ (ordered.get node_cmp places n ≡ Some k)
+  given_at : (n : Node) (k : ℕ) (b : Bool) → same_node key n ≡ b → hash.get same_node grown n ≡ Some k
+      → ((key ≡ n) × (k ≡ place)) ⊎ (hash.get same_node places n ≡ Some k)
   given_at n k true is h =
-      let same : key ≡ n = (node_equality_same key n (eq_by_cmp node_cmp key n) refl).0 is in
-      inl (same, some_same k place (sym h ∙ ap (ordered.get node_cmp grown) (sym same) ∙ at_key))
+      let same : key ≡ n = (same_by_decides coded_node key n).0 is in
+      inl (same, some_same k place (sym h ∙ ap (hash.get same_node grown) (sym same) ∙ at_key))
   given_at n k false is h = inr (sym (updates.2 n is) ∙ h)
 
-  pub given : (n : Node) (k : ℕ) → ordered.get node_cmp grown n ≡ Some k → ((key ≡ n) × (k ≡ place)) ⊎ (ordered.get node_cmp places n ≡ Some k)
-  given n k h = given_at n k (eq_by_cmp node_cmp key n) refl h
+  pub given : (n : Node) (k : ℕ) → hash.get same_node grown n ≡ Some k → ((key ≡ n) × (k ≡ place)) ⊎ (hash.get same_node places n ≡ Some k)
+  given n k h = given_at n k (same_node key n) refl h
 
 -- one more reference of another key and another number
 pub indexed_more : (i j : Inside) (r : Reference) (key : Node) (place : ℕ) → IsIndexed i → j.home.value ≡ i.home.value → j.refs.items ≡ i.refs.items ++ r ∷ []
-    → place ≡ length i.refs.items → Updates node_cmp i.places j.places key (Some place) → i.top ≤ j.top → r.number ≤ j.top
+    → place ≡ length i.refs.items → Updates same_node i.places j.places key (Some place) → i.top ≤ j.top → r.number ≤ j.top
     → r.home ≡ i.home.value → IsValid r.tree → key_of r ≡ key → IsAbsent (recorded i).history key → All (λ e. e.number ≢ r.number) (recorded i).history → IsIndexed j
 indexed_more i j r key place h homes items placed changes tops top home valid is absent fresh =
     let rs = i.refs.items in
-    let updates : Updates node_cmp i.places j.places key (Some (length i.refs.items)) = subst (λ (n : ℕ). Updates node_cmp i.places j.places key (Some n)) placed changes in
+    let updates : Updates same_node i.places j.places key (Some (length i.refs.items)) = subst (λ (n : ℕ). Updates same_node i.places j.places key (Some n)) placed changes in
     let Of : List Reference → Type 0 = λ xs. All (λ s. s.home ≡ j.home.value) xs in
     let others : All (λ s. key_of s ≢ key) rs = All-unmap (λ e. e.key ≢ key) entry_of rs absent in
     let apart : All (λ s. s.number ≢ r.number) rs = All-unmap (λ e. e.number ≢ r.number) entry_of rs fresh in
@@ -84,26 +83,26 @@ indexed_more i j r key place h homes items placed changes tops top home valid is
       listed = listed_more i j r key h items updates is;
     }
   where
-    found_more : (i j : Inside) (r : Reference) (key : Node) → IsIndexed i → j.refs.items ≡ i.refs.items ++ r ∷ [] → Updates node_cmp i.places j.places key (Some (length i.refs.items))
+    found_more : (i j : Inside) (r : Reference) (key : Node) → IsIndexed i → j.refs.items ≡ i.refs.items ++ r ∷ [] → Updates same_node i.places j.places key (Some (length i.refs.items))
         → key_of r ≡ key → All (λ s. key_of s ≢ key) i.refs.items → (k : ℕ) (d : Reference) → k < length j.refs.items
-        → ordered.get node_cmp j.places (key_of (get_or j.refs.items k d)) ≡ Some k
+        → hash.get same_node j.places (key_of (get_or j.refs.items k d)) ≡ Some k
     found_more i j r key h items updates is others k d within =
         let inside : k < length (i.refs.items ++ r ∷ []) = subst (λ (xs : List Reference). k < length xs) items within in
         let read : get_or j.refs.items k d ≡ get_or (i.refs.items ++ r ∷ []) k d = ap (λ (xs : List Reference). get_or xs k d) items in
         elim (at_place i.refs.items r k d inside) [
           | inl old ↦
               let same : get_or j.refs.items k d ≡ get_or i.refs.items k d = read ∙ old.1 in
-              ap (λ (s : Reference). ordered.get node_cmp j.places (key_of s)) same
+              ap (λ (s : Reference). hash.get same_node j.places (key_of s)) same
               ∙ elsewhere i.places j.places key (length i.refs.items) updates (key_of (get_or i.refs.items k d)) (λ e. others k d old.0 (sym e))
               ∙ h.found k d old.0
           | inr new ↦
               let same : get_or j.refs.items k d ≡ r = read ∙ new.1 in
-              ap (λ (s : Reference). ordered.get node_cmp j.places (key_of s)) same ∙ ap (ordered.get node_cmp j.places) is
+              ap (λ (s : Reference). hash.get same_node j.places (key_of s)) same ∙ ap (hash.get same_node j.places) is
               ∙ at_key i.places j.places key (length i.refs.items) updates ∙ ap Some (sym new.0)
         ]
 
-    listed_more : (i j : Inside) (r : Reference) (key : Node) → IsIndexed i → j.refs.items ≡ i.refs.items ++ r ∷ [] → Updates node_cmp i.places j.places key (Some (length i.refs.items))
-        → key_of r ≡ key → (n : Node) (k : ℕ) → ordered.get node_cmp j.places n ≡ Some k → (k < length j.refs.items) × ((d : Reference) → key_of (get_or j.refs.items k d) ≡ n)
+    listed_more : (i j : Inside) (r : Reference) (key : Node) → IsIndexed i → j.refs.items ≡ i.refs.items ++ r ∷ [] → Updates same_node i.places j.places key (Some (length i.refs.items))
+        → key_of r ≡ key → (n : Node) (k : ℕ) → hash.get same_node j.places n ≡ Some k → (k < length j.refs.items) × ((d : Reference) → key_of (get_or j.refs.items k d) ≡ n)
     listed_more i j r key h items updates is n k there =
         let longer : length j.refs.items ≡ length i.refs.items + 1 = ap length items ∙ length-append i.refs.items (r ∷ []) in
         elim (given i.places j.places key (length i.refs.items) updates n k there) [
@@ -131,9 +130,9 @@ indexed_same i j h homes items places tops = record {
   top = subst (All (λ s. s.number ≤ j.top)) (sym items) (subst (λ (n : ℕ). All (λ s. s.number ≤ n) i.refs.items) (sym tops) h.top);
   numbers = subst (AllPairs (λ s t. s.number ≢ t.number)) (sym items) h.numbers;
   found =
-      subst (λ (xs : List Reference). (k : ℕ) (d : Reference) → k < length xs → ordered.get node_cmp j.places (key_of (get_or xs k d)) ≡ Some k) (sym items)
-      (λ k d within. ap (lookup (is_at (node_cmp (key_of (get_or i.refs.items k d))))) places ∙ h.found k d within);
+      subst (λ (xs : List Reference). (k : ℕ) (d : Reference) → k < length xs → hash.get same_node j.places (key_of (get_or xs k d)) ≡ Some k) (sym items)
+      (λ k d within. ap (lookup (same_node (key_of (get_or i.refs.items k d)))) places ∙ h.found k d within);
   listed =
-      subst (λ (xs : List Reference). (n : Node) (k : ℕ) → ordered.get node_cmp j.places n ≡ Some k → (k < length xs) × ((d : Reference) → key_of (get_or xs k d) ≡ n)) (sym items)
-      (λ n k there. h.listed n k (ap (lookup (is_at (node_cmp n))) (sym places) ∙ there));
+      subst (λ (xs : List Reference). (n : Node) (k : ℕ) → hash.get same_node j.places n ≡ Some k → (k < length xs) × ((d : Reference) → key_of (get_or xs k d) ≡ n)) (sym items)
+      (λ n k there. h.listed n k (ap (lookup (same_node n)) (sym places) ∙ there));
 }

@@ -1,5 +1,4 @@
 pub mod Prefixes
-pub mod NodeTies
 pub mod Agreement
 pub mod Entries
 pub mod Linked

@@ -1,4 +1,5 @@
-pub mod Order
+pub mod SameCodes
+pub mod Keys
 pub mod Codes
 pub mod Shown
 pub mod References

@@ -49,8 +49,8 @@ impl Graph {
     }
 
     /// The reference of the tree whose last inference has this rule and this end sequent over the trees of the premises. Its key is the
-    /// rule, the end sequent and the numbers of the premises. A key that was interned before keeps its number. It takes O(log n)
-    /// comparisons of keys among n nodes.
+    /// rule, the end sequent and the numbers of the premises. A key that was interned before keeps its number. It takes one
+    /// look-up by the hash of the key.
     pub fn intern<R: Wait>(
         &self,
         rt: &R,

@@ -11,7 +11,7 @@ use crate::node::Node;
 use crate::reference::{ProofRef, make};
 use crate::tree::Nodes;
 use std::alloc::{AllocError, Global};
-use std::collections::BTreeMap;
+use std::collections::HashMap;
 use std::marker::Model;
 use std::snapshot::Snapshot;
 use std::sync::Wait;
@@ -21,7 +21,7 @@ use std::sync::Wait;
 pub(crate) struct Index {
     home: Snapshot<Nodes>,
     refs: Vec<ProofRef>,
-    places: BTreeMap<Key, u64>,
+    places: HashMap<Key, u64>,
     // No number is above it.
     top: u64,
 }
@@ -49,7 +49,7 @@ impl Index {
         Index {
             home: Snapshot::of(nodes),
             refs: Vec::new(alloc),
-            places: BTreeMap::new(alloc),
+            places: HashMap::new(alloc),
             top: 0,
         }
     }

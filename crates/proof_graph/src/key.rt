@@ -1,19 +1,19 @@
-//! Shared nodes, and their order.
-ghost use Rattle.std.specs.Prelude.{◌≡◌, ◌↔◌, IsTrue, IfOk, refl};
-ghost use Rattle.std.specs.Ordering.{eq_by_cmp, as_partial_cmp};
-ghost use Rattle.std.specs.Cmp.{partial_equiv_from_equiv, partial_order_from_total};
-ghost use Rattle.std.proofs.lemmas.Cmp.{eq_by_cmp_equiv};
-ghost use Rattle.proof_graph.specs.Order.{sequent_cmp, node_fingerprint, node_cmp, node_total};
+//! Shared nodes as keys of a table: keys are compared by their parts, and hashed by a few multiplications.
+ghost use Rattle.std.specs.Prelude.{◌≡◌, ◌↔◌, IsTrue, IfOk, fold};
+ghost use Rattle.std.specs.Hash as fed;
+ghost use Rattle.std.specs.Cmp.{partial_equiv_from_equiv};
+ghost use Rattle.fol.specs.Mixing.{mixed};
+ghost use Rattle.proof_graph.specs.SameCodes.{same_by_equiv, fingerprints_agree};
+ghost use Rattle.proof_graph.specs.Keys.{coded_node, same_node, node_fingerprint};
 
 use crate::node::Node;
 use fol::mix;
-use lk_rules::Sequent;
 use std::alloc::{AllocError, Global};
-use std::cmp::Ordering;
+use std::hash::{Hash, Hasher};
 use std::marker::Model;
 use std::sync::Arc;
 
-/// A node that is shared, with an order: the key by which it is found.
+/// A node that is shared, with its fingerprint: the key by which it is found.
 #[derive(Drop)]
 pub struct Key {
     fingerprint: u64,
@@ -29,18 +29,30 @@ impl Model for Key {
     ghost coded = { plain.the_row.coded };
 
     ghost use Rattle.std.specs.Prelude.{◌≡◌};
-    ghost use Rattle.proof_graph.specs.Order.{node_fingerprint};
+    ghost use Rattle.proof_graph.specs.Keys.{node_fingerprint};
 
     ghost view = { λ k. k.node.value };
 
     ghost invariant = { λ k. k.fingerprint ≡ node_fingerprint k.node.value };
 }
 
-#[tactic(auto, unfolding(crate::specs::Order::node_fingerprint))]
+// The fingerprint with the numbers of a list in it.
+fn with_numbers(fingerprint: u64, numbers: &[u64]) -> u64
+    ensures { result ≡ fold mixed fingerprint numbers.now }
+{
+    let mut mixed = fingerprint;
+    for number in numbers {
+        mixed = mix(mixed, *number);
+    }
+    mixed
+}
+
+#[tactic(auto, unfolding(crate::specs::Keys::node_fingerprint))]
 fn fingerprint_of(node: &Node) -> u64
     ensures { result ≡ node_fingerprint node.now }
 {
-    mix(node.rule.fingerprint(), node.end.fingerprint())
+    let inference = mix(node.rule.fingerprint(), node.end.fingerprint());
+    with_numbers(inference, node.premises.as_slice())
 }
 
 impl Key {
@@ -69,7 +81,7 @@ impl Key {
         Ok(Key { fingerprint, node })
     }
 
-    // A number in which keys with unequal rules or end sequents mostly differ.
+    // A number in which unequal keys mostly differ.
     fn fingerprint(&self) -> u64
         ensures { result ≡ node_fingerprint self.now }
     {
@@ -77,70 +89,38 @@ impl Key {
     }
 }
 
-// Sequents by their left sides, then by their right sides.
-fn compare_ends(a: &Sequent, b: &Sequent) -> Ordering
-    ensures { result ≡ sequent_cmp a.now b.now }
+// Whether the nodes are equal. Numbers are told apart soonest.
+fn is_same(one: &Node, other: &Node) -> bool
+    ensures { IsTrue result ↔ (one.now ≡ other.now) }
 {
-    a.left()
-        .cmp(&b.left())
-        .then_with(|| a.right().cmp(&b.right()))
-}
-
-// Keys by the numbers of the premises, then by fingerprint, and only at a tie by rule and end sequent: numbers are told apart soonest.
-fn compare_keys(a: &Key, b: &Key) -> Ordering
-    ensures { result ≡ node_cmp a.now b.now }
-{
-    let prints = a.fingerprint().cmp(&b.fingerprint());
-    let (a, b) = (a.node(), b.node());
-    a.premises
-        .as_slice()
-        .cmp(&b.premises.as_slice())
-        .then(prints)
-        .then_with(|| a.rule.cmp(&b.rule))
-        .then_with(|| compare_ends(&a.end, &b.end))
+    one.premises.as_slice() == other.premises.as_slice()
+        && one.rule == other.rule
+        && one.end == other.end
 }
 
 impl PartialEq for Key {
-    ghost eq = { eq_by_cmp node_cmp };
+    ghost eq = { same_node };
 
-    ghost laws = { partial_equiv_from_equiv (eq_by_cmp_equiv node_total) };
+    ghost laws = { partial_equiv_from_equiv (same_by_equiv coded_node) };
 
-    #[tactic(auto, using(crate::proofs::NodeTies::node_equality_same))]
     fn eq(&self, other: &Key) -> bool
-        ensures value { result ≡ eq_by_cmp node_cmp self.now other.now }
+        ensures value { result ≡ same_node self.now other.now }
         ensures same { IsTrue result ↔ (self.now ≡ other.now) }
     {
-        self.cmp(other).is_eq()
+        is_same(self.node(), other.node())
     }
 }
 
 impl Eq for Key {
-    ghost laws = { eq_by_cmp_equiv node_total };
+    ghost laws = { same_by_equiv coded_node };
 }
 
-impl PartialOrd for Key {
-    ghost partial_cmp = { as_partial_cmp node_cmp };
+impl Hash for Key {
+    ghost hash_input = { λ k. fed.u64 (node_fingerprint k) };
 
-    ghost laws = { partial_order_from_total node_total };
+    ghost respects_eq = { fingerprints_agree coded_node node_fingerprint };
 
-    fn partial_cmp(&self, other: &Key) -> Option<Ordering> {
-        Some(self.cmp(other))
-    }
-}
-
-impl Ord for Key {
-    ghost cmp = { node_cmp };
-
-    ghost total = { node_total };
-
-    ghost matches_partial_cmp = { λ x y. refl };
-
-    ghost matches_eq = { λ x y. refl };
-
-    fn cmp(&self, other: &Key) -> Ordering
-        ensures value { result ≡ node_cmp self.now other.now }
-        ensures ties { (result ≡ Ordering.Equal) ↔ (self.now ≡ other.now) }
-    {
-        compare_keys(self, other)
+    fn hash<H: Hasher>(&self, state: &mut H) {
+        state.write_u64(self.fingerprint());
     }
 }

@@ -1,9 +1,8 @@
 -- What the fields of a listing keep.
-use Rattle.std.specs.Prelude.{◌≡◌, ℕ, List, map, IfSome}
+use Rattle.std.specs.Prelude.{◌≡◌, ℕ, nat_eq, List, map, IfSome}
 use Rattle.std.specs.List.{All}
-use Rattle.std.specs.Ordering.{nat_cmp}
-use Rattle.std.specs.BTreeMap as ordered
-use Rattle.std.specs.BTreeMap.{BTreeMap}
+use Rattle.std.specs.HashMap as hash
+use Rattle.std.specs.HashMap.{HashMap}
 use Rattle.boxcar.specs.Table.{Shelves}
 use Rattle.proof_trees.specs.Trees.{Tree}
 use Rattle.proof_graph.specs.declared.node.Node.{Node}
@@ -22,13 +21,13 @@ listed_of i = record { home = i.graph.value.nodes; trees = trees_in i.proofs.ite
 
 -- the references are of the graph; their trees differ, and stand there with those of their premises; the nodes have the places of the
 -- premises, and the two maps give places
-pub record IsListingOf (graph : Shelves) (proofs : List Reference) (nodes : List Node) (places : BTreeMap Node ℕ) (seen : BTreeMap ℕ Seen) : Type 0 where
+pub record IsListingOf {S T : Type 0} (graph : Shelves) (proofs : List Reference) (nodes : List Node) (places : HashMap Node ℕ S) (seen : HashMap ℕ Seen T) : Type 0 where
   pub home : All (λ r. r.home ≡ graph) proofs
   pub distinct : AreDistinct (trees_in proofs)
   pub closed : IsClosed (trees_in proofs)
   pub listed : nodes ≡ map (node_in (trees_in proofs)) (trees_in proofs)
   pub found : GivesPlaces places nodes
-  pub noted : (q : ℕ) → IfSome (ordered.get nat_cmp seen q) (λ e. IsAt graph (trees_in proofs) e.proof e.place)
+  pub noted : (q : ℕ) → IfSome (hash.get nat_eq seen q) (λ e. IsAt graph (trees_in proofs) e.proof e.place)
 
 abbrev pub IsListing : Inside → Type 0
 IsListing i = IsListingOf i.graph.value.nodes i.proofs.items i.nodes.items i.places i.seen

@@ -2,13 +2,13 @@
 use Rattle.std.specs.Prelude.{◌≡◌, ℕ, List, [], ◌∷◌, Some, slice_get}
 use Rattle.std.specs.Coded.{Coded}
 use base.Stored.{coded×, coded_list, coded_via}
-use Rattle.std.specs.BTreeMap as ordered
-use Rattle.std.specs.BTreeMap.{BTreeMap}
+use Rattle.std.specs.HashMap as hash
+use Rattle.std.specs.HashMap.{HashMap}
 use Rattle.boxcar.specs.Table.{Shelves, shelves_coded}
 use Rattle.proof_trees.specs.Trees.{Tree, Trees, none, more, below}
 use Rattle.proof_graph.specs.declared.node.Node.{Node}
 use Rattle.proof_graph.specs.References.{Reference}
-use Rattle.proof_graph.specs.Order.{node_cmp}
+use Rattle.proof_graph.specs.Keys.{same_node}
 use Rattle.proof_graph.specs.Codes.{coded_tree}
 
 -- what contracts see of a listing: the graph that its references are of, and the trees
@@ -43,9 +43,9 @@ abbrev pub IsClosed : List Tree → Type 0
 IsClosed xs = (t : Tree) → IsIn xs t → AllIn xs (below t)
 
 -- a map gives for each node of a list its place, and nothing else
-pub record GivesPlaces (places : BTreeMap Node ℕ) (nodes : List Node) : Type 0 where
-  pub found : (i : ℕ) (n : Node) → slice_get nodes i ≡ Some n → ordered.get node_cmp places n ≡ Some i
-  pub listed : (n : Node) (i : ℕ) → ordered.get node_cmp places n ≡ Some i → slice_get nodes i ≡ Some n
+pub record GivesPlaces {S : Type 0} (places : HashMap Node ℕ S) (nodes : List Node) : Type 0 where
+  pub found : (i : ℕ) (n : Node) → slice_get nodes i ≡ Some n → hash.get same_node places n ≡ Some i
+  pub listed : (n : Node) (i : ℕ) → hash.get same_node places n ≡ Some i → slice_get nodes i ≡ Some n
 
 -- the tree of a reference is at this place
 pub record IsAt (graph : Shelves) (xs : List Tree) (r : Reference) (place : ℕ) : Type 0 where

@@ -1,21 +1,13 @@
 -- The distinct subtrees of a tree in post-order.
-use Rattle.std.specs.Prelude.{Bool, true, false, ◌&&◌, if◌then◌else◌, List, [], ◌∷◌, ◌++◌}
+use Rattle.std.specs.Prelude.{Bool, if◌then◌else◌, List, [], ◌∷◌, ◌++◌}
 use Rattle.std.specs.List.{list_any}
-use Rattle.std.specs.Ordering.{eq_by_cmp}
-use Rattle.lk_rules.specs.RuleOrder.{rule_cmp}
-use Rattle.lk_rules.specs.Sequents.{same_sequents}
 use Rattle.proof_trees.specs.Trees.{Tree, node, Trees, none, more}
+use Rattle.proof_graph.specs.SameCodes.{same_by}
+use Rattle.proof_graph.specs.Codes.{coded_tree}
 
 -- whether two trees are equal
-abbrev mutual
-  pub same_tree : Tree → Tree → Bool
-  same_tree (node r s ts) (node q e us) = (eq_by_cmp rule_cmp r q && same_sequents s e) && same_trees ts us
-
-  pub same_trees : Trees → Trees → Bool
-  same_trees none none = true
-  same_trees none (more u us) = false
-  same_trees (more t ts) none = false
-  same_trees (more t ts) (more u us) = same_tree t u && same_trees ts us
+abbrev pub same_tree : Tree → Tree → Bool
+same_tree = same_by coded_tree
 
 -- all subtrees: those of the premises from left to right, and then the tree
 abbrev mutual

@@ -10,7 +10,7 @@ ghost use Rattle.proof_steps.specs.Listed.{IsIn, AllIn, AreDistinct, IsClosed};
 use lk_rules::{Numbers, Rule, Step};
 use proof_graph::{Graph, Key, Node, ProofRef};
 use std::alloc::{AllocError, Global};
-use std::collections::BTreeMap;
+use std::collections::HashMap;
 use std::marker::Model;
 use std::snapshot::Snapshot;
 
@@ -28,8 +28,8 @@ pub(crate) struct Listing {
     graph: Snapshot<Graph>,
     proofs: Vec<ProofRef>,
     nodes: Vec<Key>,
-    places: BTreeMap<Key, u64>,
-    seen: BTreeMap<u64, Seen>,
+    places: HashMap<Key, u64>,
+    seen: HashMap<u64, Seen>,
 }
 
 impl Model for Listing {
@@ -56,8 +56,8 @@ impl Listing {
             graph: Snapshot::of(graph),
             proofs: Vec::new(alloc),
             nodes: Vec::new(alloc),
-            places: BTreeMap::new(alloc),
-            seen: BTreeMap::new(alloc),
+            places: HashMap::new(alloc),
+            seen: HashMap::new(alloc),
         }
     }
 

@@ -1,5 +1,5 @@
 -- The root counts once more where its rule does.
-use Rattle.std.proofs.Common.{◌≡◌, true, refl}
+use Rattle.std.proofs.Common.{true, refl}
 use Rattle.proof_trees.specs.Trees.{is_cut, is_quantifier_rule}
 use Rattle.proof_graph.specs.References.{trees_of}
 use Rattle.proof_graph.proofs.Counting.{counted_root}

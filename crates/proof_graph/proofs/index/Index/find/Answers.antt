@@ -2,8 +2,8 @@
 use Rattle.std.proofs.Common.{◌≡◌, sym, ap, ◌∙◌, subst}
 use Rattle.std.specs.Prelude.{Some}
 use Rattle.std.specs.List.{Contains}
-use Rattle.std.specs.BTreeMap as ordered
-use Rattle.proof_graph.specs.Order.{node_cmp}
+use Rattle.std.specs.HashMap as hash
+use Rattle.proof_graph.specs.Keys.{same_node}
 use Rattle.proof_graph.specs.References.{key_of}
 use Rattle.proof_graph.specs.History.{Recorded, entry_of, IsAbsent}
 use Rattle.proof_graph.proofs.Entries.{listed_there, absent}
@@ -11,7 +11,7 @@ use Rattle.proof_graph.proofs.index.Index.find.Goals as goal
 
 pub returns-in-Some-clause-found : goal.returns-in-Some-clause-found
 returns-in-Some-clause-found c =
-    let there : ordered.get node_cmp c.self.inside.places c.args.key.now ≡ Some c.in-Some.place.now = sym c.in-Some.ensures.value in
+    let there : hash.get same_node c.self.inside.places c.args.key.now ≡ Some c.in-Some.place.now = sym c.in-Some.ensures.value in
     let listed = c.self.invariant.listed c.args.key.now c.in-Some.place.now there in (
       ap key_of c.index.ensures ∙ listed.1 c.index.result.now,
       subst (λ (v : Recorded). Contains v.history (entry_of c.index.result.now)) c.self.view_is
