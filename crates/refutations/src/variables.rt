@@ -1,48 +1,104 @@
 //! The variables of clauses.
-ghost use Rattle.std.specs.Prelude.{◌≡◌, List, ◌∷◌, ◌++◌, IfOk, OnOk};
+ghost use Rattle.std.specs.Prelude.{◌≡◌, [], ◌∷◌, IfOk, OnOk};
 ghost use Rattle.std.specs.BTreeSet.{contains};
-ghost use Rattle.fol.specs.declared.symbols.Var.{Var as Variable};
 ghost use Rattle.fol.specs.Order.{var_cmp};
-ghost use Rattle.free_variables.specs.Occurrence.{var_list};
+ghost use Rattle.free_variables.specs.Occurrence.{var_list, var_list_term, var_list_terms};
 ghost use Rattle.refutations.specs.Clauses.{first_occurrences as firsts_of, clause_of as clause_meant, is_clause as is_disjunction, is_atom as is_atomic};
-ghost use Rattle.refutations.specs.FirstOccurrences.{unseen};
+ghost use Rattle.refutations.specs.FirstOccurrences.{GoesOn};
 
 use crate::clause::{Clause, VarList};
-use fol::{Formula, FormulaNode, Var};
-use free_variables::push_free_vars;
+use fol::{Formula, FormulaNode, Term, TermNode, Terms, TermsLink, Var};
 use std::alloc::{AllocError, Global};
 use std::collections::BTreeSet;
 
 // Appends the variable unless it has been seen.
 fn push_new(seen: &mut BTreeSet<Var>, firsts: &mut Vec<Var>, var: &Var) -> Result<(), AllocError>
-    ensures { OnOk result ((vs : List Variable) → firsts.new.items ++ unseen (contains var_cmp seen.new) vs ≡ firsts.old.items ++ unseen (contains var_cmp seen.old) (var.now ∷ vs)) }
+    ensures { OnOk result (GoesOn firsts.old.items (contains var_cmp seen.old) firsts.new.items (contains var_cmp seen.new) (var.now ∷ [])) }
 {
-    if seen.insert(var.copy()?)? {
-        firsts.push(var.copy()?)?;
+    if seen.contains(var) {
+        return Ok(());
     }
+    seen.insert(var.copy()?)?;
+    firsts.push(var.copy()?)?;
     Ok(())
 }
 
-// The variables without repeats, in the order in which each occurs first.
-#[tactic(auto, using(crate::proofs::FirstOccurrences::unseen_none))]
-fn first_occurrences(alloc: Global, vars: &[Var]) -> Result<Vec<Var>, AllocError>
-    ensures { IfOk result (λ firsts. firsts.items ≡ firsts_of vars.now) }
+// Appends the free variables of the formula that haven't been seen, from the left.
+#[tactic(auto, using(crate::proofs::FirstOccurrences::shut_on, crate::proofs::FirstOccurrences::none_on, crate::proofs::FirstOccurrences::both_on))]
+fn push_new_vars(
+    seen: &mut BTreeSet<Var>,
+    firsts: &mut Vec<Var>,
+    formula: &Formula,
+) -> Result<(), AllocError>
+    ensures { OnOk result (GoesOn firsts.old.items (contains var_cmp seen.old) firsts.new.items (contains var_cmp seen.new) (var_list formula.now)) }
 {
-    let mut seen = BTreeSet::new(alloc);
-    let mut firsts = Vec::new(alloc);
-    for var in vars {
-        push_new(&mut seen, &mut firsts, var)?;
+    if !formula.has_free() {
+        return Ok(());
     }
-    Ok(firsts)
+    match formula.node() {
+        FormulaNode::Atom(_, terms) => push_new_in_terms(seen, firsts, terms),
+        FormulaNode::Top | FormulaNode::Bot => Ok(()),
+        FormulaNode::Not(body) | FormulaNode::All(body) | FormulaNode::Ex(body) => {
+            push_new_vars(seen, firsts, body)
+        }
+        FormulaNode::And(first, second)
+        | FormulaNode::Or(first, second)
+        | FormulaNode::Imp(first, second) => {
+            push_new_vars(seen, firsts, first)?;
+            push_new_vars(seen, firsts, second)
+        }
+    }
 }
 
-/// The free variables of a formula, in the order in which each occurs first.
+#[cycle(push_new)]
+#[tactic(auto, using(crate::proofs::FirstOccurrences::shut_on_term, crate::proofs::FirstOccurrences::none_on))]
+fn push_new_in_term(
+    seen: &mut BTreeSet<Var>,
+    firsts: &mut Vec<Var>,
+    term: &Term,
+) -> Result<(), AllocError>
+    ensures { OnOk result (GoesOn firsts.old.items (contains var_cmp seen.old) firsts.new.items (contains var_cmp seen.new) (var_list_term term.now)) }
+{
+    if !term.has_free() {
+        return Ok(());
+    }
+    match term.node() {
+        TermNode::Free(var) => push_new(seen, firsts, var),
+        TermNode::Bound(_) => Ok(()),
+        TermNode::App(_, terms) => push_new_in_terms(seen, firsts, terms),
+    }
+}
+
+#[cycle(push_new)]
+#[tactic(auto, using(crate::proofs::FirstOccurrences::shut_on_terms, crate::proofs::FirstOccurrences::none_on, crate::proofs::FirstOccurrences::both_on))]
+fn push_new_in_terms(
+    seen: &mut BTreeSet<Var>,
+    firsts: &mut Vec<Var>,
+    terms: &Terms,
+) -> Result<(), AllocError>
+    ensures { OnOk result (GoesOn firsts.old.items (contains var_cmp seen.old) firsts.new.items (contains var_cmp seen.new) (var_list_terms terms.now)) }
+{
+    if !terms.has_free() {
+        return Ok(());
+    }
+    match terms.link() {
+        TermsLink::Nil => Ok(()),
+        TermsLink::Cons(term, rest) => {
+            push_new_in_term(seen, firsts, term)?;
+            push_new_in_terms(seen, firsts, rest)
+        }
+    }
+}
+
+/// The free variables of a formula, in the order in which each occurs first. A variable that occurs again takes no memory.
+#[tactic(auto, using(crate::proofs::FirstOccurrences::all_on))]
 pub fn own_variables(alloc: Global, formula: &Formula) -> Result<Vec<Var>, AllocError>
     ensures { IfOk result (λ vars. vars.items ≡ firsts_of (var_list formula.now)) }
 {
-    let mut vars = Vec::new(alloc);
-    push_free_vars(&mut vars, formula)?;
-    first_occurrences(alloc, &vars)
+    let mut seen = BTreeSet::new(alloc);
+    let mut firsts = Vec::new(alloc);
+    push_new_vars(&mut seen, &mut firsts, formula)?;
+    Ok(firsts)
 }
 
 /// The formula as a clause, with its variables in the order in which each occurs first.

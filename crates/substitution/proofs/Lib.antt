@@ -1,5 +1,6 @@
 pub mod Booleans
 pub mod Depth
+pub mod Equivalences
 pub mod Ties
 pub mod InstanceFormed
 pub mod ImageFormed

@@ -30,3 +30,7 @@ with_parts (and f g) a b = and (unwrap_or a f) (unwrap_or b g)
 with_parts (or f g) a b = or (unwrap_or a f) (unwrap_or b g)
 with_parts (imp f g) a b = imp (unwrap_or a f) (unwrap_or b g)
 with_parts f a b = f
+
+-- an equivalence, which has each of its sides twice
+abbrev pub equivalence : Formula → Formula → Formula
+equivalence f g = and (imp f g) (imp g f)

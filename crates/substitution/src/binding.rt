@@ -4,7 +4,8 @@ ghost use Rattle.fol.specs.Formed.{IsFormed};
 ghost use Rattle.substitution.specs.Instance.{bind_term_at as bound_term_at, bind_terms_at as bound_terms_at, bind_at as bound_at, bind as bound_body, nesting, IsOpenBody};
 
 use crate::sharing::{
-    or_copy, term_with_arguments, unchanged, with_arguments, with_body, with_elements, with_parts,
+    or_copy, sides, term_with_arguments, unchanged, with_arguments, with_body, with_elements,
+    with_parts, with_sides,
 };
 use fol::{Formula, FormulaNode, Term, TermNode, Terms, TermsLink, Var};
 use std::alloc::{AllocError, Global};
@@ -34,6 +35,11 @@ fn bind_at(
 {
     if !formula.has_free() {
         return unchanged(formula, depth);
+    }
+    if let Some((first, second)) = sides(formula) {
+        let new_first = bind_at(alloc, first, var, depth)?;
+        let new_second = bind_at(alloc, second, var, depth)?;
+        return with_sides(alloc, first, second, new_first, new_second);
     }
     match formula.node() {
         FormulaNode::Atom(_, terms) => {

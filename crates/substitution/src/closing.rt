@@ -9,7 +9,8 @@ ghost use Rattle.substitution.specs.Instance.{nesting};
 ghost use Rattle.substitution.specs.Closing.{closed_over, level_from, bound_each, bound_each_term, bound_each_terms, AreBelow};
 
 use crate::sharing::{
-    or_copy, term_with_arguments, unchanged, with_arguments, with_body, with_elements, with_parts,
+    or_copy, sides, term_with_arguments, unchanged, with_arguments, with_body, with_elements,
+    with_parts, with_sides,
 };
 use fol::{Formula, FormulaNode, Term, TermNode, Terms, TermsLink, Var};
 use std::alloc::{AllocError, Global};
@@ -78,6 +79,11 @@ fn bind_each_at(
 {
     if !formula.has_free() {
         return unchanged(formula, depth);
+    }
+    if let Some((first, second)) = sides(formula) {
+        let new_first = bind_each_at(alloc, first, levels, depth)?;
+        let new_second = bind_each_at(alloc, second, levels, depth)?;
+        return with_sides(alloc, first, second, new_first, new_second);
     }
     match formula.node() {
         FormulaNode::Atom(_, terms) => {

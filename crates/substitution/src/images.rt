@@ -6,8 +6,8 @@ ghost use Rattle.substitution.specs.Image.{image_term, image_terms, image, IsFor
 
 use crate::maps::Subst;
 use crate::sharing::{
-    or_copy, or_copy_term, term_with_arguments, with_arguments, with_body, with_elements,
-    with_parts,
+    or_copy, or_copy_term, sides, term_with_arguments, with_arguments, with_body, with_elements,
+    with_parts, with_sides,
 };
 use fol::{Formula, FormulaNode, Term, TermNode, Terms, TermsLink};
 use std::alloc::{AllocError, Global};
@@ -39,6 +39,11 @@ fn image_of(alloc: Global, map: &Subst, formula: &Formula) -> Result<Option<Form
 {
     if !formula.has_free() {
         return Ok(None);
+    }
+    if let Some((first, second)) = sides(formula) {
+        let new_first = image_of(alloc, map, first)?;
+        let new_second = image_of(alloc, map, second)?;
+        return with_sides(alloc, first, second, new_first, new_second);
     }
     match formula.node() {
         FormulaNode::Atom(_, terms) => {

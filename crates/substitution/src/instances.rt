@@ -6,7 +6,8 @@ ghost use Rattle.fol.specs.Formed.{is_formed_at, is_formed_term_at, are_formed_t
 ghost use Rattle.substitution.specs.Instance.{inst_term_at, inst_terms_at, inst_at, inst, IsOpenBody};
 
 use crate::sharing::{
-    or_copy, term_with_arguments, with_arguments, with_body, with_elements, with_parts,
+    or_copy, sides, term_with_arguments, with_arguments, with_body, with_elements, with_parts,
+    with_sides,
 };
 use fol::{Formula, FormulaNode, Term, TermNode, Terms, TermsLink};
 use std::alloc::{AllocError, Global};
@@ -45,6 +46,11 @@ fn instance_at(
 {
     if formula.dangling() <= depth {
         return Ok(None);
+    }
+    if let Some((first, second)) = sides(formula) {
+        let new_first = instance_at(alloc, first, term, depth)?;
+        let new_second = instance_at(alloc, second, term, depth)?;
+        return with_sides(alloc, first, second, new_first, new_second);
     }
     match formula.node() {
         FormulaNode::Atom(_, terms) => {

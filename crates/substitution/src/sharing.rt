@@ -1,7 +1,7 @@
 //! Results that share what did not change: `None` stands for the old value.
-ghost use Rattle.std.specs.Prelude.{◌≡◌, ◌+◌, ◌^◌, ◌<◌, IfOk, OnOk, unwrap_or};
+ghost use Rattle.std.specs.Prelude.{◌≡◌, ◌+◌, ◌^◌, ◌<◌, IfOk, IfSome, OnOk, unwrap_or};
 ghost use Rattle.substitution.specs.Instance.{nesting};
-ghost use Rattle.substitution.specs.Sharing.{term_with_arguments as application_with, with_elements as list_with, with_arguments as atom_with, with_body as formula_with_body, with_parts as formula_with_parts};
+ghost use Rattle.substitution.specs.Sharing.{term_with_arguments as application_with, with_elements as list_with, with_arguments as atom_with, with_body as formula_with_body, with_parts as formula_with_parts, equivalence};
 
 use fol::{Formula, FormulaNode, Term, TermNode, Terms, TermsLink};
 use std::alloc::{AllocError, Global};
@@ -156,4 +156,39 @@ pub fn with_parts(
         }
         _ => Ok(None),
     }
+}
+
+/// The sides of an equivalence, each of which stands in it twice. What is made of a side is then made once, and both places share it: a text
+/// in which equivalences nest is a formula with few different parts and a great many nodes.
+pub fn sides(formula: &Formula) -> Option<(&Formula, &Formula)>
+    ensures { IfSome result (λ s. formula.now ≡ equivalence s.0.now s.1.now) }
+{
+    match formula.node() {
+        FormulaNode::And(forth, back) => match (forth.node(), back.node()) {
+            (FormulaNode::Imp(first, second), FormulaNode::Imp(other, another))
+                if first == another && second == other => { Some((first, second)) }
+            _ => None,
+        },
+        _ => None,
+    }
+}
+
+/// An equivalence with new sides.
+pub fn with_sides(
+    alloc: Global,
+    first: &Formula,
+    second: &Formula,
+    new_first: Option<Formula>,
+    new_second: Option<Formula>,
+) -> Result<Option<Formula>, AllocError>
+    ensures { IfOk result (λ new. unwrap_or new (equivalence first.now second.now) ≡ equivalence (unwrap_or new_first first.now) (unwrap_or new_second second.now)) }
+{
+    if new_first.is_none() && new_second.is_none() {
+        return Ok(None);
+    }
+    let first = or_copy(new_first, first)?;
+    let second = or_copy(new_second, second)?;
+    let forth = Formula::imp(alloc, first.copy()?, second.copy()?)?;
+    let back = Formula::imp(alloc, second, first)?;
+    Ok(Some(Formula::and(alloc, forth, back)?))
 }

@@ -8,7 +8,7 @@ use crate::errors::{ProblemKind, ReadError};
 use crate::tokens::fault;
 use std::alloc::{AllocError, Global};
 use std::collections::VecDeque;
-use tptp_tokens::{Scan, TextKind, scan};
+use tptp_tokens::{Pool, Scan, TextKind, scan};
 
 /// The two kinds of brackets.
 #[derive(Clone, Copy, PartialEq, Eq, Debug)]
@@ -105,7 +105,7 @@ fn byte_piece(byte: u8) -> Piece
 
 /// What stands at the front in an annotation.
 #[tactic(auto, unfolding(crate::specs::Pieces::piece_of))]
-pub fn next_piece(alloc: Global, bytes: &[u8]) -> Result<Piece, AllocError>
+pub fn next_piece(alloc: Global, pool: &mut Pool, bytes: &[u8]) -> Result<Piece, AllocError>
     ensures value { IfOk result (λ p. p ≡ piece_of bytes.now) }
     ensures sized { IfOk result (λ p. IsSizedPiece p (length bytes.now)) }
 {
@@ -113,7 +113,7 @@ pub fn next_piece(alloc: Global, bytes: &[u8]) -> Result<Piece, AllocError>
         [] => Ok(Piece::End),
         [b'\t' | b'\n' | b'\r', ..] => Ok(Piece::Separator),
         [quote, rest @ ..] if *quote == b'"' || *quote == b'\'' => Ok(quoted_piece(*quote, rest)),
-        [b'%', ..] | [b'/', b'*', ..] => Ok(comment_piece(scan(alloc, bytes)?)),
+        [b'%', ..] | [b'/', b'*', ..] => Ok(comment_piece(scan(alloc, pool, bytes)?)),
         [byte, ..] => Ok(byte_piece(*byte)),
     }
 }
@@ -141,7 +141,11 @@ fn close(inner: &mut VecDeque<Bracket>, bracket: Bracket, some: bool) -> Closing
 
 /// The bytes behind the `)` that ends an annotation, which is passed over.
 #[tactic(auto, unfolding(crate::specs::AnnotationReader::annotation_at), using(crate::proofs::Loops::annotation_separator, crate::proofs::Loops::annotation_passed, crate::proofs::Loops::annotation_opens, crate::proofs::Loops::annotation_refused, crate::proofs::Loops::annotation_ended, crate::proofs::Loops::annotation_inside, crate::proofs::Loops::annotation_wrong))]
-pub fn read_annotation(alloc: Global, bytes: &[u8]) -> Result<&[u8], ReadError>
+pub fn read_annotation<'a>(
+    alloc: Global,
+    pool: &mut Pool,
+    bytes: &'a [u8],
+) -> Result<&'a [u8], ReadError>
     ensures value { Gives (λ x. x.now) result (annotation_at bytes.now) }
     ensures bound { IfOk result (λ x. length x.now ≤ length bytes.now) }
 {
@@ -150,7 +154,7 @@ pub fn read_annotation(alloc: Global, bytes: &[u8]) -> Result<&[u8], ReadError>
     let mut some = false;
     let mut rest = bytes;
     loop {
-        match next_piece(alloc, rest)? {
+        match next_piece(alloc, pool, rest)? {
             Piece::End => return Err(fault(0, expected)),
             Piece::Separator => rest = rest.split_at(1).1,
             Piece::Passed(length) => {

@@ -10,7 +10,7 @@ use crate::tokens::{fault, next_token};
 use fol::Formula;
 use std::alloc::Global;
 use tptp_read::{Limits, Outcome, State, StepError};
-use tptp_tokens::{Scan, TextKind, Token};
+use tptp_tokens::{Pool, Scan, TextKind, Token};
 
 /// The limits inside an entry, whose own parenthesis is a level.
 pub const ENTRY_LIMITS: Limits = Limits {
@@ -72,7 +72,13 @@ impl Body {
 
     /// Reads one more token, with so many bytes left from it on.
     #[tactic(auto, unfolding(crate::specs::BodyReader::body_step))]
-    fn step(self, alloc: Global, token: Token, left: usize) -> Result<Body, ReadError>
+    fn step(
+        self,
+        alloc: Global,
+        pool: &mut Pool,
+        token: Token,
+        left: usize,
+    ) -> Result<Body, ReadError>
         ensures { Gives body_meaning result (placed left (body_step ENTRY_LIMITS (body_meaning self) token)) }
     {
         let Body { state, place } = self;
@@ -86,7 +92,7 @@ impl Body {
                 next
             }
         };
-        match state.step(alloc, ENTRY_LIMITS, token) {
+        match state.step(alloc, pool, ENTRY_LIMITS, token) {
             Ok(state) => Ok(Body { state, place: next }),
             Err(error) => Err(body_error(place, left, error)),
         }
@@ -94,11 +100,11 @@ impl Body {
 
     /// What the body means where it ends here, with so many bytes left.
     #[tactic(auto, unfolding(crate::specs::BodyReader::body_ending))]
-    fn end(self, alloc: Global, left: usize) -> Result<Formula, ReadError>
+    fn end(self, alloc: Global, pool: &mut Pool, left: usize) -> Result<Formula, ReadError>
         ensures { Gives (λ f. f) result (placed left (body_ending (body_meaning self))) }
     {
         let Body { state, place } = self;
-        match state.end(alloc) {
+        match state.end(alloc, pool) {
             Ok(Outcome::Formula(formula)) => Ok(formula),
             Ok(Outcome::Term(_)) => Err(fault(left, unexpected(place))),
             Err(error) => Err(body_error(place, left, error)),
@@ -120,49 +126,56 @@ fn is_a_comma(token: &Token) -> bool
 
 /// The formula of a body, whether a `,` ended it, and the bytes behind the `,` or `)` that did.
 #[tactic(auto, unfolding(crate::specs::BodyReader::body_at))]
-pub fn read_body(
+pub fn read_body<'a>(
     alloc: Global,
+    pool: &mut Pool,
     language: Language,
-    bytes: &[u8],
-) -> Result<(Formula, bool, &[u8]), ReadError>
+    bytes: &'a [u8],
+) -> Result<(Formula, bool, &'a [u8]), ReadError>
     ensures value { Gives (λ x. (x.0, x.1, x.2.now)) result (body_at language bytes.now) }
     ensures bound { IfOk result (λ x. length x.2.now ≤ length bytes.now) }
 {
-    body_of(alloc, Body::new(alloc, language), bytes)
+    body_of(alloc, pool, Body::new(alloc, language), bytes)
 }
 
 // The body where it ends at the front of `rest`, with a `,` or a `)` of `count` bytes.
-fn finished(
+fn finished<'a>(
     alloc: Global,
+    pool: &mut Pool,
     body: Body,
     annotated: bool,
     count: usize,
-    rest: &[u8],
-) -> Result<(Formula, bool, &[u8]), ReadError>
+    rest: &'a [u8],
+) -> Result<(Formula, bool, &'a [u8]), ReadError>
     requires { count ≤ length rest.now }
     ensures value { Gives (λ x. (x.0, x.1, x.2.now)) result (ended_by annotated (drop count rest.now) (placed (length rest.now) (body_ending (body_meaning body)))) }
     ensures bound { IfOk result (λ x. length x.2.now ≤ length rest.now) }
 {
-    let formula = body.end(alloc, rest.len())?;
+    let formula = body.end(alloc, pool, rest.len())?;
     Ok((formula, annotated, rest.split_at(count).1))
 }
 
 // The same from a state on.
 #[tactic(auto, using(crate::proofs::Loops::body_go_on, crate::proofs::Loops::body_stop, crate::proofs::Loops::body_end, crate::proofs::Loops::body_wrong, crate::proofs::Loops::body_missing, crate::proofs::Loops::body_blank))]
-fn body_of(alloc: Global, body: Body, bytes: &[u8]) -> Result<(Formula, bool, &[u8]), ReadError>
+fn body_of<'a>(
+    alloc: Global,
+    pool: &mut Pool,
+    body: Body,
+    bytes: &'a [u8],
+) -> Result<(Formula, bool, &'a [u8]), ReadError>
     ensures value { Gives (λ x. (x.0, x.1, x.2.now)) result (body_from (body_meaning body) bytes.now) }
     ensures bound { IfOk result (λ x. length x.2.now ≤ length bytes.now) }
 {
     let mut body = body;
     let mut rest = bytes;
     loop {
-        let (found, front) = next_token(alloc, rest)?;
+        let (found, front) = next_token(alloc, pool, rest)?;
         match found {
             Scan::Found(token, length) => {
                 if body.ends_before(&token) {
-                    return finished(alloc, body, is_a_comma(&token), length, front);
+                    return finished(alloc, pool, body, is_a_comma(&token), length, front);
                 }
-                match body.step(alloc, token, front.len()) {
+                match body.step(alloc, pool, token, front.len()) {
                     Ok(next) => {
                         body = next;
                         rest = front.split_at(length).1;

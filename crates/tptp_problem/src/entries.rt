@@ -15,11 +15,13 @@ use crate::tokens::{Mark, read_mark};
 use fol::Text;
 use std::alloc::Global;
 use std::collections::BTreeSet;
+use tptp_tokens::Pool;
 
 /// The entry at the front, behind entries with these names and so many conjectures, and the bytes behind it.
 #[tactic(auto, unfolding(crate::specs::EntryReader::entry_at))]
 pub fn read_entry<'a>(
     alloc: Global,
+    pool: &mut Pool,
     names: &BTreeSet<Text>,
     conjectures: usize,
     bytes: &'a [u8],
@@ -27,15 +29,15 @@ pub fn read_entry<'a>(
     ensures value { Gives (λ x. (x.0, x.1.now)) result (entry_at (contains text_cmp names.now) conjectures bytes.now) }
     ensures bound { IfOk result (λ x. length x.1.now < length bytes.now) }
 {
-    let (language, word, rest) = read_word(alloc, bytes)?;
-    let rest = read_mark(alloc, Mark::Open, rest)?;
-    let (name, rest) = read_name(alloc, names, rest)?;
-    let rest = read_mark(alloc, Mark::Comma, rest)?;
-    let (role, rest) = read_role(alloc, language, conjectures, word, rest)?;
-    let rest = read_mark(alloc, Mark::Comma, rest)?;
-    let (formula, annotated, rest) = read_body(alloc, language, rest)?;
-    let rest = read_rest(alloc, annotated, rest)?;
-    let rest = read_mark(alloc, Mark::Dot, rest)?;
+    let (language, word, rest) = read_word(alloc, pool, bytes)?;
+    let rest = read_mark(alloc, pool, Mark::Open, rest)?;
+    let (name, rest) = read_name(alloc, pool, names, rest)?;
+    let rest = read_mark(alloc, pool, Mark::Comma, rest)?;
+    let (role, rest) = read_role(alloc, pool, language, conjectures, word, rest)?;
+    let rest = read_mark(alloc, pool, Mark::Comma, rest)?;
+    let (formula, annotated, rest) = read_body(alloc, pool, language, rest)?;
+    let rest = read_rest(alloc, pool, annotated, rest)?;
+    let rest = read_mark(alloc, pool, Mark::Dot, rest)?;
     let entry = Entry {
         name,
         language,
@@ -46,12 +48,17 @@ pub fn read_entry<'a>(
 }
 
 // The bytes behind the `)` that ends an entry, with its annotation passed over where there is one.
-fn read_rest(alloc: Global, annotated: bool, bytes: &[u8]) -> Result<&[u8], ReadError>
+fn read_rest<'a>(
+    alloc: Global,
+    pool: &mut Pool,
+    annotated: bool,
+    bytes: &'a [u8],
+) -> Result<&'a [u8], ReadError>
     ensures value { Gives (λ x. x.now) result (rest_at annotated bytes.now) }
     ensures bound { IfOk result (λ x. length x.now ≤ length bytes.now) }
 {
     if annotated {
-        read_annotation(alloc, bytes)
+        read_annotation(alloc, pool, bytes)
     } else {
         Ok(bytes)
     }

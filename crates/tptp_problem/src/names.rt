@@ -11,7 +11,7 @@ use crate::tokens::{fault, next_token, unwanted};
 use fol::Text;
 use std::alloc::Global;
 use std::collections::BTreeSet;
-use tptp_tokens::{Scan, TextKind, Token};
+use tptp_tokens::{Pool, Scan, TextKind, Token};
 
 // How many digits stand at the front.
 fn digits(bytes: &[u8]) -> usize
@@ -55,13 +55,14 @@ fn name_found(alloc: Global, found: Scan, front: &[u8]) -> Result<(Text, usize),
 #[tactic(auto, unfolding(crate::specs::Readers::name_at))]
 pub fn read_name<'a>(
     alloc: Global,
+    pool: &mut Pool,
     names: &BTreeSet<Text>,
     bytes: &'a [u8],
 ) -> Result<(Text, &'a [u8]), ReadError>
     ensures value { Gives (λ x. (x.0, x.1.now)) result (name_at (contains text_cmp names.now) bytes.now) }
     ensures bound { IfOk result (λ x. length x.1.now ≤ length bytes.now) }
 {
-    let (found, front) = next_token(alloc, bytes)?;
+    let (found, front) = next_token(alloc, pool, bytes)?;
     let (name, length) = name_found(alloc, found, front)?;
     if names.contains(&name) {
         return Err(fault(front.len(), ProblemKind::NameTwice));

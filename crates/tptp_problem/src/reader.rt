@@ -21,6 +21,7 @@ use crate::tokens::next_token;
 use fol::Text;
 use std::alloc::{AllocError, Global};
 use std::collections::BTreeSet;
+use tptp_tokens::Pool;
 
 /// The problem that the text is: entries with white space and comments around their tokens. A text has at most 1,000 conjectures, and
 /// each formula at most 200 levels of open parentheses, negations and quantifiers, its entry's own parenthesis included, and at most
@@ -104,13 +105,14 @@ fn read_entries(alloc: Global, text: &[u8]) -> Result<Vec<Entry>, ReadError>
     let mut entries: Vec<Entry> = Vec::new(alloc);
     let mut names: BTreeSet<Text> = BTreeSet::new(alloc);
     let mut conjectures = 0;
+    let mut pool = Pool::for_text(alloc, text.len())?;
     let mut rest = text;
     loop {
-        let (_, front) = next_token(alloc, rest)?;
+        let (_, front) = next_token(alloc, &mut pool, rest)?;
         if front.is_empty() {
             return Ok(entries);
         }
-        let (entry, behind) = read_entry(alloc, &names, conjectures, front)?;
+        let (entry, behind) = read_entry(alloc, &mut pool, &names, conjectures, front)?;
         note_entry(&mut names, &mut conjectures, &entry)?;
         entries.push(entry)?;
         rest = behind;

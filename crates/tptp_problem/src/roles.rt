@@ -7,7 +7,7 @@ use crate::errors::{ProblemKind, ReadError};
 use crate::problems::{Language, Role};
 use crate::tokens::{fault, next_token, unwanted};
 use std::alloc::Global;
-use tptp_tokens::{Scan, TextKind, Token};
+use tptp_tokens::{Pool, Scan, TextKind, Token};
 
 /// How many conjectures a problem may have.
 pub const MOST_CONJECTURES: usize = 1000;
@@ -28,11 +28,15 @@ fn language_of(name: &[u8]) -> Result<Language, ProblemKind>
 
 /// The word at the front of an entry: the language, how many bytes are left from the word on, and the bytes behind it.
 #[tactic(auto, unfolding(crate::specs::Readers::word_at))]
-pub fn read_word(alloc: Global, bytes: &[u8]) -> Result<(Language, usize, &[u8]), ReadError>
+pub fn read_word<'a>(
+    alloc: Global,
+    pool: &mut Pool,
+    bytes: &'a [u8],
+) -> Result<(Language, usize, &'a [u8]), ReadError>
     ensures value { Gives (λ x. (x.0, x.1, x.2.now)) result (word_at bytes.now) }
     ensures bound { IfOk result (λ x. length x.2.now < length bytes.now) }
 {
-    let (found, front) = next_token(alloc, bytes)?;
+    let (found, front) = next_token(alloc, pool, bytes)?;
     match found {
         Scan::Found(token, length) => match token {
             Token::Name(name) => match language_of(name.as_bytes()) {
@@ -104,17 +108,18 @@ fn limit_conjectures(role: Role, conjectures: usize, word: usize) -> Result<Role
 
 /// The role and the bytes behind it, where so many conjectures stand before this entry and `word` bytes were left from its word on.
 #[tactic(auto, unfolding(crate::specs::Readers::role_at))]
-pub fn read_role(
+pub fn read_role<'a>(
     alloc: Global,
+    pool: &mut Pool,
     language: Language,
     conjectures: usize,
     word: usize,
-    bytes: &[u8],
-) -> Result<(Role, &[u8]), ReadError>
+    bytes: &'a [u8],
+) -> Result<(Role, &'a [u8]), ReadError>
     ensures value { Gives (λ x. (x.0, x.1.now)) result (role_at language conjectures word bytes.now) }
     ensures bound { IfOk result (λ x. length x.1.now ≤ length bytes.now) }
 {
-    let (found, front) = next_token(alloc, bytes)?;
+    let (found, front) = next_token(alloc, pool, bytes)?;
     match found {
         Scan::Found(token, length) => match token {
             Token::Name(name) => match role_of(language, name.as_bytes()) {

@@ -8,7 +8,7 @@ ghost use Rattle.tptp_problem.specs.Words.{is_mark as is_mark_token};
 
 use crate::errors::{Fault, ProblemKind, ReadError};
 use std::alloc::{AllocError, Global};
-use tptp_tokens::{Scan, TextKind, Token, scan};
+use tptp_tokens::{Pool, Scan, TextKind, Token, scan};
 
 /// A token that is wanted at some place of each entry.
 #[derive(Clone, Copy, PartialEq, Eq, Debug)]
@@ -20,7 +20,11 @@ pub enum Mark {
 
 /// What stands behind white space and comments, and the bytes from there on.
 #[tactic(auto, using(crate::proofs::Passing::passed_blank, crate::proofs::Passing::passed_stop))]
-pub fn next_token(alloc: Global, bytes: &[u8]) -> Result<(Scan, &[u8]), AllocError>
+pub fn next_token<'a>(
+    alloc: Global,
+    pool: &mut Pool,
+    bytes: &'a [u8],
+) -> Result<(Scan, &'a [u8]), AllocError>
     ensures front { IfOk result (λ x. x.1.now ≡ passed 0 bytes.now) }
     ensures token { IfOk result (λ x. x.0 ≡ scanned (passed 0 bytes.now)) }
     ensures sized { IfOk result (λ x. IsSized x.0 (length x.1.now)) }
@@ -29,7 +33,7 @@ pub fn next_token(alloc: Global, bytes: &[u8]) -> Result<(Scan, &[u8]), AllocErr
 {
     let mut rest = bytes;
     loop {
-        match scan(alloc, rest)? {
+        match scan(alloc, pool, rest)? {
             Scan::Blank(length) => rest = rest.split_at(length).1,
             token => return Ok((token, rest)),
         }
@@ -65,11 +69,16 @@ fn is_mark(mark: Mark, token: &Token) -> bool
 
 /// The bytes behind the mark.
 #[tactic(auto, unfolding(crate::specs::Readers::mark_at))]
-pub fn read_mark(alloc: Global, mark: Mark, bytes: &[u8]) -> Result<&[u8], ReadError>
+pub fn read_mark<'a>(
+    alloc: Global,
+    pool: &mut Pool,
+    mark: Mark,
+    bytes: &'a [u8],
+) -> Result<&'a [u8], ReadError>
     ensures value { Gives (λ x. x.now) result (mark_at mark bytes.now) }
     ensures bound { IfOk result (λ x. length x.now ≤ length bytes.now) }
 {
-    let (found, front) = next_token(alloc, bytes)?;
+    let (found, front) = next_token(alloc, pool, bytes)?;
     match found {
         Scan::Found(token, length) => {
             if is_mark(mark, &token) {

@@ -1,4 +1,5 @@
 pub mod Meaning
+pub mod Arguments
 pub mod Grammar
 pub mod Reader
 pub mod Turns

@@ -1,6 +1,7 @@
 //! Formulas and terms in TPTP syntax: the grammar, and a reader that goes token by token.
 #![tactic(auto)]
 
+mod arguments;
 mod endings;
 mod errors;
 pub mod laws;
@@ -12,6 +13,7 @@ mod terms;
 mod units;
 mod variables;
 
+pub use arguments::Arguments;
 pub use errors::{StepError, TextError};
 pub use reader::{read_formula, read_term};
 pub use state::{Call, Frame, LIMITS, Limits, Mode, Outcome, Part, Side, State};

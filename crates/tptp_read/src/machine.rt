@@ -12,10 +12,9 @@ use crate::state::{Frame, Limits, Mode, Outcome, Part, Side, State};
 use crate::terms::{begin_term, behind_name, behind_term, end_term};
 use crate::units::{at, behind_unit, end_unit};
 use crate::variables::Variables;
-use fol::Term;
 use std::alloc::Global;
 use std::collections::VecDeque;
-use tptp_tokens::{Quantifier, TextKind, Token};
+use tptp_tokens::{Pool, Quantifier, TextKind, Token};
 
 impl State {
     /// Before a formula.
@@ -38,8 +37,15 @@ impl State {
         }
     }
 
-    /// Reads one more token. A token that can't stand there is `Expected`; one that could but for the limits is `Deep`.
-    pub fn step(self, alloc: Global, limits: Limits, token: Token) -> Result<State, StepError>
+    /// Reads one more token. A token that can't stand there is `Expected`; one that could but for the limits is `Deep`. The pool may have
+    /// any terms.
+    pub fn step(
+        self,
+        alloc: Global,
+        pool: &mut Pool,
+        limits: Limits,
+        token: Token,
+    ) -> Result<State, StepError>
         ensures { Gives meaning result (step_by limits (meaning self) token) }
     {
         let State {
@@ -50,14 +56,14 @@ impl State {
             frames,
         } = self;
         match mode {
-            Mode::WantUnit => begin_unit(alloc, limits, part, frames, token),
+            Mode::WantUnit => begin_unit(alloc, pool, limits, part, frames, token),
             Mode::AfterUnit(unit) => behind_unit(alloc, limits, unit, part, frames, token),
-            Mode::WantTerm => begin_term(alloc, side, calls, part, frames, token),
+            Mode::WantTerm => begin_term(alloc, pool, side, calls, part, frames, token),
             Mode::AfterName(name) => {
-                behind_name(alloc, limits, name, side, calls, part, frames, token)
+                behind_name(alloc, pool, limits, name, side, calls, part, frames, token)
             }
             Mode::AfterTerm(term) => {
-                behind_term(alloc, limits, term, side, calls, part, frames, token)
+                behind_term(alloc, pool, limits, term, side, calls, part, frames, token)
             }
             Mode::WantSquare(quantifier) => {
                 behind_quantifier(alloc, quantifier, part, frames, token)
@@ -75,7 +81,7 @@ impl State {
     }
 
     /// What the text means where it ends here. Where it can't end, it is `Expected`.
-    pub fn end(self, alloc: Global) -> Result<Outcome, StepError>
+    pub fn end(self, alloc: Global, pool: &mut Pool) -> Result<Outcome, StepError>
         ensures { Gives (λ w. w) result (ending (meaning self)) }
     {
         let State {
@@ -88,10 +94,10 @@ impl State {
         match mode {
             Mode::AfterUnit(unit) => end_unit(alloc, unit, part, frames),
             Mode::AfterName(name) => {
-                let term = constant(alloc, name)?;
-                end_term(alloc, term, side, calls, part, frames)
+                let term = constant(alloc, pool, name)?;
+                end_term(alloc, pool, term, side, calls, part, frames)
             }
-            Mode::AfterTerm(term) => end_term(alloc, term, side, calls, part, frames),
+            Mode::AfterTerm(term) => end_term(alloc, pool, term, side, calls, part, frames),
             _ => Err(StepError::Kind(TextKind::Expected)),
         }
     }
@@ -100,6 +106,7 @@ impl State {
 // Where a unit is wanted.
 fn begin_unit(
     alloc: Global,
+    pool: &mut Pool,
     limits: Limits,
     part: Part,
     frames: VecDeque<Frame>,
@@ -110,7 +117,7 @@ fn begin_unit(
     let (mode, part, frame) = match token {
         Token::Name(name) => return Ok(at(alloc, Mode::AfterName(name), part, frames)),
         Token::Variable(var) => {
-            let mode = Mode::AfterTerm(Term::free(alloc, var)?);
+            let mode = Mode::AfterTerm(pool.variable(alloc, var)?);
             return Ok(at(alloc, mode, part, frames));
         }
         Token::Truth(value) => {

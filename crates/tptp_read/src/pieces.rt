@@ -3,14 +3,14 @@ ghost use Rattle.std.specs.Prelude.{◌≡◌, IfOk};
 ghost use Rattle.fol.specs.Formed.{count_terms};
 ghost use Rattle.fol.specs.Syntax.{nil};
 ghost use Rattle.tptp_read.specs.Meaning.{chained_by, joined_by, truth as truth_of, equality_sym, equation as equation_of, application as application_of, quantified as quantified_in};
-ghost use Rattle.tptp_read.specs.Machine.{turned_onto, closed as closed_by, called as called_with, completed as completed_by};
+ghost use Rattle.tptp_read.specs.Machine.{closed as closed_by, called as called_with, completed as completed_by};
 
 use crate::state::{Call, Part};
 use crate::variables::Variables;
 use fol::{Formula, Sym, Term, Terms, TermsLink, Text, Var};
 use std::alloc::{AllocError, Global};
 use substitution::{close_all, close_ex};
-use tptp_tokens::{BinaryOperator, ChainOperator, Quantifier};
+use tptp_tokens::{BinaryOperator, ChainOperator, Pool, Quantifier};
 
 /// One more member of a chain.
 pub fn chained(
@@ -74,20 +74,26 @@ pub fn truth(alloc: Global, value: bool) -> Result<Formula, AllocError>
     }
 }
 
-fn equality_symbol(alloc: Global) -> Result<Sym, AllocError>
+fn equality_symbol(alloc: Global, pool: &mut Pool) -> Result<Sym, AllocError>
     ensures { IfOk result (λ s. s ≡ equality_sym) }
 {
-    let name = Text::from_vec(alloc, Vec::from_slice(alloc, b"=")?)?;
+    let name = pool.text(alloc, b'=', &[])?;
     Ok(Sym { name, arity: 2 })
 }
 
 /// The equation of two terms, or its negation where `sign` is false.
-pub fn equation(alloc: Global, sign: bool, left: Term, right: Term) -> Result<Formula, AllocError>
+pub fn equation(
+    alloc: Global,
+    pool: &mut Pool,
+    sign: bool,
+    left: Term,
+    right: Term,
+) -> Result<Formula, AllocError>
     ensures { IfOk result (λ f. f ≡ equation_of sign left right) }
 {
-    let right = Terms::cons(alloc, right, Terms::empty(alloc)?)?;
+    let right = Terms::cons(alloc, right, pool.no_terms(alloc)?)?;
     let terms = Terms::cons(alloc, left, right)?;
-    let atom = Formula::atom(alloc, equality_symbol(alloc)?, terms)?;
+    let atom = Formula::atom(alloc, equality_symbol(alloc, pool)?, terms)?;
     if sign {
         Ok(atom)
     } else {
@@ -108,8 +114,8 @@ fn number_of(terms: &Terms) -> Result<u32, AllocError>
     Ok(count)
 }
 
-/// A name with its arguments, whose number is its arity.
-pub fn application(alloc: Global, name: Text, terms: Terms) -> Result<Term, AllocError>
+// A name with its arguments, whose number is its arity.
+fn application(alloc: Global, name: Text, terms: Terms) -> Result<Term, AllocError>
     ensures { IfOk result (λ t. t ≡ application_of name terms) }
 {
     let arity = number_of(&terms)?;
@@ -117,32 +123,19 @@ pub fn application(alloc: Global, name: Text, terms: Terms) -> Result<Term, Allo
 }
 
 /// A name with no arguments.
-pub fn constant(alloc: Global, name: Text) -> Result<Term, AllocError>
+pub fn constant(alloc: Global, pool: &mut Pool, name: Text) -> Result<Term, AllocError>
     ensures { IfOk result (λ t. t ≡ application_of name nil) }
 {
-    application(alloc, name, Terms::empty(alloc)?)
-}
-
-// The terms in front of the others, turned round.
-fn turned(alloc: Global, terms: &Terms, others: Terms) -> Result<Terms, AllocError>
-    ensures { IfOk result (λ ts. ts ≡ turned_onto terms.now others) }
-{
-    let mut all = others;
-    let mut rest = terms;
-    while let TermsLink::Cons(first, tail) = rest.link() {
-        all = Terms::cons(alloc, first.copy()?, all)?;
-        rest = tail;
-    }
-    Ok(all)
+    pool.constant(alloc, name)
 }
 
 /// The application whose last argument is `term`.
-pub fn called(alloc: Global, call: Call, term: Term) -> Result<Term, AllocError>
+pub fn called(alloc: Global, pool: &mut Pool, call: Call, term: Term) -> Result<Term, AllocError>
     ensures { IfOk result (λ t. t ≡ called_with call term) }
 {
     let Call { name, terms } = call;
-    let last = Terms::cons(alloc, term, Terms::empty(alloc)?)?;
-    let terms = turned(alloc, &terms, last)?;
+    let last = Terms::cons(alloc, term, pool.no_terms(alloc)?)?;
+    let terms = terms.in_order(alloc, last)?;
     application(alloc, name, terms)
 }
 

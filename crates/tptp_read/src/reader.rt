@@ -13,7 +13,7 @@ use crate::errors::{StepError, TextError};
 use crate::state::{LIMITS, Limits, Outcome, State};
 use fol::{Formula, Term};
 use std::alloc::Global;
-use tptp_tokens::{Scan, TextFault, Token, scan};
+use tptp_tokens::{Pool, Scan, TextFault, Token, scan};
 
 /// The formula that the text is, with white space and comments around its tokens. Free variables stay free. A text has at most 200
 /// levels of open parentheses, negations and quantifiers, and at most 1,000 members in a chain and variables in a quantifier.
@@ -87,14 +87,17 @@ fn term_of(alloc: Global, text: &[u8]) -> Result<Term, TextError>
 fn read_text(alloc: Global, limits: Limits, text: &[u8], state: State) -> Result<Outcome, TextError>
     ensures { GivesText (λ w. w) result (read limits (meaning state) (stream_of text.now)) }
 {
+    let mut pool = Pool::for_text(alloc, text.len())?;
     let mut state = state;
     let mut rest = text;
     loop {
         let at = text.len() - rest.len();
-        match scan(alloc, rest)? {
-            Scan::End => return end_at(alloc, state, at),
+        match scan(alloc, &mut pool, rest)? {
+            Scan::End => return end_at(alloc, &mut pool, state, at),
             Scan::Blank(length) => rest = rest.split_at(length).1,
-            Scan::Found(token, length) => match step_at(alloc, limits, state, token, at) {
+            Scan::Found(token, length) => match step_at(
+                alloc, &mut pool, limits, state, token, at,
+            ) {
                 Ok(next) => {
                     state = next;
                     rest = rest.split_at(length).1;
@@ -114,6 +117,7 @@ fn read_text(alloc: Global, limits: Limits, text: &[u8], state: State) -> Result
 // The token at this place of the text.
 fn step_at(
     alloc: Global,
+    pool: &mut Pool,
     limits: Limits,
     state: State,
     token: Token,
@@ -121,17 +125,17 @@ fn step_at(
 ) -> Result<State, TextError>
     ensures { GivesText meaning result (placed at (step_by limits (meaning state) token)) }
 {
-    match state.step(alloc, limits, token) {
+    match state.step(alloc, pool, limits, token) {
         Ok(state) => Ok(state),
         Err(error) => Err(error_at(at, error)),
     }
 }
 
 // The end of the text at this place.
-fn end_at(alloc: Global, state: State, at: usize) -> Result<Outcome, TextError>
+fn end_at(alloc: Global, pool: &mut Pool, state: State, at: usize) -> Result<Outcome, TextError>
     ensures { GivesText (λ w. w) result (placed at (ending (meaning state))) }
 {
-    match state.end(alloc) {
+    match state.end(alloc, pool) {
         Ok(outcome) => Ok(outcome),
         Err(error) => Err(error_at(at, error)),
     }

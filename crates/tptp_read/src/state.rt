@@ -1,6 +1,7 @@
 //! How far a text has been read.
+use crate::arguments::Arguments;
 use crate::variables::Variables;
-use fol::{Formula, Term, Terms, Text};
+use fol::{Formula, Term, Text};
 use std::collections::VecDeque;
 use tptp_tokens::{BinaryOperator, ChainOperator, Quantifier};
 
@@ -52,7 +53,7 @@ pub enum Frame {
 #[derive(Drop)]
 pub struct Call {
     pub name: Text,
-    pub terms: Terms,
+    pub terms: Arguments,
 }
 
 /// Where a term stands that is in no other term.

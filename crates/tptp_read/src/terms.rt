@@ -5,14 +5,15 @@ ghost use Rattle.tptp_read.specs.Given.{meaning, Gives};
 ghost use Rattle.tptp_read.specs.Reader.{checked, or_expected};
 ghost use Rattle.tptp_read.specs.Machine.{in_term as in_term_place, unit_of as ended_unit, begin_term as move_begin_term, behind_name as move_behind_name, behind_term as move_behind_term, behind_outer as move_behind_outer, ending_term};
 
+use crate::arguments::Arguments;
 use crate::errors::StepError;
 use crate::pieces::{called, constant, equation};
 use crate::state::{Call, Frame, Limits, Mode, Outcome, Part, Side, State};
 use crate::units::{behind_unit, end_unit};
-use fol::{Formula, Term, TermNode, Terms, Text};
+use fol::{Formula, Term, TermNode, Text};
 use std::alloc::{AllocError, Global};
 use std::collections::VecDeque;
-use tptp_tokens::{TextKind, Token};
+use tptp_tokens::{Pool, TextKind, Token};
 
 fn in_term(
     mode: Mode,
@@ -35,6 +36,7 @@ fn in_term(
 /// Where a term is wanted.
 pub fn begin_term(
     alloc: Global,
+    pool: &mut Pool,
     side: Side,
     calls: VecDeque<Call>,
     part: Part,
@@ -45,7 +47,7 @@ pub fn begin_term(
 {
     let mode = match token {
         Token::Name(name) => Mode::AfterName(name),
-        Token::Variable(var) => Mode::AfterTerm(Term::free(alloc, var)?),
+        Token::Variable(var) => Mode::AfterTerm(pool.variable(alloc, var)?),
         _ => return Err(StepError::Kind(TextKind::Expected)),
     };
     Ok(in_term(mode, side, calls, part, frames))
@@ -62,6 +64,7 @@ fn has_level(limits: Limits, calls: usize, frames: usize) -> bool
 #[tactic(auto, using(crate::proofs::Depth::depth_is))]
 pub fn behind_name(
     alloc: Global,
+    pool: &mut Pool,
     limits: Limits,
     name: Text,
     side: Side,
@@ -73,13 +76,13 @@ pub fn behind_name(
     ensures { Gives meaning result (checked limits (move_behind_name name side calls.items part frames.items token)) }
 {
     let Token::Open = token else {
-        let term = constant(alloc, name)?;
-        return behind_term(alloc, limits, term, side, calls, part, frames, token);
+        let term = constant(alloc, pool, name)?;
+        return behind_term(alloc, pool, limits, term, side, calls, part, frames, token);
     };
     if !has_level(limits, calls.len(), frames.len()) {
         return Err(StepError::Kind(TextKind::Deep));
     }
-    let terms = Terms::empty(alloc)?;
+    let terms = Arguments::none(alloc);
     let mut calls = calls;
     calls.push_front(Call { name, terms })?;
     Ok(in_term(Mode::WantTerm, side, calls, part, frames))
@@ -88,6 +91,7 @@ pub fn behind_name(
 /// Behind a term.
 pub fn behind_term(
     alloc: Global,
+    pool: &mut Pool,
     limits: Limits,
     term: Term,
     side: Side,
@@ -100,17 +104,18 @@ pub fn behind_term(
 {
     let mut calls = calls;
     let Some(call) = calls.pop_front() else {
-        return behind_outer(alloc, limits, term, side, part, frames, token);
+        return behind_outer(alloc, pool, limits, term, side, part, frames, token);
     };
     match token {
         Token::Comma => {
             let Call { name, terms } = call;
-            let terms = Terms::cons(alloc, term, terms)?;
+            let mut terms = terms;
+            terms.push(term)?;
             calls.push_front(Call { name, terms })?;
             Ok(in_term(Mode::WantTerm, side, calls, part, frames))
         }
         Token::Close => {
-            let term = called(alloc, call, term)?;
+            let term = called(alloc, pool, call, term)?;
             Ok(in_term(Mode::AfterTerm(term), side, calls, part, frames))
         }
         _ => Err(StepError::Kind(TextKind::Expected)),
@@ -118,7 +123,12 @@ pub fn behind_term(
 }
 
 // The unit that ends with a term, if one can.
-fn unit_of(alloc: Global, side: Side, term: Term) -> Result<Option<Formula>, AllocError>
+fn unit_of(
+    alloc: Global,
+    pool: &mut Pool,
+    side: Side,
+    term: Term,
+) -> Result<Option<Formula>, AllocError>
     ensures { IfOk result (λ unit. unit ≡ ended_unit side term) }
 {
     match side {
@@ -130,7 +140,7 @@ fn unit_of(alloc: Global, side: Side, term: Term) -> Result<Option<Formula>, All
             TermNode::Free(_) | TermNode::Bound(_) => Ok(None),
         },
         Side::Right(sign, left) => {
-            let unit = equation(alloc, sign, left, term)?;
+            let unit = equation(alloc, pool, sign, left, term)?;
             Ok(Some(unit))
         }
         Side::Whole => Ok(None),
@@ -140,6 +150,7 @@ fn unit_of(alloc: Global, side: Side, term: Term) -> Result<Option<Formula>, All
 // Behind a term that is in no other one.
 fn behind_outer(
     alloc: Global,
+    pool: &mut Pool,
     limits: Limits,
     term: Term,
     side: Side,
@@ -155,7 +166,7 @@ fn behind_outer(
             let calls = VecDeque::new(alloc);
             Ok(in_term(Mode::WantTerm, side, calls, part, frames))
         }
-        (side, token) => match unit_of(alloc, side, term)? {
+        (side, token) => match unit_of(alloc, pool, side, term)? {
             Some(unit) => behind_unit(alloc, limits, unit, part, frames, token),
             None => Err(StepError::Kind(TextKind::Expected)),
         },
@@ -165,6 +176,7 @@ fn behind_outer(
 /// What a text means that ends with the term.
 pub fn end_term(
     alloc: Global,
+    pool: &mut Pool,
     term: Term,
     side: Side,
     calls: VecDeque<Call>,
@@ -178,7 +190,7 @@ pub fn end_term(
     }
     match side {
         Side::Whole => Ok(Outcome::Term(term)),
-        side => match unit_of(alloc, side, term)? {
+        side => match unit_of(alloc, pool, side, term)? {
             Some(unit) => end_unit(alloc, unit, part, frames),
             None => Err(StepError::Kind(TextKind::Expected)),
         },

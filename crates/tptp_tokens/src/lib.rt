@@ -2,9 +2,11 @@
 #![tactic(auto)]
 
 mod front;
+mod pool;
 mod symbols;
 mod tokens;
 mod words;
 
 pub use front::{read_variable, scan};
+pub use pool::Pool;
 pub use tokens::{BinaryOperator, ChainOperator, Quantifier, Scan, TextFault, TextKind, Token};

@@ -7,6 +7,7 @@ ghost use Rattle.tptp_tokens.specs.declared.tokens.Token.TheVariants.{Name, Vari
 ghost use Rattle.tptp_tokens.specs.declared.tokens.Scan.TheVariants.{Found};
 ghost use Rattle.tptp_tokens.specs.Lexer.{front_length, is_in_line, word_at, word_length, variable_of, defined, quoted, quoted_name, IsSized};
 
+use crate::pool::Pool;
 use crate::tokens::{Scan, TextKind, Token};
 use fol::{Text, Var, numbered};
 use std::alloc::{AllocError, Global};
@@ -48,36 +49,44 @@ pub fn line_length(rest: &[u8]) -> usize
 }
 
 // The word of this first byte, and its length.
-fn scan_word(alloc: Global, first: u8, rest: &[u8]) -> Result<(Vec<u8>, usize), AllocError>
-    ensures word { IfOk result (λ found. found.0.items ≡ word_at first rest.now) }
+fn scan_word(
+    alloc: Global,
+    pool: &mut Pool,
+    first: u8,
+    rest: &[u8],
+) -> Result<(Text, usize), AllocError>
+    ensures word { IfOk result (λ found. found.0 ≡ word_at first rest.now) }
     ensures length { IfOk result (λ found. found.1 ≡ word_length rest.now) }
     ensures bound { IfOk result (λ found. found.1 ≤ suc (length rest.now)) }
 {
     let count = word_bytes(rest);
-    let mut word = Vec::new(alloc);
-    word.push(first)?;
-    word.extend_from_slice(&rest[..count])?;
+    let word = pool.text(alloc, first, &rest[..count])?;
     Ok((word, count + 1))
 }
 
 /// The name that a lower word is.
-pub fn scan_name(alloc: Global, first: u8, rest: &[u8]) -> Result<Scan, AllocError>
+pub fn scan_name(alloc: Global, pool: &mut Pool, first: u8, rest: &[u8]) -> Result<Scan, AllocError>
     ensures value { IfOk result (λ s. s ≡ Found (Name (word_at first rest.now)) (word_length rest.now)) }
     ensures sized { IfOk result (λ s. IsSized s (suc (length rest.now))) }
 {
-    let (word, count) = scan_word(alloc, first, rest)?;
-    Ok(Scan::Found(Token::Name(Text::from_vec(alloc, word)?), count))
+    let (word, count) = scan_word(alloc, pool, first, rest)?;
+    Ok(Scan::Found(Token::Name(word), count))
 }
 
 /// The variable that a word with a capital letter is.
-pub fn scan_variable(alloc: Global, first: u8, rest: &[u8]) -> Result<Scan, AllocError>
+pub fn scan_variable(
+    alloc: Global,
+    pool: &mut Pool,
+    first: u8,
+    rest: &[u8],
+) -> Result<Scan, AllocError>
     ensures value { IfOk result (λ s. s ≡ Found (Variable (variable_of (word_at first rest.now) (number_of_text (word_at first rest.now)))) (word_length rest.now)) }
     ensures sized { IfOk result (λ s. IsSized s (suc (length rest.now))) }
 {
-    let (word, count) = scan_word(alloc, first, rest)?;
-    let variable = match numbered(&word) {
+    let (word, count) = scan_word(alloc, pool, first, rest)?;
+    let variable = match numbered(word.as_bytes()) {
         Some(number) => Var::Num(number),
-        None => Var::Word(Text::from_vec(alloc, word)?),
+        None => Var::Word(word),
     };
     Ok(Scan::Found(Token::Variable(variable), count))
 }
