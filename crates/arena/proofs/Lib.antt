@@ -5,6 +5,7 @@ pub mod Members
 pub mod SetLaws
 pub mod Shown
 pub mod VariableLaws
+pub mod Unions
 pub mod SideLaws
 pub mod Untouched
 pub mod PairLaws

@@ -63,6 +63,13 @@ impl Arena {
         self.cells.known();
     }
 
+    /// How many things there are.
+    pub fn len(&self) -> usize
+        ensures { result ≡ length self.now }
+    {
+        self.cells.len()
+    }
+
     /// The key of what stands at the number.
     pub fn key(&self, number: u32) -> &Key
         requires { number < length self.now }

@@ -8,9 +8,10 @@ ghost use Rattle.fol.specs.Order.{formula_cmp};
 ghost use Rattle.fol.specs.Formed.{is_formed, IsFormed};
 ghost use Rattle.finite.specs.Finite as set;
 ghost use Rattle.free_variables.specs.Union.{union_of};
+ghost use Rattle.free_variables.specs.Occurrence.{vars_formula};
 ghost use Rattle.substitution.specs.Image.{image as image_of};
 ghost use Rattle.lk_rules.specs.Formulas.{image_set, var_lists};
-ghost use Rattle.arena_cells.specs.Standing.{Stands, Extends, HasSide, HasVariables, formula_at, side_at, map_at, IsFormulaAt, IsSideAt, IsMapAt};
+ghost use Rattle.arena_cells.specs.Standing.{Stands, Extends, HasSide, HasVariables, formula_at, side_at, map_at, variables_at, IsFormulaAt, IsSideAt, IsMapAt, AreVariablesAt};
 ghost use Rattle.arena_cells.specs.Meaning.{formulas_of, AreRisingFormulas};
 ghost use Rattle.arena.specs.Tasks.{vars_side};
 
@@ -197,6 +198,21 @@ impl Arena {
         self.put_side(alloc, images)
     }
 
+    // The variables of a set, and those that are free in a formula.
+    #[tactic(auto, using(arena_cells::proofs::Facts::items, crate::proofs::Unions::kept_shut, crate::proofs::Unions::with_more))]
+    fn with_free_vars(&mut self, alloc: Global, vars: u32, formula: u32) -> Result<u32, AllocError>
+        requires vars { AreVariablesAt self.old vars }
+        requires formula { IsFormulaAt self.old formula }
+        ensures union { IfOk result (λ n. HasVariables self.new n (union_of (variables_at self.old vars) (vars_formula (formula_at self.old formula) set.empty))) }
+        ensures grown { Extends self.old self.new }
+    {
+        if !self.has_free(formula) {
+            return Ok(vars);
+        }
+        let more = self.free_vars(alloc, formula)?;
+        self.union_variables(alloc, vars, more)
+    }
+
     // The free variables of the formulas at the numbers.
     fn vars_of_each(&mut self, alloc: Global, numbers: &[u32]) -> Result<u32, AllocError>
         requires { All (IsFormulaAt self.old) numbers.now }
@@ -205,8 +221,7 @@ impl Arena {
     {
         let mut vars = self.no_variable(alloc)?;
         for number in numbers {
-            let more = self.free_vars(alloc, *number)?;
-            vars = self.union_variables(alloc, vars, more)?;
+            vars = self.with_free_vars(alloc, vars, *number)?;
         }
         Ok(vars)
     }

@@ -1,5 +1,5 @@
 //! Free variables, as sets of numbers.
-ghost use Rattle.std.specs.Prelude.{◌≡◌, not, ◌&&◌, ◌++◌, map, IfOk};
+ghost use Rattle.std.specs.Prelude.{◌≡◌, not, ◌&&◌, ◌++◌, map, IsTrue, IfOk, IfSome};
 ghost use Rattle.std.specs.Ordering.{eq_by_cmp};
 ghost use Rattle.fol.specs.declared.symbols.Var.{Var as Variable};
 ghost use Rattle.fol.specs.Order.{var_cmp};
@@ -56,7 +56,34 @@ impl Arena {
         finite::search(self.variable_numbers(number), &variable).is_ok()
     }
 
-    /// The variables of both sets.
+    // Whether the set has no variable.
+    fn is_without_variable(&self, number: u32) -> bool
+        requires { AreVariablesAt self.now number }
+        ensures { IsTrue result → variables_at self.now number ≡ set.empty }
+    {
+        self.variable_numbers(number).is_empty()
+    }
+
+    // That of two sets which has the variables of both, where one look shows it.
+    #[tactic(auto, using(crate::proofs::Unions::kept_both, crate::proofs::Unions::kept_first, crate::proofs::Unions::kept_second))]
+    fn larger_variables(&self, first: u32, second: u32) -> Option<u32>
+        requires first { AreVariablesAt self.now first }
+        requires second { AreVariablesAt self.now second }
+        ensures { IfSome result (λ n. HasVariables self.now n (union_of (variables_at self.now first) (variables_at self.now second))) }
+    {
+        if first == second {
+            return Some(first);
+        }
+        if self.is_without_variable(second) {
+            return Some(first);
+        }
+        if self.is_without_variable(first) {
+            return Some(second);
+        }
+        None
+    }
+
+    /// The variables of both sets. Where one set has none, or both are one set, it takes no walk.
     pub fn union_variables(
         &mut self,
         alloc: Global,
@@ -68,6 +95,9 @@ impl Arena {
         ensures union { IfOk result (λ n. HasVariables self.new n (union_of (variables_at self.old first) (variables_at self.old second))) }
         ensures grown { Extends self.old self.new }
     {
+        if let Some(larger) = self.larger_variables(first, second) {
+            return Ok(larger);
+        }
         let numbers = joined(
             alloc,
             self.variable_numbers(first),

@@ -1,4 +1,5 @@
 pub mod Trees
+pub mod Places
 pub mod Larger
 pub mod FormedEnds
 pub mod FormedImages

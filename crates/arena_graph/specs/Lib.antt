@@ -1,2 +1,3 @@
 pub mod FormedEnds
+pub mod Ranks
 pub mod ProofNumbers

@@ -10,6 +10,7 @@ ghost use Rattle.arena_cells.specs.Meaning.{trees_at, HasPremises, ArePartsBelow
 ghost use Rattle.arena_graph.specs.FormedEnds.{IsFormedSequent, HasFormedEnd, HaveFormedEnds};
 ghost use Rattle.arena_graph.specs.ProofNumbers.{AreNumbersOf};
 
+use crate::leaving::leaving_formulas;
 use crate::proof_numbers::ProofNumbers;
 use arena::{Arena, Parts};
 use arena_proofs::{end, export_rule, premises, rule};
@@ -143,22 +144,20 @@ fn export_below<R: Wait>(
     match premises {
         Parts::Zero => Ok(Vec::new(alloc)),
         Parts::One(only) => {
-            let only = export_proof(rt, alloc, graph, pass, arena, numbers, only)?;
+            let only = export_tree(rt, alloc, graph, pass, arena, numbers, only)?;
             one(alloc, only)
         }
         Parts::Two(first, second) => {
-            let first = export_proof(rt, alloc, graph, pass, arena, numbers, first)?;
-            let second = export_proof(rt, alloc, graph, pass, arena, numbers, second)?;
+            let first = export_tree(rt, alloc, graph, pass, arena, numbers, first)?;
+            let second = export_tree(rt, alloc, graph, pass, arena, numbers, second)?;
             two(alloc, first, second)
         }
     }
 }
 
-/// The reference in the graph of a valid tree whose end sequent has well-formed formulas, as then all its conclusions have. A tree that is
-/// known costs one look-up by its number. Else each distinct node of it that isn't known is interned, premises before conclusions; a node
-/// that the graph has keeps its number.
+// The reference of a tree: each distinct node of it that isn't known is interned, premises before conclusions.
 #[cycle(export)]
-pub fn export_proof<R: Wait>(
+fn export_tree<R: Wait>(
     rt: &R,
     alloc: Global,
     graph: &Graph,
@@ -184,4 +183,32 @@ pub fn export_proof<R: Wait>(
     let made = export_new(rt, alloc, graph, pass, arena, numbers, proof)?;
     numbers.note(graph, arena, &made, proof)?;
     Ok(made)
+}
+
+/// The reference in the graph of a valid tree whose end sequent has well-formed formulas, as then all its conclusions have. A tree that is
+/// known costs one look-up by its number. Else each distinct node of it that isn't known is interned, premises before conclusions; a node
+/// that the graph has keeps its number. The formulas that leave are put into order once, and each distinct side is made once.
+pub fn export_proof<R: Wait>(
+    rt: &R,
+    alloc: Global,
+    graph: &Graph,
+    pass: &mut GraphPass,
+    arena: &Arena,
+    numbers: &mut ProofNumbers,
+    proof: u32,
+) -> Result<ProofRef, AllocError>
+    requires pass_of { IsPassOf graph.now pass.old }
+    requires numbers { AreNumbersOf graph.now arena.now numbers.old }
+    requires there { IsTreeAt arena.now proof }
+    requires valid { IsValid (tree_at arena.now proof) }
+    requires formed { HasFormedEnd (tree_at arena.now proof) }
+    ensures tree { IfOk result (λ r. r.tree ≡ tree_at arena.now proof) }
+    ensures of { IfOk result (IsOf graph.now) }
+    ensures grown { IsPrefix (history pass.old) (history pass.new) }
+    ensures pass_stays { IsPassOf graph.now pass.new }
+    ensures numbers_stay { AreNumbersOf graph.now arena.now numbers.new }
+{
+    let formulas = leaving_formulas(alloc, arena, numbers, proof)?;
+    numbers.rank(alloc, graph, arena, &formulas)?;
+    export_tree(rt, alloc, graph, pass, arena, numbers, proof)
 }

@@ -1,10 +1,13 @@
 //! Proofs between a graph and an arena: a proof of the graph comes in with each distinct node put once, and a valid tree of the arena goes
-//! out with each distinct node interned once. What came in or went out before is found again by its number.
+//! out with each distinct node interned once, and its formulas put into order once. What came in or went out before is found again by its
+//! number.
 #![tactic(auto)]
 
 mod exports;
 mod imports;
+mod leaving;
 mod proof_numbers;
+mod ranks;
 
 pub use exports::export_proof;
 pub use imports::import_proof;

@@ -1,15 +1,16 @@
 //! Which proofs of a graph stand at which numbers of an arena.
 ghost use Rattle.std.specs.Prelude.{◌≡◌, true, List, IfOk, IfSome};
-ghost use Rattle.std.specs.List.{list_all};
+ghost use Rattle.std.specs.List.{All, list_all};
 ghost use Rattle.fol.specs.Formed.{is_formed};
 ghost use Rattle.finite.specs.Finite as set;
 ghost use Rattle.proof_graph.specs.declared.graph.Graph.{Graph as ProofGraph};
 ghost use Rattle.proof_graph.specs.Graphs.{IsOf};
 ghost use Rattle.arena_cells.specs.Items.{Item};
-ghost use Rattle.arena_cells.specs.Standing.{HasTree, side_at, IsSideAt};
+ghost use Rattle.arena_cells.specs.Standing.{HasTree, side_at, IsFormulaAt, IsSideAt};
 ghost use Rattle.arena_graph.specs.FormedEnds.{HasFormedEnd};
 ghost use Rattle.arena_graph.specs.ProofNumbers.{IsProofAt, AreNumbersOf};
 
+use crate::ranks::{Ranks, ranked};
 use arena::Arena;
 use lk_rules::Formulas;
 use proof_graph::{Graph, ProofRef};
@@ -24,13 +25,14 @@ pub(crate) struct Numbered {
 }
 
 /// Which proofs of a graph stand at which numbers of an arena: those that came in and those that went out. The sides of sequents that went
-/// out are kept as well.
+/// out are kept as well, and the order of the formulas that went out last.
 #[derive(Drop)]
 pub struct ProofNumbers {
     numbers: HashMap<u64, Numbered>,
     proofs: HashMap<u32, ProofRef>,
     // The sides that went out, so that equal ones share a list.
     sides: HashMap<u32, Formulas>,
+    ranks: Ranks,
 }
 
 impl ProofNumbers {
@@ -42,7 +44,35 @@ impl ProofNumbers {
             numbers: HashMap::new(alloc),
             proofs: HashMap::new(alloc),
             sides: HashMap::new(alloc),
+            ranks: Ranks::new(alloc),
         }
+    }
+
+    // Whether the proof whose tree stands at the number is known.
+    pub(crate) fn has_proof(&self, number: u32) -> bool {
+        self.proofs.contains_key(&number)
+    }
+
+    // Whether the side at the number went out.
+    pub(crate) fn has_side(&self, side: u32) -> bool {
+        self.sides.contains_key(&side)
+    }
+
+    // Finds the order of the formulas at the numbers, so that their sides go out without a comparison.
+    pub(crate) fn rank(
+        &mut self,
+        alloc: Global,
+        graph: &Graph,
+        arena: &Arena,
+        formulas: &[u32],
+    ) -> Result<(), AllocError>
+        requires numbers { AreNumbersOf graph.now arena.now self.old }
+        requires formulas { All (IsFormulaAt arena.now) formulas.now }
+        ensures { AreNumbersOf graph.now arena.now self.new }
+    {
+        let _graph = graph;
+        self.ranks = ranked(alloc, arena, formulas)?;
+        Ok(())
     }
 
     // The number of a proof's tree, where it is known.
@@ -87,7 +117,7 @@ impl ProofNumbers {
         if let Some(known) = self.sides.get(&side) {
             return known.copy();
         }
-        let made = arena.export_side(alloc, side)?;
+        let made = self.ranks.export_side(alloc, arena, side)?;
         self.sides.insert(side, made.copy()?)?;
         Ok(made)
     }

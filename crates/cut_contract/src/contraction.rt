@@ -5,20 +5,18 @@ ghost use Rattle.fol.specs.Syntax.{Formula as Sentence};
 ghost use Rattle.lk_rules.specs.declared.sequent.Sequent.{Sequent as Conclusion};
 ghost use Rattle.proof_trees.specs.Trees.{Tree as Proof, concl, IsValid};
 ghost use Rattle.proof_graph.specs.Graphs.{IsOf, history};
-ghost use Rattle.proof_subst.specs.Benches.{graph_of, pass_in, IsBenchPassOf};
+ghost use Rattle.proof_subst.specs.Benches.{graph_of, pass_in, arena_in, IsBenchPassOf};
 ghost use Rattle.contraction_laws.specs.Contraction.{cut as cut_tree, con};
 ghost use Rattle.arena_cells.specs.Standing.{Extends, HasTree, tree_at, IsTreeAt};
 ghost use Rattle.arena_graph.specs.FormedEnds.{HasFormedEnd};
-ghost use Rattle.arena_graph.specs.ProofNumbers.{AreNumbersOf};
 ghost use Rattle.cut_contract.specs.LowestCuts.{IsLowestCut, contracted};
 
 use arena::{Arena, Parts, RuleKey};
 use arena_cuts::{Steps, contract_in};
-use arena_graph::{ProofNumbers, export_proof, import_proof};
 use arena_proofs::{end, premises, rule};
 use contraction_laws::laws;
 use proof_graph::ProofRef;
-use proof_subst::{Bench, BenchPass};
+use proof_subst::{Bench, BenchPass, number_of, proof_at};
 use std::alloc::{AllocError, Global};
 use std::sync::Wait;
 use std::sync::ledger::Ledger;
@@ -41,25 +39,25 @@ fn contract_number(arena: &mut Arena, alloc: Global, cut: u32) -> Result<u32, Al
     contract_in(arena, alloc, end, formula, left, right)
 }
 
-// What takes the place of the cut that a proof ends with, in an arena.
-#[tactic(auto, using(arena_graph::proofs::Larger::numbers_stay))]
+// What takes the place of the cut that a proof ends with, in the arena of the pass.
+#[tactic(auto, using(proof_subst::proofs::Passes::pass_stays))]
 fn contract_tree(
-    arena: &mut Arena,
     alloc: Global,
     bench: &Bench,
-    numbers: &mut ProofNumbers,
+    pass: &mut BenchPass,
     proof: &ProofRef,
 ) -> Result<u32, AllocError>
+    requires pass_of { IsBenchPassOf bench.now pass.old }
     requires of { IsOf (graph_of bench.now) proof.now }
-    requires numbers { AreNumbersOf (graph_of bench.now) arena.old numbers.old }
     requires cut { IsLowestCut proof.now.tree }
-    ensures tree { IfOk result (λ n. HasTree arena.new n (contracted proof.now.tree)) }
+    ensures tree { IfOk result (λ n. HasTree (arena_in pass.new) n (contracted proof.now.tree)) }
     ensures formed { IfOk result (λ _. HasFormedEnd proof.now.tree) }
-    ensures numbers_stay { AreNumbersOf (graph_of bench.now) arena.new numbers.new }
+    ensures graph_stays { pass_in pass.new ≡ pass_in pass.old }
+    ensures pass_stays { IsBenchPassOf bench.now pass.new }
 {
     proof.known();
-    let number = import_proof(arena, alloc, bench.graph(), numbers, proof)?;
-    contract_number(arena, alloc, number)
+    let number = number_of(alloc, bench, pass, proof)?;
+    contract_number(Bench::arena(pass), alloc, number)
 }
 
 /// The contraction of a cut whose premises have no cut, after Gentzen (1935): cuts that stand higher or are on smaller formulas take its
@@ -85,9 +83,6 @@ pub fn contract<R: Wait, L: Ledger>(
     steps.tick();
     laws::contraction();
     proof.known();
-    let mut arena = Arena::new(alloc);
-    let mut numbers = ProofNumbers::new(alloc);
-    let number = contract_tree(&mut arena, alloc, bench, &mut numbers, proof)?;
-    let (graph, pass) = (bench.graph(), Bench::graph_pass(pass));
-    export_proof(rt, alloc, graph, pass, &arena, &mut numbers, number)
+    let number = contract_tree(alloc, bench, pass, proof)?;
+    proof_at(rt, alloc, bench, pass, number)
 }

@@ -8,6 +8,7 @@ ghost use Rattle.free_variables.specs.Union.{union_of};
 ghost use Rattle.substitution.specs.Image.{IsFormedMap};
 ghost use Rattle.lk_rules.specs.Formulas.{same_formulas, same_formulas_equiv, image_set, var_lists};
 ghost use Rattle.fol.specs.Formed.{IsFormed};
+ghost use Rattle.fol.specs.Order.{formula_cmp};
 ghost use Rattle.lk_rules.specs.Items.{list_fingerprint};
 ghost use Rattle.free_variables.specs.Occurrence.{is_free_in};
 
@@ -56,6 +57,16 @@ impl Formulas {
     {
         let mut items = items;
         rising::sort_distinct(&mut items);
+        let items = Items::from_vec(alloc, items)?;
+        Ok(Formulas { items })
+    }
+
+    /// The set of the formulas of a rising list, which are neither compared nor copied.
+    pub fn from_rising(alloc: Global, items: Vec<Formula>) -> Result<Formulas, AllocError>
+        requires rises { set.IsRising formula_cmp items.items }
+        requires formed { All IsFormed items.items }
+        ensures { IfOk result (λ formulas. set.listing formulas ≡ items.items) }
+    {
         let items = Items::from_vec(alloc, items)?;
         Ok(Formulas { items })
     }

@@ -1,8 +1,8 @@
 //! What the transformations of proofs work on.
 ghost use Rattle.std.specs.Prelude.{◌≡◌, IfOk};
 ghost use Rattle.std.specs.Borrow.{sem};
-ghost use Rattle.proof_subst.specs.Benches.{graph_of, pass_in, IsBenchPassOf};
-ghost use Rattle.proof_subst.specs.Lending.{LendsGraphPass};
+ghost use Rattle.proof_subst.specs.Benches.{graph_of, pass_in, arena_in, IsBenchPassOf};
+ghost use Rattle.proof_subst.specs.Lending.{LendsGraphPass, LendsArena};
 
 use arena::Arena;
 use arena_graph::ProofNumbers;
@@ -15,8 +15,8 @@ pub struct Bench {
     graph: Graph,
 }
 
-/// What is needed to put proofs into a bench. It keeps an arena with the proofs that maps were carried through, and what was found of them
-/// on the way: their free variables, and their images under maps.
+/// What is needed to put proofs into a bench. It keeps an arena in which proofs are transformed, with those that came in from the graph or
+/// went out to it, and what was found of them on the way: their free variables, and their images under maps.
 #[derive(Drop)]
 pub struct BenchPass {
     pub(crate) graph: GraphPass,
@@ -51,5 +51,13 @@ impl Bench {
         ensures value { result.now ≡ pass_in pass.old }
     {
         &mut pass.graph
+    }
+
+    /// The arena of the pass. Things may be put into it; what stands in it stays.
+    pub fn arena(pass: &mut BenchPass) -> &mut Arena
+        ensures* writes_back { sem 𝓛 (LendsArena pass.entry result) }
+        ensures value { result.now ≡ arena_in pass.old }
+    {
+        &mut pass.arena
     }
 }

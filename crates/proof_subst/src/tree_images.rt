@@ -11,39 +11,15 @@ ghost use Rattle.proof_trees.specs.FreeVariables.{is_free_in_tree};
 ghost use Rattle.proof_trees.specs.Substitution.{sub};
 ghost use Rattle.proof_graph.specs.Graphs.{IsOf, history};
 ghost use Rattle.arena_cells.specs.Standing.{Extends, HasTree, tree_at, IsTreeAt};
-ghost use Rattle.arena_graph.specs.FormedEnds.{HasFormedEnd};
-ghost use Rattle.proof_subst.specs.Benches.{graph_of, pass_in, IsBenchPassOf};
+ghost use Rattle.proof_subst.specs.Benches.{graph_of, pass_in, arena_in, IsBenchPassOf};
 
 use crate::bench::{Bench, BenchPass};
-use arena_graph::{export_proof, import_proof};
+use crate::numbers::{number_of, proof_at};
 use arena_subst::substitute_in;
 use proof_graph::ProofRef;
 use std::alloc::{AllocError, Global};
 use std::sync::Wait;
 use substitution::Subst;
-
-// The number of a proof's tree in the arena.
-fn number_of(
-    alloc: Global,
-    bench: &Bench,
-    pass: &mut BenchPass,
-    proof: &ProofRef,
-) -> Result<u32, AllocError>
-    requires pass_of { IsBenchPassOf bench.now pass.old }
-    requires of { IsOf (graph_of bench.now) proof.now }
-    ensures tree { IfOk result (λ n. HasTree pass.new.arena n proof.now.tree) }
-    ensures formed { IfOk result (λ _. HasFormedEnd proof.now.tree) }
-    ensures graph_stays { pass_in pass.new ≡ pass_in pass.old }
-    ensures pass_stays { IsBenchPassOf bench.now pass.new }
-{
-    import_proof(
-        &mut pass.arena,
-        alloc,
-        bench.graph(),
-        &mut pass.numbers,
-        proof,
-    )
-}
 
 // The number of the tree under the map.
 fn image_of(
@@ -54,44 +30,16 @@ fn image_of(
     map: &Subst,
 ) -> Result<u32, AllocError>
     requires pass_of { IsBenchPassOf bench.now pass.old }
-    requires there { IsTreeAt pass.old.arena number }
-    requires valid { IsValid (tree_at pass.old.arena number) }
-    ensures tree { IfOk result (λ n. HasTree pass.new.arena n (sub (tree_at pass.old.arena number) map.now)) }
-    ensures arena { Extends pass.old.arena pass.new.arena }
+    requires there { IsTreeAt (arena_in pass.old) number }
+    requires valid { IsValid (tree_at (arena_in pass.old) number) }
+    ensures tree { IfOk result (λ n. HasTree (arena_in pass.new) n (sub (tree_at (arena_in pass.old) number) map.now)) }
+    ensures arena { Extends (arena_in pass.old) (arena_in pass.new) }
     ensures graph_stays { pass_in pass.new ≡ pass_in pass.old }
     ensures pass_stays { IsBenchPassOf bench.now pass.new }
 {
     let _bench = bench;
     let map = pass.arena.import_map(alloc, map)?;
     substitute_in(&mut pass.arena, alloc, number, map)
-}
-
-// The reference of the tree at a number.
-fn proof_at<R: Wait>(
-    rt: &R,
-    alloc: Global,
-    bench: &Bench,
-    pass: &mut BenchPass,
-    number: u32,
-) -> Result<ProofRef, AllocError>
-    requires pass_of { IsBenchPassOf bench.now pass.old }
-    requires there { IsTreeAt pass.old.arena number }
-    requires valid { IsValid (tree_at pass.old.arena number) }
-    requires formed { HasFormedEnd (tree_at pass.old.arena number) }
-    ensures tree { IfOk result (λ r. r.tree ≡ tree_at pass.old.arena number) }
-    ensures of { IfOk result (IsOf (graph_of bench.now)) }
-    ensures grown { IsPrefix (history (pass_in pass.old)) (history (pass_in pass.new)) }
-    ensures pass_stays { IsBenchPassOf bench.now pass.new }
-{
-    export_proof(
-        rt,
-        alloc,
-        bench.graph(),
-        &mut pass.graph,
-        &pass.arena,
-        &mut pass.numbers,
-        number,
-    )
 }
 
 /// The tree of a proof under a map from variables to well-formed terms: in each conclusion, and in what the rules name, the variables that

@@ -1,24 +1,67 @@
 //! The proof that a refutation stands for.
-ghost use Rattle.std.specs.Prelude.{◌≡◌, ◌≢◌, IfOk, IfErr};
+ghost use Rattle.std.specs.Prelude.{◌≡◌, ◌≢◌, Ok, IfOk, IfErr};
 ghost use Rattle.std.specs.List.{All};
 ghost use mathlib.Core.List.{IsPrefix};
+ghost use Rattle.fol.specs.Formed.{IsFormed};
 ghost use Rattle.proof_trees.specs.Trees.{concl, IsValid};
 ghost use Rattle.proof_graph.specs.Graphs.{IsOf, history};
-ghost use Rattle.proof_subst.specs.Benches.{graph_of, pass_in, IsBenchPassOf};
-ghost use Rattle.refutations.specs.Clauses.{IsClauseOf, closures};
+ghost use Rattle.arena_cells.specs.Standing.{tree_at, IsTreeAt};
+ghost use Rattle.proof_subst.specs.Benches.{graph_of, pass_in, arena_in, IsBenchPassOf};
+ghost use Rattle.refutations.specs.Clauses.{IsClauseOf, closure_of, closures};
 ghost use Rattle.refutations.specs.Refutations.{refutation, AreFormedSteps};
-ghost use Rattle.resolution_import.specs.Importing.{Imports};
+ghost use Rattle.resolution_import.specs.Importing.{IsRefuted, Refutes, Imports};
 
 use crate::clauses::clauses_of_refutation;
 use crate::faults::ImportFault;
 use crate::proving::prove_last;
-use arena::Arena;
-use arena_graph::{ProofNumbers, export_proof};
 use proof_graph::ProofRef;
-use proof_subst::{Bench, BenchPass};
+use proof_subst::{Bench, BenchPass, make_room, proof_at};
 use refutations::{Clause, ResStep, laws};
-use std::alloc::Global;
+use std::alloc::{AllocError, Global};
 use std::sync::Wait;
+
+// The clauses of all steps, in the arena of the pass, or the first faulty step.
+#[tactic(auto, using(proof_subst::proofs::Passes::pass_stays))]
+fn find_clauses(
+    alloc: Global,
+    bench: &Bench,
+    pass: &mut BenchPass,
+    clauses: &[Clause],
+    steps: &[ResStep],
+) -> Result<Vec<u32>, ImportFault>
+    requires pass_of { IsBenchPassOf bench.now pass.old }
+    requires clauses { All IsClauseOf clauses.now }
+    ensures value { Refutes (λ ns. ns.items) (arena_in pass.new) result clauses.now steps.now }
+    ensures graph_stays { pass_in pass.new ≡ pass_in pass.old }
+    ensures pass_stays { IsBenchPassOf bench.now pass.new }
+{
+    let _bench = bench;
+    clauses_of_refutation(Bench::arena(pass), alloc, clauses, steps)
+}
+
+// The tree of the proof, in the arena of the pass, whose steps derive these clauses.
+#[tactic(auto, using(proof_subst::proofs::Passes::pass_stays))]
+fn find_proof(
+    alloc: Global,
+    bench: &Bench,
+    pass: &mut BenchPass,
+    clauses: &[Clause],
+    steps: &[ResStep],
+    found: &[u32],
+) -> Result<u32, AllocError>
+    requires pass_of { IsBenchPassOf bench.now pass.old }
+    requires clauses { All IsClauseOf clauses.now }
+    requires steps { AreFormedSteps steps.now }
+    requires found { IsRefuted (arena_in pass.old) clauses.now steps.now found.now }
+    ensures tree { IfOk result (λ n. refutation clauses.now steps.now ≡ Ok (tree_at (arena_in pass.new) n)) }
+    ensures there { IfOk result (IsTreeAt (arena_in pass.new)) }
+    ensures formed { IfOk result (λ _. All (λ c. IsFormed (closure_of c)) clauses.now) }
+    ensures graph_stays { pass_in pass.new ≡ pass_in pass.old }
+    ensures pass_stays { IsBenchPassOf bench.now pass.new }
+{
+    let _bench = bench;
+    prove_last(Bench::arena(pass), alloc, clauses, steps, found)
+}
 
 /// The proof in LK that a resolution refutation of these clauses stands for: its end sequent has the closures of the clauses on the left
 /// and nothing on the right. An input clause is proved from its closure, a step under a map by substitution in the proof, and a resolution
@@ -49,10 +92,8 @@ pub fn import<R: Wait>(
 {
     laws::refutations();
     laws::valid_refutations();
-    let mut arena = Arena::new(alloc);
-    let found = clauses_of_refutation(&mut arena, alloc, clauses, steps)?;
-    let last = prove_last(&mut arena, alloc, clauses, steps, &found)?;
-    let mut numbers = ProofNumbers::new(alloc);
-    let (graph, pass) = (bench.graph(), Bench::graph_pass(pass));
-    Ok(export_proof(rt, alloc, graph, pass, &arena, &mut numbers, last)?)
+    make_room(alloc, bench, pass);
+    let found = find_clauses(alloc, bench, pass, clauses, steps)?;
+    let last = find_proof(alloc, bench, pass, clauses, steps, &found)?;
+    Ok(proof_at(rt, alloc, bench, pass, last)?)
 }

@@ -5,7 +5,7 @@ use Rattle.arena_graph.specs.FormedEnds.{IsFormedSequent}
 use Rattle.resolution_import.proofs.Closings.{closures_formed}
 use Rattle.resolution_import.proofs.importing.import.Goals as goal
 
-pub export_proof-requires-clause-formed : goal.export_proof-requires-clause-formed
-export_proof-requires-clause-formed g c =
+pub proof_at-requires-clause-formed : goal.proof_at-requires-clause-formed
+proof_at-requires-clause-formed g c =
     subst (λ (s : Sequent). IsFormedSequent s) (sym (c.refutations.ensures.end c.args.clauses.now c.args.steps.now _ c.requires.clauses c.requires.steps c.in_ok-last.ensures.tree))
     (closures_formed c.args.clauses.now c.in_ok-last.ensures.formed)

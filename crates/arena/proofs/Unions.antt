@@ -1,0 +1,61 @@
+-- Unions of sets of variables of which one has all.
+use Rattle.std.proofs.Common.{◌≡◌, ℕ, Bool, true, false, ◌||◌, List, refl, sym, ap, ◌∙◌}
+use Rattle.std.specs.Prelude.{Some}
+use Rattle.fol.specs.Order.{var_cmp}
+use Rattle.fol.specs.OrderLaws.{var_total}
+use Rattle.fol.proofs.OrderTies.{var_ties}
+use Rattle.finite.specs.Finite as set
+use Rattle.finite.proofs.Finite.{has-empty, same_members}
+use Rattle.free_variables.specs.Sets.{VarSet}
+use Rattle.free_variables.specs.Union.{union_of}
+use Rattle.free_variables.specs.Occurrence.{vars_formula}
+use Rattle.arena_cells.specs.Items.{Item, variables}
+use Rattle.arena_cells.specs.ItemFacts.{is_open_item}
+use Rattle.arena_cells.specs.Standing.{Extends, HasVariables, item_at, formula_at, variables_at, IsFormulaAt, AreVariablesAt}
+use Rattle.arena_cells.proofs.Facts.{formula_item}
+use Rattle.arena_cells.proofs.Staying.{are_variables}
+use Rattle.arena.specs.Tasks.{vars_item}
+use Rattle.arena.proofs.Members.{has-union}
+use Rattle.arena.proofs.Untouched.{shut_vars}
+
+or_same : (b : Bool) → (b || b) ≡ b
+or_same true = refl
+or_same false = refl
+
+or_false : (b : Bool) → (b || false) ≡ b
+or_false true = refl
+or_false false = refl
+
+union_same : (s : VarSet) → union_of s s ≡ s
+union_same s = same_members var_total var_ties _ _ (λ v. has-union var_total s s v ∙ or_same (set.has s v))
+
+union_none : (s t : VarSet) → t ≡ set.empty → union_of s t ≡ s
+union_none s t e =
+    same_members var_total var_ties _ _ (λ v.
+    has-union var_total s t v ∙ ap (λ u. set.has s v || set.has u v) e ∙ ap (λ b. set.has s v || b) (has-empty var_cmp v) ∙ or_false (set.has s v))
+
+none_union : (s t : VarSet) → s ≡ set.empty → union_of s t ≡ t
+none_union s t e =
+    same_members var_total var_ties _ _ (λ v.
+    has-union var_total s t v ∙ ap (λ u. set.has u v || set.has t v) e ∙ ap (λ b. b || set.has t v) (has-empty var_cmp v))
+
+module _ (a : List Item) where
+  pub kept_both : (m n : ℕ) → AreVariablesAt a m → m ≡ n → HasVariables a m (union_of (variables_at a m) (variables_at a n))
+  kept_both m n h e = h ∙ ap (λ s. Some (variables s)) (sym (union_same (variables_at a m)) ∙ ap (λ (k : ℕ). union_of (variables_at a m) (variables_at a k)) e)
+
+  pub kept_first : (m n : ℕ) → AreVariablesAt a m → variables_at a n ≡ set.empty → HasVariables a m (union_of (variables_at a m) (variables_at a n))
+  kept_first m n h e = h ∙ ap (λ s. Some (variables s)) (sym (union_none _ _ e))
+
+  pub kept_second : (m n : ℕ) → AreVariablesAt a n → variables_at a m ≡ set.empty → HasVariables a n (union_of (variables_at a m) (variables_at a n))
+  kept_second m n h e = h ∙ ap (λ s. Some (variables s)) (sym (none_union _ _ e))
+
+  -- a formula in which no variable is free adds none
+  pub kept_shut : (m n : ℕ) → AreVariablesAt a m → IsFormulaAt a n → is_open_item (item_at a n) ≡ false → HasVariables a m (union_of (variables_at a m) (vars_formula (formula_at a n) set.empty))
+  kept_shut m n h there closed =
+      let none : vars_formula (formula_at a n) set.empty ≡ set.empty = ap vars_item (sym (formula_item a n there)) ∙ shut_vars (item_at a n) closed in
+      h ∙ ap (λ s. Some (variables s)) (sym (union_none _ _ none))
+
+-- the union, where the second set was found later
+pub with_more : (a b c : List Item) (m k n : ℕ) (t : VarSet) → Extends a b → AreVariablesAt a m → HasVariables b k t → HasVariables c n (union_of (variables_at b m) (variables_at b k)) → HasVariables c n (union_of (variables_at a m) t)
+with_more a b c m k n t grown h more both =
+    both ∙ λ i. Some (variables (union_of (are_variables b m _ (grown m _ h) i) (are_variables b k t more i)))

@@ -1,0 +1,11 @@
+-- Tables with nothing in them say nothing.
+use Rattle.std.proofs.Common.{rules}
+use Rattle.arena_graph.proofs.proof_numbers.ProofNumbers.new.Goals as goal
+
+pub returns : goal.returns
+returns c = λ g a. record {
+  numbers = search rules;
+  proofs = search rules;
+  sides = search rules;
+  ranks = c.new-4.ensures a;
+}

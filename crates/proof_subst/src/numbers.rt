@@ -1,0 +1,85 @@
+//! Proofs by the numbers of their trees in the arena of a pass.
+ghost use Rattle.std.specs.Prelude.{◌≡◌, IfOk};
+ghost use mathlib.Core.List.{IsPrefix};
+ghost use Rattle.proof_trees.specs.Trees.{IsValid};
+ghost use Rattle.proof_graph.specs.Graphs.{IsOf, history};
+ghost use Rattle.arena_cells.specs.Standing.{HasTree, tree_at, IsTreeAt};
+ghost use Rattle.arena_graph.specs.FormedEnds.{HasFormedEnd};
+ghost use Rattle.proof_subst.specs.Benches.{graph_of, pass_in, arena_in, IsBenchPassOf};
+
+use crate::bench::{Bench, BenchPass};
+use arena::Arena;
+use arena_graph::{ProofNumbers, export_proof, import_proof};
+use proof_graph::ProofRef;
+use std::alloc::{AllocError, Global};
+use std::sync::Wait;
+
+// The most things that an arena may have when a transformation begins: they take some 30 megabytes.
+const MOST_KEPT: usize = 262144;
+
+/// Gives up the arena of a pass that has come to hold many things: what a transformation leaves behind is found again by later ones, but
+/// takes bounded room.
+pub fn make_room(alloc: Global, bench: &Bench, pass: &mut BenchPass)
+    requires { IsBenchPassOf bench.now pass.old }
+    ensures graph_stays { pass_in pass.new ≡ pass_in pass.old }
+    ensures pass_stays { IsBenchPassOf bench.now pass.new }
+{
+    let _bench = bench;
+    if pass.arena.len() > MOST_KEPT {
+        pass.numbers = ProofNumbers::new(alloc);
+        pass.arena = Arena::new(alloc);
+    }
+}
+
+/// The number of a proof's tree in the arena of the pass: a transformation begins with it. A proof that came in or went out before costs one
+/// look-up, unless its arena was given up.
+pub fn number_of(
+    alloc: Global,
+    bench: &Bench,
+    pass: &mut BenchPass,
+    proof: &ProofRef,
+) -> Result<u32, AllocError>
+    requires pass_of { IsBenchPassOf bench.now pass.old }
+    requires of { IsOf (graph_of bench.now) proof.now }
+    ensures tree { IfOk result (λ n. HasTree (arena_in pass.new) n proof.now.tree) }
+    ensures formed { IfOk result (λ _. HasFormedEnd proof.now.tree) }
+    ensures graph_stays { pass_in pass.new ≡ pass_in pass.old }
+    ensures pass_stays { IsBenchPassOf bench.now pass.new }
+{
+    make_room(alloc, bench, pass);
+    import_proof(
+        &mut pass.arena,
+        alloc,
+        bench.graph(),
+        &mut pass.numbers,
+        proof,
+    )
+}
+
+/// The reference in the graph of a valid tree in the arena of the pass, whose end sequent has well-formed formulas.
+pub fn proof_at<R: Wait>(
+    rt: &R,
+    alloc: Global,
+    bench: &Bench,
+    pass: &mut BenchPass,
+    number: u32,
+) -> Result<ProofRef, AllocError>
+    requires pass_of { IsBenchPassOf bench.now pass.old }
+    requires there { IsTreeAt (arena_in pass.old) number }
+    requires valid { IsValid (tree_at (arena_in pass.old) number) }
+    requires formed { HasFormedEnd (tree_at (arena_in pass.old) number) }
+    ensures tree { IfOk result (λ r. r.tree ≡ tree_at (arena_in pass.old) number) }
+    ensures of { IfOk result (IsOf (graph_of bench.now)) }
+    ensures grown { IsPrefix (history (pass_in pass.old)) (history (pass_in pass.new)) }
+    ensures pass_stays { IsBenchPassOf bench.now pass.new }
+{
+    export_proof(
+        rt,
+        alloc,
+        bench.graph(),
+        &mut pass.graph,
+        &pass.arena,
+        &mut pass.numbers,
+        number,
+    )
+}
