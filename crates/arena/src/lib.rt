@@ -12,6 +12,7 @@ mod same_tasks;
 mod sequents;
 mod sides;
 mod task;
+mod unfoldings;
 mod variables;
 
 pub use arena::Arena;

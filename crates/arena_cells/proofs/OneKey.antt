@@ -22,7 +22,7 @@ use Rattle.lk_rules.specs.declared.rule.Rule.{Rule}
 use Rattle.lk_rules.specs.declared.rule.Rule.TheVariants as rule
 use Rattle.proof_trees.specs.Trees.{node, Trees, none, more}
 use Rattle.arena_cells.specs.declared.key.RuleKey.{RuleKey}
-use Rattle.arena_cells.specs.declared.key.RuleKey.TheVariants.{Ax, TopR, BotL, NegL, NegR, AndL, AndR, OrL, OrR, ImpL, ImpR, AllL, AllR, ExL, ExR, Cut, Weak}
+use Rattle.arena_cells.specs.declared.key.RuleKey.TheVariants.{Ax, TopR, BotL, NegL, NegR, AndL, AndR, OrL, OrR, ImpL, ImpR, AllL, AllR, ExL, ExR, DefL, DefR, Cut, Weak}
 use Rattle.arena_cells.specs.declared.key.Parts.{Parts}
 use Rattle.arena_cells.specs.declared.key.Parts.TheVariants.{Zero, One, Two}
 use Rattle.arena_cells.specs.declared.key.Key.{Key}
@@ -51,6 +51,8 @@ NamesRule a (rule.AllL f t) q = (m : ℕ) × (n : ℕ) × (q ≡ AllL m n) × Ha
 NamesRule a (rule.AllR f y) q = (m : ℕ) × (n : ℕ) × (q ≡ AllR m n) × HasFormula a m f × HasVariable a n y
 NamesRule a (rule.ExL f y) q = (m : ℕ) × (n : ℕ) × (q ≡ ExL m n) × HasFormula a m f × HasVariable a n y
 NamesRule a (rule.ExR f t) q = (m : ℕ) × (n : ℕ) × (q ≡ ExR m n) × HasFormula a m f × HasTerm a n t
+NamesRule a (rule.DefL f) q = (m : ℕ) × (q ≡ DefL m) × HasFormula a m f
+NamesRule a (rule.DefR f) q = (m : ℕ) × (q ≡ DefR m) × HasFormula a m f
 NamesRule a (rule.Cut f) q = (m : ℕ) × (q ≡ Cut m) × HasFormula a m f
 NamesRule a rule.Weak q = q ≡ Weak
 
@@ -110,6 +112,8 @@ rule_named a (AllL f t) h = (f, t, refl, h.0, h.1)
 rule_named a (AllR f y) h = (f, y, refl, h.0, h.1)
 rule_named a (ExL f y) h = (f, y, refl, h.0, h.1)
 rule_named a (ExR f t) h = (f, t, refl, h.0, h.1)
+rule_named a (DefL f) h = (f, refl, h)
+rule_named a (DefR f) h = (f, refl, h)
 rule_named a (Cut f) h = (f, refl, h)
 rule_named a Weak h = refl
 
@@ -174,6 +178,8 @@ module _ (a : List Item) (distinct : IsDistinct a) where
   one_rule (rule.AllR f v) q p x y = by_two AllR q p x.0 y.0 x.1 y.1 _ _ x.2 x.3 x.4 y.2 y.3 y.4
   one_rule (rule.ExL f v) q p x y = by_two ExL q p x.0 y.0 x.1 y.1 _ _ x.2 x.3 x.4 y.2 y.3 y.4
   one_rule (rule.ExR f t) q p x y = by_two ExR q p x.0 y.0 x.1 y.1 _ _ x.2 x.3 x.4 y.2 y.3 y.4
+  one_rule (rule.DefL f) q p x y = by_one DefL q p x.0 y.0 _ x.1 x.2 y.1 y.2
+  one_rule (rule.DefR f) q p x y = by_one DefR q p x.0 y.0 _ x.1 x.2 y.1 y.2
   one_rule (rule.Cut f) q p x y = by_one Cut q p x.0 y.0 _ x.1 x.2 y.1 y.2
   one_rule rule.Weak q p x y = x ∙ sym y
 

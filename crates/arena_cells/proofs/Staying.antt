@@ -17,7 +17,7 @@ use Rattle.lk_rules.specs.Formulas.{FormulaSet}
 use Rattle.lk_rules.specs.declared.sequent.Sequent.{Sequent as Conclusion}
 use Rattle.proof_trees.specs.Trees.{Tree as Proof, node, none, more}
 use Rattle.arena_cells.specs.declared.key.RuleKey.{RuleKey}
-use Rattle.arena_cells.specs.declared.key.RuleKey.TheVariants.{Ax, TopR, BotL, NegL, NegR, AndL, AndR, OrL, OrR, ImpL, ImpR, AllL, AllR, ExL, ExR, Cut, Weak}
+use Rattle.arena_cells.specs.declared.key.RuleKey.TheVariants.{Ax, TopR, BotL, NegL, NegR, AndL, AndR, OrL, OrR, ImpL, ImpR, AllL, AllR, ExL, ExR, DefL, DefR, Cut, Weak}
 use Rattle.arena_cells.specs.declared.key.Parts.{Parts}
 use Rattle.arena_cells.specs.declared.key.Parts.TheVariants.{Zero, One, Two}
 use Rattle.arena_cells.specs.declared.key.Key.{Key}
@@ -110,6 +110,8 @@ module _ (a b : List Item) (grown : Extends a b) where
   rule_stays (AllR f y) h = λ i. rule.AllR (formula_stays f h.0 i) (variable_stays y h.1 i)
   rule_stays (ExL f y) h = λ i. rule.ExL (formula_stays f h.0 i) (variable_stays y h.1 i)
   rule_stays (ExR f t) h = λ i. rule.ExR (formula_stays f h.0 i) (term_stays t h.1 i)
+  rule_stays (DefL f) h = ap rule.DefL (formula_stays f h)
+  rule_stays (DefR f) h = ap rule.DefR (formula_stays f h)
   rule_stays (Cut f) h = ap rule.Cut (formula_stays f h)
   rule_stays Weak h = refl
 
@@ -192,6 +194,8 @@ module _ (a b : List Item) (grown : Extends a b) where
   rule_parts_there (AllR f y) h = (formula_there f h.0, variable_there y h.1)
   rule_parts_there (ExL f y) h = (formula_there f h.0, variable_there y h.1)
   rule_parts_there (ExR f t) h = (formula_there f h.0, term_there t h.1)
+  rule_parts_there (DefL f) h = formula_there f h
+  rule_parts_there (DefR f) h = formula_there f h
   rule_parts_there (Cut f) h = formula_there f h
   rule_parts_there Weak h = tt
 

@@ -7,7 +7,7 @@ use Rattle.fol.specs.Mixing.{mixed}
 use Rattle.fol.specs.Facts.{sym_fingerprint, var_fingerprint}
 use Rattle.arena_cells.specs.Codes.{same_by}
 use Rattle.arena_cells.specs.declared.key.RuleKey.{RuleKey}
-use Rattle.arena_cells.specs.declared.key.RuleKey.TheVariants.{Ax, TopR, BotL, NegL, NegR, AndL, AndR, OrL, OrR, ImpL, ImpR, AllL, AllR, ExL, ExR, Cut, Weak}
+use Rattle.arena_cells.specs.declared.key.RuleKey.TheVariants.{Ax, TopR, BotL, NegL, NegR, AndL, AndR, OrL, OrR, ImpL, ImpR, AllL, AllR, ExL, ExR, DefL, DefR, Cut, Weak}
 use Rattle.arena_cells.specs.declared.key.Parts.{Parts}
 use Rattle.arena_cells.specs.declared.key.Parts.TheVariants.{Zero, One, Two}
 use Rattle.arena_cells.specs.declared.key.Key.{Key}
@@ -40,8 +40,10 @@ rule_fingerprint (AllL f t) = short_fingerprint 11 f t
 rule_fingerprint (AllR f y) = short_fingerprint 12 f y
 rule_fingerprint (ExL f y) = short_fingerprint 13 f y
 rule_fingerprint (ExR f t) = short_fingerprint 14 f t
-rule_fingerprint (Cut f) = short_fingerprint 15 f 0
-rule_fingerprint Weak = short_fingerprint 16 0 0
+rule_fingerprint (DefL f) = short_fingerprint 15 f 0
+rule_fingerprint (DefR f) = short_fingerprint 16 f 0
+rule_fingerprint (Cut f) = short_fingerprint 17 f 0
+rule_fingerprint Weak = short_fingerprint 18 0 0
 
 unfoldable pub parts_fingerprint : Parts → ℕ
 parts_fingerprint Zero = 0

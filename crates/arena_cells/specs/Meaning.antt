@@ -17,7 +17,7 @@ use Rattle.lk_rules.specs.declared.rule.Rule.TheVariants as rule
 use Rattle.lk_rules.specs.Formulas.{FormulaSet}
 use Rattle.proof_trees.specs.Trees.{node, Trees, none, more}
 use Rattle.arena_cells.specs.declared.key.RuleKey.{RuleKey}
-use Rattle.arena_cells.specs.declared.key.RuleKey.TheVariants.{Ax, TopR, BotL, NegL, NegR, AndL, AndR, OrL, OrR, ImpL, ImpR, AllL, AllR, ExL, ExR, Cut, Weak}
+use Rattle.arena_cells.specs.declared.key.RuleKey.TheVariants.{Ax, TopR, BotL, NegL, NegR, AndL, AndR, OrL, OrR, ImpL, ImpR, AllL, AllR, ExL, ExR, DefL, DefR, Cut, Weak}
 use Rattle.arena_cells.specs.declared.key.Parts.{Parts}
 use Rattle.arena_cells.specs.declared.key.Parts.TheVariants.{Zero, One, Two}
 use Rattle.arena_cells.specs.declared.key.Key.{Key}
@@ -42,6 +42,8 @@ rule_at a (AllL f t) = rule.AllL (formula_at a f) (term_at a t)
 rule_at a (AllR f y) = rule.AllR (formula_at a f) (variable_at a y)
 rule_at a (ExL f y) = rule.ExL (formula_at a f) (variable_at a y)
 rule_at a (ExR f t) = rule.ExR (formula_at a f) (term_at a t)
+rule_at a (DefL f) = rule.DefL (formula_at a f)
+rule_at a (DefR f) = rule.DefR (formula_at a f)
 rule_at a (Cut f) = rule.Cut (formula_at a f)
 rule_at a Weak = rule.Weak
 
@@ -105,6 +107,8 @@ HasRuleParts a (AllL f t) = IsFormulaAt a f × IsTermAt a t
 HasRuleParts a (AllR f y) = IsFormulaAt a f × IsVariableAt a y
 HasRuleParts a (ExL f y) = IsFormulaAt a f × IsVariableAt a y
 HasRuleParts a (ExR f t) = IsFormulaAt a f × IsTermAt a t
+HasRuleParts a (DefL f) = IsFormulaAt a f
+HasRuleParts a (DefR f) = IsFormulaAt a f
 HasRuleParts a (Cut f) = IsFormulaAt a f
 HasRuleParts a Weak = Unit {0}
 

@@ -24,6 +24,8 @@ pub enum RuleKey {
     AllR(u32, u32),
     ExL(u32, u32),
     ExR(u32, u32),
+    DefL(u32),
+    DefR(u32),
     Cut(u32),
     Weak,
 }

@@ -25,6 +25,8 @@ fn is_same_rule(one: RuleKey, other: RuleKey) -> bool
         | (RuleKey::OrR(a), RuleKey::OrR(b))
         | (RuleKey::ImpL(a), RuleKey::ImpL(b))
         | (RuleKey::ImpR(a), RuleKey::ImpR(b))
+        | (RuleKey::DefL(a), RuleKey::DefL(b))
+        | (RuleKey::DefR(a), RuleKey::DefR(b))
         | (RuleKey::Cut(a), RuleKey::Cut(b)) => a == b,
         (RuleKey::AllL(a, t), RuleKey::AllL(b, u))
         | (RuleKey::AllR(a, t), RuleKey::AllR(b, u))
@@ -124,8 +126,10 @@ impl RuleKey {
             RuleKey::AllR(main, name) => short(12, main, name),
             RuleKey::ExL(main, name) => short(13, main, name),
             RuleKey::ExR(main, name) => short(14, main, name),
-            RuleKey::Cut(main) => short(15, main, 0),
-            RuleKey::Weak => short(16, 0, 0),
+            RuleKey::DefL(main) => short(15, main, 0),
+            RuleKey::DefR(main) => short(16, main, 0),
+            RuleKey::Cut(main) => short(17, main, 0),
+            RuleKey::Weak => short(18, 0, 0),
         }
     }
 }

@@ -4,8 +4,8 @@ use Rattle.fol.specs.Syntax.{Formula}
 use Rattle.lk_rules.specs.declared.sequent.Sequent.{Sequent}
 use Rattle.lk_rules.specs.declared.rule.Rule.{Rule}
 use Rattle.proof_trees.specs.Trees.{Tree, node, Trees, none, more}
-use Rattle.contraction_laws.specs.declared.case.Case.{Case}
-use Rattle.contraction_laws.specs.Contraction.{moved_rule, moved_trees, with_aux, cut, cuts_left, cuts_right, above_left, above_right, case_of, by_case, con}
+use Rattle.cut_laws.specs.declared.case.Case.{Case}
+use Rattle.cut_laws.specs.Contraction.{moved_rule, moved_trees, with_aux, cut, cuts_left, cuts_right, above_left, above_right, case_of, by_case, con}
 use Rattle.arena_cuts.specs.declared.cut.Premise.TheVariants.{Left, Right}
 use Rattle.arena_cuts.specs.Above.{cuts_on, above_on}
 

@@ -3,9 +3,9 @@ use Rattle.std.proofs.Common.{◌≡◌, ℕ, ◌+◌, ◌-◌, Option, Some, No
 use Rattle.fol.specs.Syntax.{Formula}
 use Rattle.lk_rules.specs.declared.sequent.Sequent.{Sequent}
 use Rattle.proof_trees.specs.Trees.{Tree}
-use Rattle.contraction_laws.specs.Contraction.{cut}
-use Rattle.elimination_laws.specs.Elimination.{elimination}
-use Rattle.elimination_laws.specs.Budgets.{given, counted, contracted}
+use Rattle.cut_laws.specs.Contraction.{cut}
+use Rattle.cut_laws.specs.Elimination.{elimination}
+use Rattle.cut_laws.specs.Budgets.{given, counted, contracted}
 
 -- the rest of the elimination, once the premises have no cut
 abbrev then_root : Sequent → Formula → Tree → ℕ → Tree → ℕ → Option (Tree × ℕ)

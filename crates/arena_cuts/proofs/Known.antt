@@ -4,7 +4,7 @@ use Rattle.std.proofs.lemmas.Option.{IfSome_then}
 use Rattle.std.specs.HashMap as hash
 use Rattle.std.specs.HashMap.{HashMap}
 use Rattle.proof_trees.specs.Trees.{Tree}
-use Rattle.elimination_laws.specs.Elimination.{elimination}
+use Rattle.cut_laws.specs.Elimination.{elimination}
 use Rattle.arena_cells.specs.Items.{Item}
 use Rattle.arena_cells.specs.Standing.{Extends}
 use Rattle.arena_cells.proofs.Staying.{tree_stays, tree_there}

@@ -1,7 +1,5 @@
 pub mod Picked
 pub mod SameNumbers
-pub mod AuxiliaryLaws
-pub mod Renamed
 pub mod Stable
 pub mod Reducing
 pub mod Contracted

@@ -4,9 +4,9 @@ use Rattle.std.proofs.Math.Nat.{le-max_left, le-max_right, max-le}
 use Rattle.fol.specs.Syntax.{Formula}
 use Rattle.lk_rules.specs.declared.sequent.Sequent.{Sequent}
 use Rattle.proof_trees.specs.Trees.{Tree, none, more}
-use Rattle.contraction_laws.specs.Contraction.{cut}
-use Rattle.elimination_laws.specs.Elimination.{elimination}
-use Rattle.elimination_laws.specs.Budgets.{work, work_all}
+use Rattle.cut_laws.specs.Contraction.{cut}
+use Rattle.cut_laws.specs.Elimination.{elimination}
+use Rattle.cut_laws.specs.Budgets.{work, work_all}
 
 -- the work in r, after what was made in so many replacements
 abbrev then_work : ℕ → Tree → Option (Tree × ℕ) → ℕ

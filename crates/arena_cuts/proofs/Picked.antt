@@ -5,8 +5,8 @@ use Rattle.lk_rules.specs.declared.sequent.Sequent.{Sequent}
 use Rattle.lk_rules.specs.declared.sequent.Side.TheVariants.{Left, Right}
 use Rattle.lk_rules.specs.Sequents.{is_subsequent}
 use Rattle.proof_trees.specs.Trees.{Tree, concl, below}
-use Rattle.contraction_laws.specs.declared.case.Case.TheVariants.{WeakenLeft, WeakenRight, LeafLeft, LeafRight, PassLeft, PassRight, SplitLeft, SplitRight, Reduce}
-use Rattle.contraction_laws.specs.Contraction.{introduces, is_leaf, has_above, pick, case_of}
+use Rattle.cut_laws.specs.declared.case.Case.TheVariants.{WeakenLeft, WeakenRight, LeafLeft, LeafRight, PassLeft, PassRight, SplitLeft, SplitRight, Reduce}
+use Rattle.cut_laws.specs.Contraction.{introduces, is_leaf, has_above, pick, case_of}
 
 module _ (s : Sequent) (a : Formula) (l r : Tree) where
   pub picks_weaken_left : true ≡ is_subsequent (concl l) s → WeakenLeft ≡ case_of s a l r

@@ -2,18 +2,18 @@
 use Rattle.std.proofs.Common.{◌≡◌, ℕ, List, refl, sym, ap, ◌∙◌}
 use Rattle.lk_rules.specs.declared.sequent.Sequent.{Sequent}
 use Rattle.proof_trees.specs.Trees.{Tree, node, rule_of, concl, below, AllValid}
-use Rattle.contraction_laws.specs.Contraction.{by_parts}
+use Rattle.cut_laws.specs.Contraction.{by_parts}
 use Rattle.arena_cells.specs.declared.key.RuleKey.{RuleKey}
-use Rattle.arena_cells.specs.declared.key.RuleKey.TheVariants.{AllL, AllR, ExL, ExR}
+use Rattle.arena_cells.specs.declared.key.RuleKey.TheVariants.{AllL, AllR, ExL, ExR, DefL, DefR}
 use Rattle.arena_cells.specs.declared.key.Parts.{Parts}
 use Rattle.arena_cells.specs.declared.key.Parts.TheVariants as parts
 use Rattle.arena_cells.specs.declared.key.Key.{Key}
-use Rattle.arena_cells.specs.declared.key.Key.TheVariants.{Not, And, Or, Imp, All, Ex}
+use Rattle.arena_cells.specs.declared.key.Key.TheVariants.{Atom, Defined, Not, And, Or, Imp, All, Ex}
 use Rattle.arena_cells.specs.Items.{Item}
 use Rattle.arena_cells.specs.Standing.{formula_of, formula_at}
 use Rattle.arena_cells.specs.Meaning.{meaning, rule_at, trees_at, HasRuleParts, HasPremises, HasParts, IsKeyAt}
 use Rattle.arena_cells.proofs.Staying.{item_is}
-use Rattle.arena_cuts.specs.Reductions.{universal_numbers, existential_numbers, reduction_numbers, IsReductionAt, reduced_tree}
+use Rattle.arena_cuts.specs.Reductions.{universal_numbers, existential_numbers, unfolded_numbers, reduction_numbers, IsReductionAt, reduced_tree}
 
 module _ (a : List Item) where
   universal_there : (b : ℕ) (l : RuleKey) (ps : Parts) (r : RuleKey) (qs : Parts) → HasParts a (All b) → HasRuleParts a l → HasPremises a ps → AllValid (trees_at a ps) → HasRuleParts a r → HasPremises a qs
@@ -26,6 +26,10 @@ module _ (a : List Item) where
   existential_there b (ExR f t) (parts.One q) (ExL g y) (parts.One p) k hl hp hr hq vq = record { body = k; term = hl.1; variable = hr.1; premise = hq; valid = vq.0; other = hp }
   existential_there b l ps r qs k hl hp hr hq vq = tt
 
+  unfolded_there : (l : RuleKey) (ps : Parts) (r : RuleKey) (qs : Parts) → HasPremises a ps → HasPremises a qs → IsReductionAt a (unfolded_numbers l ps r qs)
+  unfolded_there (DefR f) (parts.One p) (DefL g) (parts.One q) hp hq = (hp, hq)
+  unfolded_there l ps r qs hp hq = tt
+
   -- the parts stand at the numbers
   pub reduction_there : (k : Key) (l : RuleKey) (ps : Parts) (r : RuleKey) (qs : Parts) → HasParts a k → HasRuleParts a l → HasPremises a ps → AllValid (trees_at a ps) → HasRuleParts a r → HasPremises a qs → AllValid (trees_at a qs)
       → IsReductionAt a (reduction_numbers k l ps r qs)
@@ -35,6 +39,7 @@ module _ (a : List Item) where
   reduction_there (Imp b c) l (parts.One p) r (parts.Two q o) k hl hp vp hr hq vq = (k.1, (record { formula = k.0; left = hq.0; right = hp }, hq.1))
   reduction_there (All b) l ps r qs k hl hp vp hr hq vq = universal_there b l ps r qs k hl hp vp hr hq
   reduction_there (Ex b) l ps r qs k hl hp vp hr hq vq = existential_there b l ps r qs k hl hp hr hq vq
+  reduction_there (Defined s b ts) l ps r qs k hl hp vp hr hq vq = unfolded_there l ps r qs hp hq
   reduction_there x l ps r qs k hl hp vp hr hq vq = tt
 
   module _ (s d e : Sequent) where
@@ -48,6 +53,17 @@ module _ (a : List Item) where
     existential_is b (ExR f t) (parts.One q) (ExL g y) (parts.One p) = refl
     existential_is b l ps r qs = refl
 
+    -- an atom whose symbol has no body doesn't unfold
+    plain_is : (n m : ℕ) (l : RuleKey) (ps : Parts) (r : RuleKey) (qs : Parts) → let f = formula_of (meaning a (Atom n m)) in
+        reduced_tree a s f (node (rule_at a l) d (trees_at a ps)) (node (rule_at a r) e (trees_at a qs)) (reduction_numbers (Atom n m) l ps r qs) ≡ by_parts s f (node (rule_at a l) d (trees_at a ps)) (node (rule_at a r) e (trees_at a qs))
+    plain_is n m (DefR f) (parts.One p) (DefL g) (parts.One q) = refl
+    plain_is n m l ps r qs = refl
+
+    unfolded_is : (n b m : ℕ) (l : RuleKey) (ps : Parts) (r : RuleKey) (qs : Parts) → let f = formula_of (meaning a (Defined n b m)) in
+        reduced_tree a s f (node (rule_at a l) d (trees_at a ps)) (node (rule_at a r) e (trees_at a qs)) (unfolded_numbers l ps r qs) ≡ by_parts s f (node (rule_at a l) d (trees_at a ps)) (node (rule_at a r) e (trees_at a qs))
+    unfolded_is n b m (DefR f) (parts.One p) (DefL g) (parts.One q) = refl
+    unfolded_is n b m l ps r qs = refl
+
     keyed_is : (k : Key) (l : RuleKey) (ps : Parts) (r : RuleKey) (qs : Parts) → let f = formula_of (meaning a k) in
         reduced_tree a s f (node (rule_at a l) d (trees_at a ps)) (node (rule_at a r) e (trees_at a qs)) (reduction_numbers k l ps r qs) ≡ by_parts s f (node (rule_at a l) d (trees_at a ps)) (node (rule_at a r) e (trees_at a qs))
     keyed_is (Not b) l (parts.One p) r (parts.One q) = refl
@@ -56,6 +72,8 @@ module _ (a : List Item) where
     keyed_is (Imp b c) l (parts.One p) r (parts.Two q o) = refl
     keyed_is (All b) l ps r qs = universal_is b l ps r qs
     keyed_is (Ex b) l ps r qs = existential_is b l ps r qs
+    keyed_is (Atom n m) l ps r qs = plain_is n m l ps r qs
+    keyed_is (Defined n b m) l ps r qs = unfolded_is n b m l ps r qs
     keyed_is k l ps r qs = refl
 
   parted : (t : Tree) (q : RuleKey) (ps : Parts) → rule_of t ≡ rule_at a q → below t ≡ trees_at a ps → node (rule_at a q) (concl t) (trees_at a ps) ≡ t

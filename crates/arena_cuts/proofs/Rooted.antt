@@ -4,9 +4,9 @@ use Rattle.fol.specs.Syntax.{Formula}
 use Rattle.lk_rules.specs.declared.sequent.Sequent.{Sequent}
 use Rattle.lk_rules.specs.declared.rule.Rule.TheVariants as rule
 use Rattle.proof_trees.specs.Trees.{Tree, node, Trees, none, more, concl, rule_of, below, is_cut}
-use Rattle.contraction_laws.specs.Contraction.{cut}
-use Rattle.elimination_laws.specs.Elimination.{elimination, Reaches}
-use Rattle.elimination_laws.specs.Budgets.{elimination_all, rooted}
+use Rattle.cut_laws.specs.Contraction.{cut}
+use Rattle.cut_laws.specs.Elimination.{elimination, Reaches}
+use Rattle.cut_laws.specs.Budgets.{elimination_all, rooted}
 use Rattle.arena_cells.specs.declared.key.RuleKey.{RuleKey}
 use Rattle.arena_cells.specs.declared.key.RuleKey.TheVariants.{Cut}
 use Rattle.arena_cells.specs.Items.{Item}

@@ -7,7 +7,7 @@ use Rattle.fol.specs.Syntax.{Formula}
 use Rattle.lk_rules.specs.declared.sequent.Sequent.{Sequent}
 use Rattle.lk_rules.specs.declared.rule.Rule.{Rule}
 use Rattle.proof_trees.specs.Trees.{Tree, node, Trees, none, more, rule_of, below}
-use Rattle.contraction_laws.specs.Contraction.{moved_rule, moved_trees, with_aux, cut}
+use Rattle.cut_laws.specs.Contraction.{moved_rule, moved_trees, with_aux, cut}
 use Rattle.arena_cuts.specs.declared.cut.Premise.{Premise}
 use Rattle.arena_cuts.specs.declared.cut.Premise.TheVariants.{Left, Right}
 

@@ -3,7 +3,7 @@ use Rattle.std.specs.Prelude.{List}
 use Rattle.lk_rules.specs.declared.sequent.Side.{Side}
 use Rattle.lk_rules.specs.declared.sequent.Side.TheVariants as side
 use Rattle.proof_trees.specs.Trees.{Tree}
-use Rattle.contraction_laws.specs.Contraction.{cut}
+use Rattle.cut_laws.specs.Contraction.{cut}
 use Rattle.arena_cells.specs.Items.{Item}
 use Rattle.arena_cells.specs.Standing.{sequent_at, formula_at, tree_at, IsSequentAt, IsFormulaAt, IsTreeAt}
 use Rattle.arena_cuts.specs.declared.cut.Cut.{Cut}

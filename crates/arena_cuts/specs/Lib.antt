@@ -1,6 +1,5 @@
 pub mod CutNumbers
 pub mod Above
-pub mod AuxiliaryNumbers
 pub mod Reductions
 pub mod Passes
 pub mod Tables

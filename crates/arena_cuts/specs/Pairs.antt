@@ -1,7 +1,7 @@
 -- What becomes of two proofs.
 use Rattle.std.specs.Prelude.{◌≡◌, ℕ, ◌-◌, List, Some}
 use Rattle.proof_trees.specs.Trees.{Tree}
-use Rattle.elimination_laws.specs.Elimination.{elimination}
+use Rattle.cut_laws.specs.Elimination.{elimination}
 use Rattle.arena_cells.specs.Items.{Item}
 use Rattle.arena_cells.specs.Standing.{tree_at, IsTreeAt}
 use Rattle.arena_cuts.specs.declared.elimination.Both.{Both}

@@ -2,7 +2,7 @@
 use Rattle.std.specs.Prelude.{◌≡◌, ℕ, nat_eq, List, Some, IfSome}
 use Rattle.std.specs.HashMap as hash
 use Rattle.std.specs.HashMap.{HashMap}
-use Rattle.elimination_laws.specs.Elimination.{elimination}
+use Rattle.cut_laws.specs.Elimination.{elimination}
 use Rattle.arena_cells.specs.Items.{Item}
 use Rattle.arena_cells.specs.Standing.{tree_at, IsTreeAt}
 use Rattle.arena_cuts.specs.declared.table.Reduced.{Reduced}

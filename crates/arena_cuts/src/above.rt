@@ -1,16 +1,15 @@
 //! Cuts above the last rule of one of their premises.
 ghost use Rattle.std.specs.Prelude.{◌≡◌, ◌<◌, IfOk};
 ghost use Rattle.proof_trees.specs.Trees.{IsValid};
-ghost use Rattle.contraction_laws.specs.Contraction.{with_aux as with_auxiliary};
+ghost use Rattle.cut_laws.specs.Contraction.{with_aux as with_auxiliary};
 ghost use Rattle.arena_cells.specs.Standing.{Extends, HasTree, sequent_at, formula_at, tree_at, IsSequentAt, IsFormulaAt, IsTreeAt};
 ghost use Rattle.arena_cells.specs.Meaning.{rule_at, trees_at, HasRuleParts, HasPremises};
 ghost use Rattle.arena_cuts.specs.CutNumbers.{IsAscentAt};
 ghost use Rattle.arena_cuts.specs.Above.{cut_on as cut_tree, cuts_on, above_on};
 
-use crate::auxiliary::with_aux;
 use crate::cut::{Ascent, Cut, Premise, put_cut};
-use crate::moved::{Moved, moved_to};
 use arena::{Arena, Parts, RuleKey};
+use arena_premises::{Moved, moved_to, with_aux};
 use arena_proofs::inference;
 use std::alloc::{AllocError, Global};
 

@@ -7,7 +7,7 @@ ghost use Rattle.finite.specs.Finite as set;
 ghost use Rattle.lk_rules.specs.Sequents.{side_of, is_subsequent};
 ghost use Rattle.lk_rules.specs.Rules.{main as main_formulas};
 ghost use Rattle.proof_trees.specs.Trees.{concl, below};
-ghost use Rattle.contraction_laws.specs.Contraction.{introduces as has_introduced, is_leaf as is_leaf_tree, has_above as stands_above, case_of};
+ghost use Rattle.cut_laws.specs.Contraction.{introduces as has_introduced, is_leaf as is_leaf_tree, has_above as stands_above, case_of};
 ghost use Rattle.arena_cells.specs.Standing.{sequent_at, formula_at, tree_at, IsSequentAt, IsFormulaAt, IsTreeAt};
 ghost use Rattle.arena_cells.specs.Meaning.{rule_at, HasRuleParts};
 ghost use Rattle.arena_cuts.specs.CutNumbers.{IsCutAt};
@@ -15,7 +15,7 @@ ghost use Rattle.arena_cuts.specs.CutNumbers.{IsCutAt};
 use crate::cut::Cut;
 use arena::{Arena, Parts, RuleKey};
 use arena_proofs::{end, premises, rule};
-use contraction_laws::Case;
+use cut_laws::Case;
 use fol::FormulaNode;
 use lk_rules::Side;
 
@@ -47,7 +47,8 @@ fn is_main(arena: &Arena, rule: RuleKey, side: Side, formula: u32) -> bool
             | RuleKey::OrL(main)
             | RuleKey::ImpL(main)
             | RuleKey::AllL(main, _)
-            | RuleKey::ExL(main, _),
+            | RuleKey::ExL(main, _)
+            | RuleKey::DefL(main),
             Side::Left,
         ) => same_formula(arena, formula, main),
         (
@@ -56,7 +57,8 @@ fn is_main(arena: &Arena, rule: RuleKey, side: Side, formula: u32) -> bool
             | RuleKey::OrR(main)
             | RuleKey::ImpR(main)
             | RuleKey::AllR(main, _)
-            | RuleKey::ExR(main, _),
+            | RuleKey::ExR(main, _)
+            | RuleKey::DefR(main),
             Side::Right,
         ) => same_formula(arena, formula, main),
         _ => false,

@@ -2,7 +2,7 @@
 ghost use Rattle.std.specs.Prelude.{◌≡◌, ◌+◌, IfOk};
 ghost use Rattle.lk_rules.specs.declared.rule.Rule.TheVariants.{Weak};
 ghost use Rattle.proof_trees.specs.Trees.{node, none, more, rule_of, IsValid};
-ghost use Rattle.contraction_laws.specs.Contraction.{by_case as case_tree, con};
+ghost use Rattle.cut_laws.specs.Contraction.{by_case as case_tree, con};
 ghost use Rattle.arena_cells.specs.Standing.{Extends, HasTree, sequent_at, formula_at, tree_at, IsSequentAt, IsFormulaAt, IsTreeAt};
 ghost use Rattle.arena_cuts.specs.CutNumbers.{IsCutAt, IsAscentAt};
 ghost use Rattle.arena_cuts.specs.Passes.{split_at};
@@ -14,7 +14,7 @@ use crate::parts::cut_parts;
 use crate::steps::Steps;
 use arena::{Arena, Parts, RuleKey};
 use arena_proofs::{inference, rule};
-use contraction_laws::Case;
+use cut_laws::Case;
 use std::alloc::{AllocError, Global};
 use std::sync::ledger::Ledger;
 

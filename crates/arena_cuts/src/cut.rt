@@ -1,6 +1,6 @@
 //! Cuts by the numbers of their parts.
 ghost use Rattle.std.specs.Prelude.{◌≡◌, IfOk};
-ghost use Rattle.contraction_laws.specs.Contraction.{cut as cut_tree};
+ghost use Rattle.cut_laws.specs.Contraction.{cut as cut_tree};
 ghost use Rattle.arena_cells.specs.Standing.{Extends, HasTree, sequent_at, formula_at, tree_at, IsSequentAt, IsFormulaAt, IsTreeAt};
 ghost use Rattle.arena_cuts.specs.CutNumbers.{IsCutAt, cut_at, formula_side, ascent_of};
 

@@ -1,8 +1,8 @@
 //! The elimination of cuts.
 ghost use Rattle.std.specs.Prelude.{◌≡◌, ◌+◌, ◌<◌, ◌≤◌, false, Some, None, IfOk};
 ghost use Rattle.proof_trees.specs.Trees.{none, more, rule_of, is_cut, IsValid, AllValid};
-ghost use Rattle.elimination_laws.specs.Elimination.{elimination};
-ghost use Rattle.elimination_laws.specs.Budgets.{contracted, elimination_all};
+ghost use Rattle.cut_laws.specs.Elimination.{elimination};
+ghost use Rattle.cut_laws.specs.Budgets.{contracted, elimination_all};
 ghost use Rattle.arena_cells.specs.Standing.{Extends, sequent_at, formula_at, tree_at, IsSequentAt, IsFormulaAt, IsTreeAt};
 ghost use Rattle.arena_cells.specs.Meaning.{trees_at, HasPremises};
 ghost use Rattle.arena_cuts.specs.CutNumbers.{IsCutAt, cut_at};
@@ -16,7 +16,7 @@ use crate::steps::Steps;
 use crate::table::{Reduced, look_up, note};
 use arena::{Arena, Parts, RuleKey};
 use arena_proofs::{end, inference, premises, rule};
-use elimination_laws::laws;
+use cut_laws::laws;
 use std::alloc::Global;
 use std::collections::HashMap;
 use std::sync::ledger::Ledger;
@@ -181,7 +181,7 @@ fn eliminate_lowest<L: Ledger>(
     ensures counted { steps.new ≤ steps.old + budget }
 {
     laws::budgets();
-    contraction_laws::laws::contraction();
+    cut_laws::laws::contraction();
     let Ok(made) = contract_counted(arena, alloc, cut, steps) else {
         return Err(ElimFault::Memory);
     };

@@ -2,13 +2,11 @@
 #![tactic(auto)]
 
 mod above;
-mod auxiliary;
 mod cases;
 mod contraction;
 mod cut;
 mod elimination;
 mod fault;
-mod moved;
 mod parts;
 mod steps;
 mod table;

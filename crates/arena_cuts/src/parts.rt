@@ -1,15 +1,16 @@
 //! Cuts on the parts of the cut formula, where both premises introduce it.
 ghost use Rattle.std.specs.Prelude.{◌≡◌, IfOk};
+ghost use Rattle.substitution.specs.Unfolding.{unf};
 ghost use Rattle.proof_trees.specs.Trees.{IsValid};
-ghost use Rattle.contraction_laws.specs.Contraction.{by_parts};
+ghost use Rattle.cut_laws.specs.Contraction.{cut_unfolded, by_parts};
 ghost use Rattle.arena_cells.specs.Standing.{Extends, HasTree, sequent_at, formula_at, tree_at, IsSequentAt, IsFormulaAt, IsTreeAt};
 ghost use Rattle.arena_cuts.specs.CutNumbers.{IsCutAt};
-ghost use Rattle.arena_cuts.specs.Reductions.{IsUpperAt, IsInstantiationAt, IsReductionAt, universal_numbers, existential_numbers, reduction_numbers, two_cuts as two_cut_trees, instance_cut as instance_tree, reduced_tree};
+ghost use Rattle.arena_cuts.specs.Reductions.{IsUpperAt, IsInstantiationAt, IsReductionAt, universal_numbers, existential_numbers, unfolded_numbers, reduction_numbers, two_cuts as two_cut_trees, instance_cut as instance_tree, reduced_tree};
 
 use crate::above::cut_on;
 use crate::cut::{Cut, Premise, put_cut};
-use crate::moved::replace;
 use arena::{Arena, Key, Parts, RuleKey};
+use arena_premises::replace;
 use arena_proofs::{premises, rule};
 use std::alloc::{AllocError, Global};
 
@@ -42,6 +43,8 @@ pub(crate) enum Reduction {
     Two(Premise, u32, Upper, u32),
     /// A cut on an instance. The term takes the place of the eigenvariable in the premise on that side.
     Instance(Premise, Instantiation),
+    /// A cut on what the formula unfolds to, over a left and a right premise.
+    Unfolded(u32, u32),
 }
 
 // On a universal formula: the term on the right takes the place of the eigenvariable on the left.
@@ -88,6 +91,18 @@ fn existential(body: u32, left: (RuleKey, Parts), right: (RuleKey, Parts)) -> Re
     }
 }
 
+// On an atom whose symbol has a body: what it unfolds to stands above both rules.
+fn unfolded(left: (RuleKey, Parts), right: (RuleKey, Parts)) -> Reduction
+    ensures { result ≡ unfolded_numbers left.0 left.1 right.0 right.1 }
+{
+    match (left, right) {
+        ((RuleKey::DefR(_), Parts::One(first)), (RuleKey::DefL(_), Parts::One(second))) => {
+            Reduction::Unfolded(first, second)
+        }
+        _ => Reduction::Unchanged,
+    }
+}
+
 // By the key of the cut formula, and the last rules of both premises with what is above them.
 fn reduce(formula: &Key, left: (RuleKey, Parts), right: (RuleKey, Parts)) -> Reduction
     ensures { result ≡ reduction_numbers formula.now left.0 left.1 right.0 right.1 }
@@ -122,6 +137,7 @@ fn reduce(formula: &Key, left: (RuleKey, Parts), right: (RuleKey, Parts)) -> Red
         }
         (Key::All(body), _, _) => universal(*body, left, right),
         (Key::Ex(body), _, _) => existential(*body, left, right),
+        (Key::Defined(..), _, _) => unfolded(left, right),
         _ => Reduction::Unchanged,
     }
 }
@@ -174,6 +190,32 @@ fn instance_cut(
     cut_on(arena, alloc, side, end, formula, premise, parts.other)
 }
 
+// The cut on what the formula unfolds to, or the same cut where it doesn't unfold.
+fn unfolded_cut(
+    arena: &mut Arena,
+    alloc: Global,
+    cut: Cut,
+    left: u32,
+    right: u32,
+) -> Result<u32, AllocError>
+    requires cut { IsCutAt arena.old cut }
+    requires left { IsTreeAt arena.old left }
+    requires right { IsTreeAt arena.old right }
+    ensures tree { IfOk result (λ n. HasTree arena.new n (cut_unfolded (sequent_at arena.old cut.end) (formula_at arena.old cut.formula) (tree_at arena.old cut.left) (tree_at arena.old cut.right) (unf (formula_at arena.old cut.formula)) (tree_at arena.old left) (tree_at arena.old right))) }
+    ensures grown { Extends arena.old arena.new }
+{
+    let Some(formula) = arena.unfolding(alloc, cut.formula)? else {
+        return put_cut(arena, alloc, cut);
+    };
+    let lower = Cut {
+        end: cut.end,
+        formula,
+        left,
+        right,
+    };
+    put_cut(arena, alloc, lower)
+}
+
 // What takes the place of the cut.
 fn put_reduction(
     arena: &mut Arena,
@@ -201,6 +243,7 @@ fn put_reduction(
             arena, alloc, cut.end, side, formula, upper, other,
         ),
         Reduction::Instance(side, parts) => instance_cut(arena, alloc, cut.end, side, parts),
+        Reduction::Unfolded(left, right) => unfolded_cut(arena, alloc, cut, left, right),
     }
 }
 

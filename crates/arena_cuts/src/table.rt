@@ -1,12 +1,12 @@
 //! Eliminations that are known.
 ghost use Rattle.std.specs.Prelude.{◌≡◌, Some, None, IfOk, IfSome};
-ghost use Rattle.elimination_laws.specs.Elimination.{elimination};
+ghost use Rattle.cut_laws.specs.Elimination.{elimination};
 ghost use Rattle.arena_cells.specs.Standing.{tree_at, IsTreeAt};
 ghost use Rattle.arena_cuts.specs.Tables.{IsEliminated, AreEliminated};
 
 use crate::fault::ElimFault;
 use arena::Arena;
-use elimination_laws::laws;
+use cut_laws::laws;
 use std::alloc::AllocError;
 use std::collections::HashMap;
 

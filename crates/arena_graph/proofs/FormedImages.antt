@@ -18,7 +18,7 @@ use Rattle.lk_rules.specs.Formulas.{FormulaSet, image_set}
 use Rattle.lk_rules.specs.Sequents.{image_sequent}
 use Rattle.lk_rules.proofs.Listings.{alike}
 use Rattle.arena.proofs.SetLaws.{has-list}
-use Rattle.arena_graph.specs.FormedEnds.{IsFormedSequent}
+use Rattle.proof_trees.specs.Conclusions.{IsFormedSequent}
 
 module _ (m : Map) (formed : IsFormedMap (fin.get m)) where
   formed_each : (fs : List Formula) → list_all is_formed fs ≡ true → list_all is_formed (map (image (fin.get m)) fs) ≡ true

@@ -1,5 +1,4 @@
 pub mod Trees
 pub mod Places
 pub mod Larger
-pub mod FormedEnds
 pub mod FormedImages

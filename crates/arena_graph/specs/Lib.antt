@@ -1,3 +1,2 @@
-pub mod FormedEnds
 pub mod Ranks
 pub mod ProofNumbers

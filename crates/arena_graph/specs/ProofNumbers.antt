@@ -7,7 +7,7 @@ use Rattle.proof_graph.specs.References.{Reference}
 use Rattle.arena_cells.specs.Items.{Item}
 use Rattle.arena_cells.specs.Standing.{HasSide, HasTree}
 use Rattle.arena_graph.specs.declared.proof_numbers.ProofNumbers.{ProofNumbers as Tables}
-use Rattle.arena_graph.specs.FormedEnds.{HasFormedEnd}
+use Rattle.proof_trees.specs.Conclusions.{HasFormedEnd}
 use Rattle.arena_graph.specs.Ranks.{AreRanks}
 
 -- the reference is of the graph, and its tree stands at the number

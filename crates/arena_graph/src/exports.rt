@@ -7,7 +7,7 @@ ghost use Rattle.proof_graph.specs.References.{trees_of};
 ghost use Rattle.proof_graph.specs.Graphs.{IsOf, IsPassOf, history};
 ghost use Rattle.arena_cells.specs.Standing.{sequent_at, tree_at, IsSequentAt, IsTreeAt};
 ghost use Rattle.arena_cells.specs.Meaning.{trees_at, HasPremises, ArePartsBelow};
-ghost use Rattle.arena_graph.specs.FormedEnds.{IsFormedSequent, HasFormedEnd, HaveFormedEnds};
+ghost use Rattle.proof_trees.specs.Conclusions.{IsFormedSequent, HasFormedEnd, HaveFormedEnds};
 ghost use Rattle.arena_graph.specs.ProofNumbers.{AreNumbersOf};
 
 use crate::leaving::leaving_formulas;
@@ -90,7 +90,7 @@ fn export_over<R: Wait>(
 
 // The reference of a tree that isn't known.
 #[cycle(export)]
-#[tactic(auto, using(crate::proofs::FormedEnds::formed_premises))]
+#[tactic(auto, using(proof_trees::proofs::FormedConclusions::formed_premises))]
 fn export_new<R: Wait>(
     rt: &R,
     alloc: Global,

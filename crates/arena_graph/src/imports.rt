@@ -6,7 +6,7 @@ ghost use Rattle.proof_graph.specs.References.{trees_of};
 ghost use Rattle.proof_graph.specs.Graphs.{IsOf};
 ghost use Rattle.arena_cells.specs.Standing.{Extends, HasTree};
 ghost use Rattle.arena_cells.specs.Meaning.{trees_at, HasPremises};
-ghost use Rattle.arena_graph.specs.FormedEnds.{IsFormedSequent, HasFormedEnd};
+ghost use Rattle.proof_trees.specs.Conclusions.{IsFormedSequent, HasFormedEnd};
 ghost use Rattle.arena_graph.specs.ProofNumbers.{AreNumbersOf};
 
 use crate::proof_numbers::ProofNumbers;

@@ -7,7 +7,7 @@ ghost use Rattle.proof_graph.specs.declared.graph.Graph.{Graph as ProofGraph};
 ghost use Rattle.proof_graph.specs.Graphs.{IsOf};
 ghost use Rattle.arena_cells.specs.Items.{Item};
 ghost use Rattle.arena_cells.specs.Standing.{HasTree, side_at, IsFormulaAt, IsSideAt};
-ghost use Rattle.arena_graph.specs.FormedEnds.{HasFormedEnd};
+ghost use Rattle.proof_trees.specs.Conclusions.{HasFormedEnd};
 ghost use Rattle.arena_graph.specs.ProofNumbers.{IsProofAt, AreNumbersOf};
 
 use crate::ranks::{Ranks, ranked};

@@ -2,7 +2,7 @@
 use Rattle.std.proofs.Common.{◌≡◌, ℕ, List, Some, None, refl, ap, subst}
 use Rattle.lk_rules.specs.RuleOrder.{formula_of, term_of, variable_of}
 use Rattle.arena_cells.specs.declared.key.RuleKey.{RuleKey}
-use Rattle.arena_cells.specs.declared.key.RuleKey.TheVariants.{Ax, TopR, BotL, NegL, NegR, AndL, AndR, OrL, OrR, ImpL, ImpR, AllL, AllR, ExL, ExR, Cut, Weak}
+use Rattle.arena_cells.specs.declared.key.RuleKey.TheVariants.{Ax, TopR, BotL, NegL, NegR, AndL, AndR, OrL, OrR, ImpL, ImpR, AllL, AllR, ExL, ExR, DefL, DefR, Cut, Weak}
 use Rattle.arena_cells.specs.Items.{Item}
 use Rattle.arena_cells.specs.Standing.{formula_at, term_at, variable_at, IsFormulaAt, IsTermAt, IsVariableAt}
 use Rattle.arena_cells.specs.Meaning.{rule_at, HasRuleParts}
@@ -32,6 +32,8 @@ module _ (a : List Item) where
   named_formula (AllR f y) n h e = formula_here n f h.0 e
   named_formula (ExL f y) n h e = formula_here n f h.0 e
   named_formula (ExR f t) n h e = formula_here n f h.0 e
+  named_formula (DefL f) n h e = formula_here n f h e
+  named_formula (DefR f) n h e = formula_here n f h e
   named_formula (Cut f) n h e = formula_here n f h e
   named_formula Weak n h e = absurd (cc)
 

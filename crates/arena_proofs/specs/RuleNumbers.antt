@@ -1,7 +1,7 @@
 -- The numbers of what a rule names.
 use Rattle.std.specs.Prelude.{ℕ, Option, Some, None}
 use Rattle.arena_cells.specs.declared.key.RuleKey.{RuleKey}
-use Rattle.arena_cells.specs.declared.key.RuleKey.TheVariants.{Ax, TopR, BotL, NegL, NegR, AndL, AndR, OrL, OrR, ImpL, ImpR, AllL, AllR, ExL, ExR, Cut, Weak}
+use Rattle.arena_cells.specs.declared.key.RuleKey.TheVariants.{Ax, TopR, BotL, NegL, NegR, AndL, AndR, OrL, OrR, ImpL, ImpR, AllL, AllR, ExL, ExR, DefL, DefR, Cut, Weak}
 
 -- of its formula: the main formula, or of a cut the cut formula
 abbrev pub formula_number : RuleKey → Option ℕ
@@ -20,6 +20,8 @@ formula_number (AllL f t) = Some f
 formula_number (AllR f y) = Some f
 formula_number (ExL f y) = Some f
 formula_number (ExR f t) = Some f
+formula_number (DefL f) = Some f
+formula_number (DefR f) = Some f
 formula_number (Cut f) = Some f
 formula_number Weak = None
 

@@ -43,6 +43,8 @@ pub fn import_rule(arena: &mut Arena, alloc: Global, rule: &Rule) -> Result<Rule
             let main = arena.import_formula(alloc, main)?;
             RuleKey::ExR(main, arena.import_term(alloc, term)?)
         }
+        Rule::DefL(main) => RuleKey::DefL(arena.import_formula(alloc, main)?),
+        Rule::DefR(main) => RuleKey::DefR(arena.import_formula(alloc, main)?),
         Rule::Cut(main) => RuleKey::Cut(arena.import_formula(alloc, main)?),
         Rule::Weak => RuleKey::Weak,
     })
@@ -83,6 +85,8 @@ pub fn export_rule(arena: &Arena, rule: RuleKey) -> Result<Rule, AllocError>
         RuleKey::ExR(main, term) => {
             Rule::ExR(arena.formula(main).copy()?, arena.term(term).copy()?)
         }
+        RuleKey::DefL(main) => Rule::DefL(arena.formula(main).copy()?),
+        RuleKey::DefR(main) => Rule::DefR(arena.formula(main).copy()?),
         RuleKey::Cut(main) => Rule::Cut(arena.formula(main).copy()?),
         RuleKey::Weak => Rule::Weak,
     })
@@ -107,6 +111,8 @@ pub fn rule_formula(rule: RuleKey) -> Option<u32>
         | RuleKey::AllR(main, _)
         | RuleKey::ExL(main, _)
         | RuleKey::ExR(main, _)
+        | RuleKey::DefL(main)
+        | RuleKey::DefR(main)
         | RuleKey::Cut(main) => Some(main),
         RuleKey::TopR | RuleKey::BotL | RuleKey::Weak => None,
     }

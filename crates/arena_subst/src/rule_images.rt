@@ -67,6 +67,8 @@ pub(crate) fn rule_image(
             let main = arena.image(alloc, map, main)?;
             RuleKey::ExR(main, arena.image_of_term(alloc, map, term)?)
         }
+        RuleKey::DefL(main) => RuleKey::DefL(arena.image(alloc, map, main)?),
+        RuleKey::DefR(main) => RuleKey::DefR(arena.image(alloc, map, main)?),
         RuleKey::Cut(main) => RuleKey::Cut(arena.image(alloc, map, main)?),
         RuleKey::Weak => RuleKey::Weak,
     })

@@ -3,8 +3,8 @@ use Rattle.std.specs.Prelude.{◌≡◌}
 use Rattle.fol.specs.Syntax.{Formula}
 use Rattle.lk_rules.specs.declared.sequent.Sequent.{Sequent}
 use Rattle.proof_trees.specs.Trees.{Tree, rule_of, concl, below, IsCutFree}
-use Rattle.contraction_laws.specs.Contraction.{cut}
-use Rattle.elimination_laws.specs.Elimination.{contracted_root}
+use Rattle.cut_laws.specs.Contraction.{cut}
+use Rattle.cut_laws.specs.Elimination.{contracted_root}
 
 -- the last inference is a cut, and there is no other
 pub record IsLowestCut (t : Tree) : Type 0 where

@@ -6,15 +6,15 @@ ghost use Rattle.lk_rules.specs.declared.sequent.Sequent.{Sequent as Conclusion}
 ghost use Rattle.proof_trees.specs.Trees.{Tree as Proof, concl, IsValid};
 ghost use Rattle.proof_graph.specs.Graphs.{IsOf, history};
 ghost use Rattle.proof_subst.specs.Benches.{graph_of, pass_in, arena_in, IsBenchPassOf};
-ghost use Rattle.contraction_laws.specs.Contraction.{cut as cut_tree, con};
+ghost use Rattle.cut_laws.specs.Contraction.{cut as cut_tree, con};
 ghost use Rattle.arena_cells.specs.Standing.{Extends, HasTree, tree_at, IsTreeAt};
-ghost use Rattle.arena_graph.specs.FormedEnds.{HasFormedEnd};
+ghost use Rattle.proof_trees.specs.Conclusions.{HasFormedEnd};
 ghost use Rattle.cut_contract.specs.LowestCuts.{IsLowestCut, contracted};
 
 use arena::{Arena, Parts, RuleKey};
 use arena_cuts::{Steps, contract_in};
 use arena_proofs::{end, premises, rule};
-use contraction_laws::laws;
+use cut_laws::laws;
 use proof_graph::ProofRef;
 use proof_subst::{Bench, BenchPass, number_of, proof_at};
 use std::alloc::{AllocError, Global};

@@ -4,14 +4,14 @@ ghost use mathlib.Core.List.{IsPrefix};
 ghost use Rattle.proof_trees.specs.Trees.{concl, IsCutFree, IsValid};
 ghost use Rattle.proof_graph.specs.Graphs.{IsOf, history};
 ghost use Rattle.proof_subst.specs.Benches.{graph_of, pass_in, arena_in, IsBenchPassOf};
-ghost use Rattle.elimination_laws.specs.Elimination.{elimination};
+ghost use Rattle.cut_laws.specs.Elimination.{elimination};
 ghost use Rattle.arena_cells.specs.Standing.{tree_at, IsTreeAt};
-ghost use Rattle.arena_graph.specs.FormedEnds.{HasFormedEnd};
+ghost use Rattle.proof_trees.specs.Conclusions.{HasFormedEnd};
 ghost use Rattle.cut_elim.specs.Desks.{bench_of, pass_in as bench_pass_in, IsDeskPassOf};
 
 use crate::desk::{Desk, DeskPass};
 use arena_cuts::{ElimFault, Steps, eliminate_in};
-use elimination_laws::laws;
+use cut_laws::laws;
 use proof_graph::ProofRef;
 use proof_subst::{Bench, BenchPass, make_room, number_of, proof_at};
 use std::alloc::Global;

@@ -8,7 +8,7 @@ use Rattle.substitution.specs.Maps.{Map}
 use Rattle.lk_rules.specs.declared.sequent.Sequent.{Sequent}
 use Rattle.lk_rules.specs.declared.sequent.Side.TheVariants.{Left, Right}
 use Rattle.lk_rules.specs.declared.rule.Rule.{Rule}
-use Rattle.lk_rules.specs.declared.rule.Rule.TheVariants.{Ax, AllL, AllR, ExL, ExR, Cut, Weak}
+use Rattle.lk_rules.specs.declared.rule.Rule.TheVariants.{Ax, AllL, AllR, ExL, ExR, DefL, DefR, Cut, Weak}
 use Rattle.proof_trees.specs.Trees.{Tree, node, Trees, none, more}
 use Rattle.extraction_laws.specs.Addresses.{Address, part, via, formula_at}
 use Rattle.extraction_laws.specs.States.{State, opened, instantiated, named, nth_outside, variable_at, Includes}
@@ -98,6 +98,8 @@ module _ (vs : List Var) where
   met_again (AllR f v) m c x y h = name_again (c Right f) x y h
   met_again (ExL f v) m c x y h = name_again (c Left f) x y h
   met_again (ExR f t) m c x y h = instance_again (c Right f) (image_term (fin.get m) t) x y h
+  met_again (DefL f) m c x y h = refl
+  met_again (DefR f) m c x y h = refl
   met_again (Cut f) m c x y h = refl
   met_again Weak m c x y h = refl
   met_again r m c x y h = opened_again (main_address r c) x y h

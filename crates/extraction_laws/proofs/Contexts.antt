@@ -10,11 +10,11 @@ use Rattle.lk_rules.specs.declared.sequent.Sequent.{Sequent}
 use Rattle.lk_rules.specs.declared.sequent.Side.{Side}
 use Rattle.lk_rules.specs.declared.sequent.Side.TheVariants.{Left, Right}
 use Rattle.lk_rules.specs.declared.rule.Rule.{Rule}
-use Rattle.lk_rules.specs.declared.rule.Rule.TheVariants.{Ax, AllL, AllR, ExL, ExR, Cut, Weak}
+use Rattle.lk_rules.specs.declared.rule.Rule.TheVariants.{Ax, AllL, AllR, ExL, ExR, DefL, DefR, Cut, Weak}
 use Rattle.lk_rules.specs.Sequents.{side_of}
 use Rattle.lk_rules.specs.Rules.{main_stands}
 use Rattle.proof_trees.specs.Trees.{Tree, node, concl, IsValid}
-use Rattle.contraction_laws.proofs.Cuts.{main_in_end}
+use Rattle.cut_laws.proofs.Cuts.{main_in_end}
 use Rattle.search_laws.proofs.Searched.{alone_left, alone_right}
 use Rattle.extraction_laws.specs.Addresses.{Address}
 use Rattle.extraction_laws.specs.States.{State, opened, instantiated, named, variable_at}
@@ -41,6 +41,8 @@ module _ (c d : Context) (s : Sequent) (agree : (side : Side) (f : Formula) → 
     met_agrees (AllR f y) main = ap (λ a. named a (opened a x)) (on_right f main)
     met_agrees (ExL f y) main = ap (λ a. named a (opened a x)) (on_left f main)
     met_agrees (ExR f t) main = ap (λ a. instantiated a (image_term (fin.get m) t) (opened a x)) (on_right f main)
+    met_agrees (DefL f) main = refl
+    met_agrees (DefR f) main = refl
     met_agrees (Cut f) main = refl
     met_agrees Weak main = refl
     met_agrees r main = ap (λ a. opened a x) (main_agrees r main)

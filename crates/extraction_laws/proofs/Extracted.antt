@@ -1,4 +1,4 @@
--- What is extracted from a valid proof without cuts is an expansion proof.
+-- What is extracted from a valid proof without cuts, of a sequent in which no symbol has a body, is an expansion proof.
 use Rattle.std.proofs.Common.{◌≡◌, ◌<◌, Bool, true, false, ◌||◌, List, [], ◌∷◌, ◌++◌, map, refl, sym, ap, ◌∙◌}
 use Rattle.std.specs.List.{All, list_any, list_all}
 use Rattle.std.specs.Ordering.{eq_by_cmp}
@@ -19,6 +19,7 @@ use Rattle.lk_rules.specs.Sequents.{vars_sequent, is_free_in_sequent}
 use Rattle.lk_rules.proofs.SequentVariables.{sequent_var_members}
 use Rattle.lk_rules.proofs.Subsequents.{and_left, and_right, and_both}
 use Rattle.proof_trees.specs.Trees.{Tree, node, concl, IsValid, IsCutFree}
+use Rattle.proof_trees.specs.Occurrence.{has_body_in_sequent}
 use Rattle.proof_trees.proofs.Booleans.{or_first, or_second, either}
 use Rattle.refutations.proofs.FormulaSets.{tied}
 use Rattle.search_laws.proofs.Tests.{clash, fails}
@@ -97,7 +98,7 @@ some_member p (u ∷ us) f h =
     (some_member p us (λ v m. f v (or_second (eq_by_cmp var_cmp v u) (is_among v us) m)))
     h
 
-module _ (t : Tree) (valid : IsValid t) (free : IsCutFree t) where
+module _ (t : Tree) (valid : IsValid t) (free : IsCutFree t) (bodies : has_body_in_sequent (concl t) ≡ false) where
   abbrev vs : List Var
   vs = vars_in t
 
@@ -111,7 +112,7 @@ module _ (t : Tree) (valid : IsValid t) (free : IsCutFree t) where
   rights = set.listing (concl t).right
 
   proper : Proper (vars_in t) (marks_of t)
-  proper = proper_marks t valid free
+  proper = proper_marks t valid free bodies
 
   -- the variables of the trees on a side
 
@@ -180,5 +181,5 @@ module _ (t : Tree) (valid : IsValid t) (free : IsCutFree t) where
     distinct = distinct;
     fresh = fresh;
     acyclic = (acyclic_ranked (extracted t)).1 (number_of, lower);
-    tautology = tautology_extracted t valid free;
+    tautology = tautology_extracted t valid free bodies;
   }

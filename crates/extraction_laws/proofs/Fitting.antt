@@ -19,11 +19,11 @@ use Rattle.lk_rules.specs.declared.sequent.Sequent.{Sequent}
 use Rattle.lk_rules.specs.declared.sequent.Side.{Side}
 use Rattle.lk_rules.specs.declared.sequent.Side.TheVariants.{Left, Right}
 use Rattle.lk_rules.specs.declared.rule.Rule.{Rule}
-use Rattle.lk_rules.specs.declared.rule.Rule.TheVariants.{NegL, NegR, AndL, AndR, OrL, OrR, ImpL, ImpR, AllL, AllR, ExL, ExR, Cut}
+use Rattle.lk_rules.specs.declared.rule.Rule.TheVariants.{NegL, NegR, AndL, AndR, OrL, OrR, ImpL, ImpR, AllL, AllR, ExL, ExR, DefL, DefR, Cut}
 use Rattle.lk_rules.specs.Sequents.{side_of, is_free_in_sequent}
-use Rattle.lk_rules.specs.Rules.{aux, main_stands, eigen_free, IsWithin}
+use Rattle.lk_rules.specs.Rules.{is_unfolding_rule, aux, main_stands, eigen_free, IsWithin}
 use Rattle.proof_trees.specs.Trees.{is_cut}
-use Rattle.contraction_laws.proofs.Sides.{alone, clash, old_or_added, out_of_side}
+use Rattle.cut_laws.proofs.Sides.{alone, clash, old_or_added, out_of_side}
 use Rattle.refutations.proofs.FormulaSets.{equal}
 use Rattle.search_laws.proofs.Searched.{alone_left, alone_right}
 use Rattle.search_laws.proofs.Tests.{split}
@@ -110,26 +110,28 @@ module _ (m : Map) (closed : IsClosedMap (fin.get m)) (c : Context) (s : Sequent
   eigen_right y f out h = out_of_side y s Right f out (alone_right _ h)
 
   -- auxiliary formulas
-  placed_auxiliary : (r : Rule) (i : ℕ) (side : Side) (h : Formula) → is_cut r ≡ false → main_stands r s ≡ true → eigen_free r s ≡ false → list_any (eq_by_cmp formula_cmp h) (aux r i side) ≡ true
+  placed_auxiliary : (r : Rule) (i : ℕ) (side : Side) (h : Formula) → is_cut r ≡ false → is_unfolding_rule r ≡ false → main_stands r s ≡ true → eigen_free r s ≡ false → list_any (eq_by_cmp formula_cmp h) (aux r i side) ≡ true
       → HasImage (inner_map r m v) (auxiliary_address r m v (main_address r c) i side h) side h
-  placed_auxiliary (NegL (not f)) zero Right h no_cut main out e = placed_alone m _ Left (not f) (on_left (not f) main) 0 f h Right refl refl e
-  placed_auxiliary (NegR (not f)) zero Left h no_cut main out e = placed_alone m _ Right (not f) (on_right (not f) main) 0 f h Left refl refl e
-  placed_auxiliary (AndL (and f g)) zero Left h no_cut main out e = placed_of_two m _ Left (and f g) (on_left (and f g) main) f g h Left refl refl refl refl e
-  placed_auxiliary (AndR (and f g)) zero Right h no_cut main out e = placed_alone m _ Right (and f g) (on_right (and f g) main) 0 f h Right refl refl e
-  placed_auxiliary (AndR (and f g)) (suc zero) Right h no_cut main out e = placed_alone m _ Right (and f g) (on_right (and f g) main) 1 g h Right refl refl e
-  placed_auxiliary (OrL (or f g)) zero Left h no_cut main out e = placed_alone m _ Left (or f g) (on_left (or f g) main) 0 f h Left refl refl e
-  placed_auxiliary (OrL (or f g)) (suc zero) Left h no_cut main out e = placed_alone m _ Left (or f g) (on_left (or f g) main) 1 g h Left refl refl e
-  placed_auxiliary (OrR (or f g)) zero Right h no_cut main out e = placed_of_two m _ Right (or f g) (on_right (or f g) main) f g h Right refl refl refl refl e
-  placed_auxiliary (ImpL (imp f g)) zero Right h no_cut main out e = placed_alone m _ Left (imp f g) (on_left (imp f g) main) 0 f h Right refl refl e
-  placed_auxiliary (ImpL (imp f g)) (suc zero) Left h no_cut main out e = placed_alone m _ Left (imp f g) (on_left (imp f g) main) 1 g h Left refl refl e
-  placed_auxiliary (ImpR (imp f g)) zero Left h no_cut main out e = placed_alone m _ Right (imp f g) (on_right (imp f g) main) 0 f h Left refl refl e
-  placed_auxiliary (ImpR (imp f g)) zero Right h no_cut main out e = placed_alone m _ Right (imp f g) (on_right (imp f g) main) 1 g h Right refl refl e
-  placed_auxiliary (AllL (all b) t) zero Left h no_cut main out e = placed_instance m closed _ Left (all b) b (on_left (all b) main) refl t h e
-  placed_auxiliary (AllR (all b) y) zero Right h no_cut main out e = placed_variable m closed _ Right (all b) b (on_right (all b) main) refl y v h (eigen_right y (all b) out main) e
-  placed_auxiliary (ExL (ex b) y) zero Left h no_cut main out e = placed_variable m closed _ Left (ex b) b (on_left (ex b) main) refl y v h (eigen_left y (ex b) out main) e
-  placed_auxiliary (ExR (ex b) t) zero Right h no_cut main out e = placed_instance m closed _ Right (ex b) b (on_right (ex b) main) refl t h e
-  placed_auxiliary (Cut f) i side h no_cut main out e = cc
-  placed_auxiliary r i side h no_cut main out e = cc
+  placed_auxiliary (NegL (not f)) zero Right h no_cut no_unfolding main out e = placed_alone m _ Left (not f) (on_left (not f) main) 0 f h Right refl refl e
+  placed_auxiliary (NegR (not f)) zero Left h no_cut no_unfolding main out e = placed_alone m _ Right (not f) (on_right (not f) main) 0 f h Left refl refl e
+  placed_auxiliary (AndL (and f g)) zero Left h no_cut no_unfolding main out e = placed_of_two m _ Left (and f g) (on_left (and f g) main) f g h Left refl refl refl refl e
+  placed_auxiliary (AndR (and f g)) zero Right h no_cut no_unfolding main out e = placed_alone m _ Right (and f g) (on_right (and f g) main) 0 f h Right refl refl e
+  placed_auxiliary (AndR (and f g)) (suc zero) Right h no_cut no_unfolding main out e = placed_alone m _ Right (and f g) (on_right (and f g) main) 1 g h Right refl refl e
+  placed_auxiliary (OrL (or f g)) zero Left h no_cut no_unfolding main out e = placed_alone m _ Left (or f g) (on_left (or f g) main) 0 f h Left refl refl e
+  placed_auxiliary (OrL (or f g)) (suc zero) Left h no_cut no_unfolding main out e = placed_alone m _ Left (or f g) (on_left (or f g) main) 1 g h Left refl refl e
+  placed_auxiliary (OrR (or f g)) zero Right h no_cut no_unfolding main out e = placed_of_two m _ Right (or f g) (on_right (or f g) main) f g h Right refl refl refl refl e
+  placed_auxiliary (ImpL (imp f g)) zero Right h no_cut no_unfolding main out e = placed_alone m _ Left (imp f g) (on_left (imp f g) main) 0 f h Right refl refl e
+  placed_auxiliary (ImpL (imp f g)) (suc zero) Left h no_cut no_unfolding main out e = placed_alone m _ Left (imp f g) (on_left (imp f g) main) 1 g h Left refl refl e
+  placed_auxiliary (ImpR (imp f g)) zero Left h no_cut no_unfolding main out e = placed_alone m _ Right (imp f g) (on_right (imp f g) main) 0 f h Left refl refl e
+  placed_auxiliary (ImpR (imp f g)) zero Right h no_cut no_unfolding main out e = placed_alone m _ Right (imp f g) (on_right (imp f g) main) 1 g h Right refl refl e
+  placed_auxiliary (AllL (all b) t) zero Left h no_cut no_unfolding main out e = placed_instance m closed _ Left (all b) b (on_left (all b) main) refl t h e
+  placed_auxiliary (AllR (all b) y) zero Right h no_cut no_unfolding main out e = placed_variable m closed _ Right (all b) b (on_right (all b) main) refl y v h (eigen_right y (all b) out main) e
+  placed_auxiliary (ExL (ex b) y) zero Left h no_cut no_unfolding main out e = placed_variable m closed _ Left (ex b) b (on_left (ex b) main) refl y v h (eigen_left y (ex b) out main) e
+  placed_auxiliary (ExR (ex b) t) zero Right h no_cut no_unfolding main out e = placed_instance m closed _ Right (ex b) b (on_right (ex b) main) refl t h e
+  placed_auxiliary (DefL f) i side h no_cut no_unfolding main out e = cc
+  placed_auxiliary (DefR f) i side h no_cut no_unfolding main out e = cc
+  placed_auxiliary (Cut f) i side h no_cut no_unfolding main out e = cc
+  placed_auxiliary r i side h no_cut no_unfolding main out e = cc
 
   -- formulas of the conclusion: the eigenvariable is free in none
   same_image : (r : Rule) (side : Side) (h : Formula) → eigen_free r s ≡ false → set.has (side_of s side) h ≡ true → image (fin.get m) h ≡ image (fin.get (inner_map r m v)) h
@@ -138,10 +140,10 @@ module _ (m : Map) (closed : IsClosedMap (fin.get m)) (c : Context) (s : Sequent
   same_image r side h out e = refl
 
   -- a premise fits
-  pub fits_inner : (r : Rule) (i : ℕ) (x : Sequent) → is_cut r ≡ false → main_stands r s ≡ true → eigen_free r s ≡ false → IsWithin r s i x → HaveImages (inner_map r m v) (inner_context r s m c v i) x
-  fits_inner r i x no_cut main out within side h e =
+  pub fits_inner : (r : Rule) (i : ℕ) (x : Sequent) → is_cut r ≡ false → is_unfolding_rule r ≡ false → main_stands r s ≡ true → eigen_free r s ≡ false → IsWithin r s i x → HaveImages (inner_map r m v) (inner_context r s m c v i) x
+  fits_inner r i x no_cut no_unfolding main out within side h e =
       let new : Address = auxiliary_address r m v (main_address r c) i side h in
       let at = λ (a : Address). HasImage (inner_map r m v) a side h in
       from_within s r i x side h within e
       (λ there. subst at (sym (ap (λ b. if b then c side h else new) there)) (record { formula = (fits side h there).formula ∙ same_image r side h out there; side = (fits side h there).side }))
-      (λ away extra. subst at (sym (ap (λ b. if b then c side h else new) away)) (placed_auxiliary r i side h no_cut main out extra))
+      (λ away extra. subst at (sym (ap (λ b. if b then c side h else new) away)) (placed_auxiliary r i side h no_cut no_unfolding main out extra))

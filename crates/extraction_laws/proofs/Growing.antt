@@ -7,7 +7,7 @@ use Rattle.substitution.specs.Image.{image_term}
 use Rattle.substitution.specs.Maps.{Map}
 use Rattle.lk_rules.specs.declared.sequent.Side.TheVariants.{Left, Right}
 use Rattle.lk_rules.specs.declared.rule.Rule.{Rule}
-use Rattle.lk_rules.specs.declared.rule.Rule.TheVariants.{Ax, AllL, AllR, ExL, ExR, Cut, Weak}
+use Rattle.lk_rules.specs.declared.rule.Rule.TheVariants.{Ax, AllL, AllR, ExL, ExR, DefL, DefR, Cut, Weak}
 use Rattle.proof_trees.specs.Trees.{Tree, node, Trees, none, more}
 use Rattle.extraction_laws.specs.Addresses.{Address, part, via, formula_at}
 use Rattle.extraction_laws.specs.States.{State, opened, instantiated, named, variable_at, Includes}
@@ -55,6 +55,8 @@ module _ (vs : List Var) where
   includes-met (AllR f y) m c st = includes-name (c Right f) st
   includes-met (ExL f y) m c st = includes-name (c Left f) st
   includes-met (ExR f t) m c st = includes-instance (c Right f) (image_term (fin.get m) t) st
+  includes-met (DefL f) m c st = itself st
+  includes-met (DefR f) m c st = itself st
   includes-met (Cut f) m c st = itself st
   includes-met Weak m c st = itself st
   includes-met r m c st = includes-opened (main_address r c) st

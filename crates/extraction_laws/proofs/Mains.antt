@@ -6,7 +6,7 @@ use Rattle.lk_rules.specs.declared.sequent.Sequent.{Sequent}
 use Rattle.lk_rules.specs.declared.sequent.Side.{Side}
 use Rattle.lk_rules.specs.declared.sequent.Side.TheVariants.{Left, Right}
 use Rattle.lk_rules.specs.declared.rule.Rule.{Rule}
-use Rattle.lk_rules.specs.declared.rule.Rule.TheVariants.{Ax, TopR, BotL, NegL, NegR, AndL, AndR, OrL, OrR, ImpL, ImpR, AllL, AllR, ExL, ExR, Cut, Weak}
+use Rattle.lk_rules.specs.declared.rule.Rule.TheVariants.{Ax, TopR, BotL, NegL, NegR, AndL, AndR, OrL, OrR, ImpL, ImpR, AllL, AllR, ExL, ExR, DefL, DefR, Cut, Weak}
 use Rattle.lk_rules.specs.Sequents.{side_of}
 use Rattle.lk_rules.specs.Rules.{main_stands}
 use Rattle.lk_rules.proofs.Subsequents.{and_left, and_right}
@@ -55,5 +55,7 @@ main_of (AllL f t) s main = main_left (AllL f t) s f (λ c. refl) main
 main_of (AllR f y) s main = main_right (AllR f y) s f (λ c. refl) main
 main_of (ExL f y) s main = main_left (ExL f y) s f (λ c. refl) main
 main_of (ExR f t) s main = main_right (ExR f t) s f (λ c. refl) main
+main_of (DefL f) s main = main_left (DefL f) s f (λ c. refl) main
+main_of (DefR f) s main = main_right (DefR f) s f (λ c. refl) main
 main_of (Cut f) s main = inr (λ c. refl)
 main_of Weak s main = inr (λ c. refl)

@@ -5,7 +5,7 @@ use Rattle.fol.specs.Syntax.{free, Formula, atom, top, bot, not, and, or, imp, a
 use Rattle.free_variables.specs.Occurrence.{is_free_in_term}
 use Rattle.lk_rules.specs.declared.sequent.Side.{Side}
 use Rattle.lk_rules.specs.declared.sequent.Side.TheVariants.{Left, Right}
-use Rattle.contraction_laws.proofs.Sides.{clash}
+use Rattle.cut_laws.proofs.Sides.{clash}
 use Rattle.expansion_laws.specs.Building.{is_flat}
 use Rattle.expansion_laws.specs.Proofs.{is_strong_on}
 use Rattle.extraction_laws.specs.Addresses.{Address, part, via, formula_at, side_at}

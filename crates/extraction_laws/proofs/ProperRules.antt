@@ -20,12 +20,12 @@ use Rattle.lk_rules.specs.declared.sequent.Sequent.{Sequent}
 use Rattle.lk_rules.specs.declared.sequent.Side.{Side}
 use Rattle.lk_rules.specs.declared.sequent.Side.TheVariants.{Left, Right}
 use Rattle.lk_rules.specs.declared.rule.Rule.{Rule}
-use Rattle.lk_rules.specs.declared.rule.Rule.TheVariants.{Ax, TopR, BotL, NegL, NegR, AndL, AndR, OrL, OrR, ImpL, ImpR, AllL, AllR, ExL, ExR, Cut, Weak}
+use Rattle.lk_rules.specs.declared.rule.Rule.TheVariants.{Ax, TopR, BotL, NegL, NegR, AndL, AndR, OrL, OrR, ImpL, ImpR, AllL, AllR, ExL, ExR, DefL, DefR, Cut, Weak}
 use Rattle.lk_rules.specs.Sequents.{side_of}
-use Rattle.lk_rules.specs.Rules.{has_shape, main_stands, IsWithin}
+use Rattle.lk_rules.specs.Rules.{is_unfolding_rule, has_shape, main_stands, IsWithin}
 use Rattle.proof_trees.specs.Trees.{is_cut}
 use Rattle.proof_trees.proofs.Booleans.{or_first}
-use Rattle.contraction_laws.proofs.Sides.{alone, clash}
+use Rattle.cut_laws.proofs.Sides.{alone, clash}
 use Rattle.search_laws.proofs.Searched.{alone_left, alone_right}
 use Rattle.expansion_laws.specs.Proofs.{is_strong_on}
 use Rattle.extraction_laws.specs.Addresses.{Address, is_listed, formula_at, side_at}
@@ -124,29 +124,31 @@ module _ (vs : List Var) where
     proper_right : (f : Formula) → (true && (set.has s.right f && true)) ≡ true → is_strong_on Right (image (fin.get m) f) ≡ false → Proper vs x → Proper vs (opened (c Right f) x)
     proper_right f main h p = proper_opened vs (c Right f) x p (λ strong. clash _ strong (weak_right f main h))
 
-    pub proper_met : (r : Rule) → is_cut r ≡ false → has_shape r ≡ true → main_stands r s ≡ true → Proper vs x → Proper vs (met vs r m c x)
-    proper_met (Ax f) no_cut shape main p =
+    pub proper_met : (r : Rule) → is_cut r ≡ false → is_unfolding_rule r ≡ false → has_shape r ≡ true → main_stands r s ≡ true → Proper vs x → Proper vs (met vs r m c x)
+    proper_met (Ax f) no_cut no_unfolding shape main p =
         let left : set.has s.left f ≡ true = initial_left s f main in
         let right : set.has s.right f ≡ true = initial_right s f main in
         proper_paired vs (c Left f) (c Right f) (image (fin.get m) f) x (record { left = (fits Left f left).formula; right = (fits Right f right).formula }) p
         (fits Left f left).side (fits Right f right).side (known Left f left) (known Right f right)
-    proper_met TopR no_cut shape main p = proper_right top main refl p
-    proper_met BotL no_cut shape main p = proper_left bot main refl p
-    proper_met (NegL (not f)) no_cut shape main p = proper_left (not f) main refl p
-    proper_met (NegR (not f)) no_cut shape main p = proper_right (not f) main refl p
-    proper_met (AndL (and f g)) no_cut shape main p = proper_left (and f g) main refl p
-    proper_met (AndR (and f g)) no_cut shape main p = proper_right (and f g) main refl p
-    proper_met (OrL (or f g)) no_cut shape main p = proper_left (or f g) main refl p
-    proper_met (OrR (or f g)) no_cut shape main p = proper_right (or f g) main refl p
-    proper_met (ImpL (imp f g)) no_cut shape main p = proper_left (imp f g) main refl p
-    proper_met (ImpR (imp f g)) no_cut shape main p = proper_right (imp f g) main refl p
-    proper_met (AllL (all b) t) no_cut shape main p = proper_instantiated vs (c Left (all b)) (image_term (fin.get m) t) (opened (c Left (all b)) x) (proper_left (all b) main refl p)
-    proper_met (ExR (ex b) t) no_cut shape main p = proper_instantiated vs (c Right (ex b)) (image_term (fin.get m) t) (opened (c Right (ex b)) x) (proper_right (ex b) main refl p)
-    proper_met (AllR (all b) y) no_cut shape main p = proper_strong vs (c Right (all b)) x p (known_right (all b) main)
-    proper_met (ExL (ex b) y) no_cut shape main p = proper_strong vs (c Left (ex b)) x p (known_left (ex b) main)
-    proper_met (Cut f) no_cut shape main p = cc
-    proper_met Weak no_cut shape main p = p
-    proper_met r no_cut shape main p = cc
+    proper_met TopR no_cut no_unfolding shape main p = proper_right top main refl p
+    proper_met BotL no_cut no_unfolding shape main p = proper_left bot main refl p
+    proper_met (NegL (not f)) no_cut no_unfolding shape main p = proper_left (not f) main refl p
+    proper_met (NegR (not f)) no_cut no_unfolding shape main p = proper_right (not f) main refl p
+    proper_met (AndL (and f g)) no_cut no_unfolding shape main p = proper_left (and f g) main refl p
+    proper_met (AndR (and f g)) no_cut no_unfolding shape main p = proper_right (and f g) main refl p
+    proper_met (OrL (or f g)) no_cut no_unfolding shape main p = proper_left (or f g) main refl p
+    proper_met (OrR (or f g)) no_cut no_unfolding shape main p = proper_right (or f g) main refl p
+    proper_met (ImpL (imp f g)) no_cut no_unfolding shape main p = proper_left (imp f g) main refl p
+    proper_met (ImpR (imp f g)) no_cut no_unfolding shape main p = proper_right (imp f g) main refl p
+    proper_met (AllL (all b) t) no_cut no_unfolding shape main p = proper_instantiated vs (c Left (all b)) (image_term (fin.get m) t) (opened (c Left (all b)) x) (proper_left (all b) main refl p)
+    proper_met (ExR (ex b) t) no_cut no_unfolding shape main p = proper_instantiated vs (c Right (ex b)) (image_term (fin.get m) t) (opened (c Right (ex b)) x) (proper_right (ex b) main refl p)
+    proper_met (AllR (all b) y) no_cut no_unfolding shape main p = proper_strong vs (c Right (all b)) x p (known_right (all b) main)
+    proper_met (ExL (ex b) y) no_cut no_unfolding shape main p = proper_strong vs (c Left (ex b)) x p (known_left (ex b) main)
+    proper_met (DefL f) no_cut no_unfolding shape main p = cc
+    proper_met (DefR f) no_cut no_unfolding shape main p = cc
+    proper_met (Cut f) no_cut no_unfolding shape main p = cc
+    proper_met Weak no_cut no_unfolding shape main p = p
+    proper_met r no_cut no_unfolding shape main p = cc
 
     -- after the rule
     main_later : (r : Rule) → main_stands r s ≡ true → KnownPath vs (met vs r m c x) (main_address r c)

@@ -1,5 +1,5 @@
--- Valid proofs without cuts keep states proper.
-use Rattle.std.proofs.Common.{◌≡◌, ℕ, suc, true, List, ◌++◌, Option, IfSome, sym, subst, ◌∙◌}
+-- Valid proofs without cuts and unfoldings keep states proper.
+use Rattle.std.proofs.Common.{◌≡◌, ℕ, suc, true, false, List, ◌++◌, Option, IfSome, sym, subst, ◌∙◌}
 use Rattle.std.specs.FinMap as fin
 use Rattle.std.specs.Ordering.{eq_by_cmp}
 use Rattle.std.proofs.lemmas.List.Folds.{list_any-append}
@@ -19,8 +19,11 @@ use Rattle.lk_rules.specs.Sequents.{vars_sequent}
 use Rattle.lk_rules.specs.Rules.{main_stands}
 use Rattle.lk_rules.proofs.Subsequents.{and_left, and_right}
 use Rattle.proof_trees.specs.Trees.{Tree, node, Trees, none, more, concl, IsValid, AllValid, cut_free, cut_free_all, IsCutFree}
+use Rattle.proof_trees.specs.Conclusions.{EachNode, EachNodeOf}
+use Rattle.proof_trees.specs.Occurrence.{has_body_in_sequent, IsPlainNode}
 use Rattle.proof_trees.proofs.Booleans.{or_first, or_second}
-use Rattle.contraction_laws.proofs.Cuts.{AllWithin}
+use Rattle.proof_trees.proofs.WithoutBodies.{plain_nodes}
+use Rattle.cut_laws.proofs.Cuts.{AllWithin}
 use Rattle.search_laws.proofs.Tests.{clash}
 use Rattle.extraction_laws.specs.Addresses.{root, address_cmp}
 use Rattle.extraction_laws.specs.States.{State, unmarked, Includes}
@@ -67,29 +70,29 @@ module _ (vs : List Var) where
   all_later x y h cs i (more t ts) known = (λ side f there. path_later vs x y h (cs i side f) (known.0 side f there), all_later x y h cs (suc i) ts known.1)
 
   mutual
-    proper_walked : (t : Tree) (m : Map) (c : Context) (x : State) → IsValid t → cut_free t ≡ true → HasVariables t → IsClosedMap (fin.get m) → HaveImages m c (concl t) → IsNaming vs x m → KnownContext vs x c (concl t)
+    proper_walked : (t : Tree) (m : Map) (c : Context) (x : State) → IsValid t → cut_free t ≡ true → EachNode IsPlainNode t → HasVariables t → IsClosedMap (fin.get m) → HaveImages m c (concl t) → IsNaming vs x m → KnownContext vs x c (concl t)
         → Proper vs x → Proper vs (walked vs t m c x)
-    proper_walked (node r s ts) m c x valid free has closed fits naming known p =
-        let i : Inference r s ts = inference r s ts valid free in
+    proper_walked (node r s ts) m c x valid free plain has closed fits naming known p =
+        let i : Inference r s ts = inference r s ts valid free plain in
         let v : Var = inner_variable vs r m c x in
-        proper_each ts (inner_map r m v) (inner_context r s m c v) 0 (met vs r m c x) valid.1 i.above_free
+        proper_each ts (inner_map r m v) (inner_context r s m c v) 0 (met vs r m c x) valid.1 i.above_free i.above_plain
         (λ y e. has y (longer_second y (set.listing (vars_sequent s)) _ (longer_second y (vars_chosen r) (var_list_trees ts) e)))
         (closed_inner m closed v r)
-        (all_fit r s m c v closed fits i.no_cut i.main i.row.eigenvariable 0 ts i.premises.within)
+        (all_fit r s m c v closed fits i.no_cut i.no_unfolding i.main i.row.eigenvariable 0 ts i.premises.within)
         (naming_inner vs m c s closed fits x known r naming)
         (all_known m c s closed fits x known r i.main naming
         (λ y e. has y (longer_second y (set.listing (vars_sequent s)) _ (longer_first y (vars_chosen r) (var_list_trees ts) e))) 0 ts i.premises.within)
-        (proper_met vs m c s closed fits x known r i.no_cut i.row.shape i.main p)
+        (proper_met vs m c s closed fits x known r i.no_cut i.no_unfolding i.row.shape i.main p)
 
-    proper_each : (ts : Trees) (m : Map) (cs : ℕ → Context) (i : ℕ) (x : State) → AllValid ts → cut_free_all ts ≡ true → HasAllVariables ts → IsClosedMap (fin.get m) → AllFit m cs i ts → IsNaming vs x m → AllKnown x cs i ts
+    proper_each : (ts : Trees) (m : Map) (cs : ℕ → Context) (i : ℕ) (x : State) → AllValid ts → cut_free_all ts ≡ true → EachNodeOf IsPlainNode ts → HasAllVariables ts → IsClosedMap (fin.get m) → AllFit m cs i ts → IsNaming vs x m → AllKnown x cs i ts
         → Proper vs x → Proper vs (walked_each vs ts m cs i x)
-    proper_each none m cs i x valid free has closed fit naming known p = p
-    proper_each (more t ts) m cs i x valid free has closed fit naming known p =
+    proper_each none m cs i x valid free plain has closed fit naming known p = p
+    proper_each (more t ts) m cs i x valid free plain has closed fit naming known p =
         let y : State = walked vs t m (cs i) x in
-        proper_each ts m cs (suc i) y valid.1 (and_right (cut_free t) _ free) (λ v e. has v (longer_second v (var_list_tree t) (var_list_trees ts) e)) closed fit.1
+        proper_each ts m cs (suc i) y valid.1 (and_right (cut_free t) _ free) plain.1 (λ v e. has v (longer_second v (var_list_tree t) (var_list_trees ts) e)) closed fit.1
         (naming_later vs x y (includes-walked vs t m (cs i) x) m naming)
         (all_later x y (includes-walked vs t m (cs i) x) cs (suc i) ts known.1)
-        (proper_walked t m (cs i) x valid.0 (and_left _ _ free) (λ v e. has v (longer_first v (var_list_tree t) (var_list_trees ts) e)) closed fit.0 naming known.0 p)
+        (proper_walked t m (cs i) x valid.0 (and_left _ _ free) plain.0 (λ v e. has v (longer_first v (var_list_tree t) (var_list_trees ts) e)) closed fit.0 naming known.0 p)
 
 -- the marks of a whole proof are proper
 
@@ -103,7 +106,7 @@ proper_unmarked vs = record { strong_named = λ a there strong. clash (set.has (
 naming_empty : (vs : List Var) → IsNaming vs unmarked fin.empty
 naming_empty vs v = let Q : Option Term → Type 0 = λ o. IfSome o (IsGiven vs unmarked) in subst Q (sym (fin.get-empty var_cmp v)) tt
 
-pub proper_marks : (t : Tree) → IsValid t → IsCutFree t → Proper (vars_in t) (marks_of t)
-proper_marks t valid free =
+pub proper_marks : (t : Tree) → IsValid t → IsCutFree t → has_body_in_sequent (concl t) ≡ false → Proper (vars_in t) (marks_of t)
+proper_marks t valid free bodies =
     let vs : List Var = vars_in t in
-    proper_walked vs t fin.empty root unmarked valid free (among_vars t) closed_empty (fits_first (concl t)) (naming_empty vs) (λ side f there y e. cc) (proper_unmarked vs)
+    proper_walked vs t fin.empty root unmarked valid free (plain_nodes t valid free bodies) (among_vars t) closed_empty (fits_first (concl t)) (naming_empty vs) (λ side f there y e. cc) (proper_unmarked vs)

@@ -15,14 +15,14 @@ use Rattle.lk_rules.specs.declared.sequent.Sequent.{Sequent}
 use Rattle.lk_rules.specs.declared.sequent.Side.{Side}
 use Rattle.lk_rules.specs.declared.sequent.Side.TheVariants.{Left, Right}
 use Rattle.lk_rules.specs.declared.rule.Rule.{Rule}
-use Rattle.lk_rules.specs.declared.rule.Rule.TheVariants.{Ax, TopR, BotL, NegL, NegR, AndL, AndR, OrL, OrR, ImpL, ImpR, AllL, AllR, ExL, ExR, Cut, Weak}
+use Rattle.lk_rules.specs.declared.rule.Rule.TheVariants.{Ax, TopR, BotL, NegL, NegR, AndL, AndR, OrL, OrR, ImpL, ImpR, AllL, AllR, ExL, ExR, DefL, DefR, Cut, Weak}
 use Rattle.lk_rules.specs.Sequents.{side_of}
-use Rattle.lk_rules.specs.Rules.{needs, has_shape, aux, main_stands, IsWithin}
+use Rattle.lk_rules.specs.Rules.{is_unfolding_rule, needs, has_shape, aux, main_stands, IsWithin}
 use Rattle.lk_rules.proofs.Subsequents.{and_both}
 use Rattle.proof_trees.specs.Trees.{Trees, none, more, concl, count, is_cut}
 use Rattle.proof_trees.proofs.Booleans.{or_first, or_second, either}
-use Rattle.contraction_laws.proofs.Cuts.{AllWithin}
-use Rattle.contraction_laws.proofs.Sides.{clash}
+use Rattle.cut_laws.proofs.Cuts.{AllWithin}
+use Rattle.cut_laws.proofs.Sides.{clash}
 use Rattle.search_laws.specs.Truth.{Assignment}
 use Rattle.search_laws.proofs.Searched.{alone_left, alone_right}
 use Rattle.expansion_laws.specs.Helping.{helps, conjoined, disjoined}
@@ -126,95 +126,97 @@ module _ (vs : List Var) (st : State) (α : Assignment) where
     kept_variable : (a : Address) (x : State) → Includes x st → is_listed a x.names ≡ true → variable_at vs st a ≡ variable_at vs x a
     kept_variable a x h there = ap (nth_outside vs) (h.places a there)
 
-    pub rule_helps : (r : Rule) (ts : Trees) (x : State) → is_cut r ≡ false → has_shape r ≡ true → main_stands r s ≡ true → count ts ≡ needs r → AllWithin r s 0 ts → Includes (met vs r m c x) st
+    pub rule_helps : (r : Rule) (ts : Trees) (x : State) → is_cut r ≡ false → is_unfolding_rule r ≡ false → has_shape r ≡ true → main_stands r s ≡ true → count ts ≡ needs r → AllWithin r s 0 ts → Includes (met vs r m c x) st
         → AllHelped (inner_context r s m c (inner_variable vs r m c x)) 0 ts → Helper c s
-    rule_helps (Ax f) ts x no_cut shape main number within marks helped =
+    rule_helps (Ax f) ts x no_cut no_unfolding shape main number within marks helped =
         let l : HasImage m (c Left f) Left f = fits Left f (initial_left s f main) in
         let r : HasImage m (c Right f) Right f = fits Right f (initial_right s f main) in
         either (does (c Left f)) (does (c Right f))
         (λ h. record { side = Left; formula = f; stands = initial_left s f main; helps = h })
         (λ h. record { side = Right; formula = f; stands = initial_right s f main; helps = h })
         (pair_helps vs st α (c Left f) (c Right f) (image (fin.get m) f) x (record { left = l.formula; right = r.formula }) marks l.side r.side)
-    rule_helps TopR ts x no_cut shape main number within marks helped =
+    rule_helps TopR ts x no_cut no_unfolding shape main number within marks helped =
         let a : Address = c Right top in
         let p : HasImage m a Right top = on_right top main in
         right_helper top main (help-flat vs st α top a p.formula refl (marks.used a (marked x.opened a)) ∙ ap (λ o. helps α o top) p.side)
-    rule_helps BotL ts x no_cut shape main number within marks helped =
+    rule_helps BotL ts x no_cut no_unfolding shape main number within marks helped =
         let a : Address = c Left bot in
         let p : HasImage m a Left bot = on_left bot main in
         left_helper bot main (help-flat vs st α bot a p.formula refl (marks.used a (marked x.opened a)) ∙ ap (λ o. helps α o bot) p.side)
-    rule_helps (NegL (not f)) ts x no_cut shape main number within marks helped =
+    rule_helps (NegL (not f)) ts x no_cut no_unfolding shape main number within marks helped =
         let a : Address = c Left (not f) in
         let p : HasImage m a Left (not f) = on_left (not f) main in
         by_one (NegL (not f)) (inner_variable vs (NegL (not f)) m c x) ts number within helped (λ e.
         left_helper (not f) main (help-not vs st α (image (fin.get m) f) a p.formula (marks.used a (marked x.opened a)) ∙ e.helps))
-    rule_helps (NegR (not f)) ts x no_cut shape main number within marks helped =
+    rule_helps (NegR (not f)) ts x no_cut no_unfolding shape main number within marks helped =
         let a : Address = c Right (not f) in
         let p : HasImage m a Right (not f) = on_right (not f) main in
         by_one (NegR (not f)) (inner_variable vs (NegR (not f)) m c x) ts number within helped (λ e.
         right_helper (not f) main (help-not vs st α (image (fin.get m) f) a p.formula (marks.used a (marked x.opened a)) ∙ e.helps))
-    rule_helps (AndL (and f g)) ts x no_cut shape main number within marks helped =
+    rule_helps (AndL (and f g)) ts x no_cut no_unfolding shape main number within marks helped =
         let a : Address = c Left (and f g) in
         let p : HasImage m a Left (and f g) = on_left (and f g) main in
         by_one (AndL (and f g)) (inner_variable vs (AndL (and f g)) m c x) ts number within helped (λ e.
         left_helper (and f g) main (help-and vs st α (image (fin.get m) f) (image (fin.get m) g) a p.formula (marks.used a (marked x.opened a))
         ∙ (ap (λ o. conjoined o (does (part a 0)) (does (part a 1))) p.side ∙ either_part a (eq_by_cmp formula_cmp e.formula f) e.helps)))
-    rule_helps (AndR (and f g)) ts x no_cut shape main number within marks helped =
+    rule_helps (AndR (and f g)) ts x no_cut no_unfolding shape main number within marks helped =
         let a : Address = c Right (and f g) in
         let p : HasImage m a Right (and f g) = on_right (and f g) main in
         by_two (AndR (and f g)) (inner_variable vs (AndR (and f g)) m c x) ts number within helped (λ d e.
         right_helper (and f g) main (help-and vs st α (image (fin.get m) f) (image (fin.get m) g) a p.formula (marks.used a (marked x.opened a))
         ∙ (ap (λ o. conjoined o (does (part a 0)) (does (part a 1))) p.side ∙ and_both (does (part a 0)) (does (part a 1)) d.helps e.helps)))
-    rule_helps (OrL (or f g)) ts x no_cut shape main number within marks helped =
+    rule_helps (OrL (or f g)) ts x no_cut no_unfolding shape main number within marks helped =
         let a : Address = c Left (or f g) in
         let p : HasImage m a Left (or f g) = on_left (or f g) main in
         by_two (OrL (or f g)) (inner_variable vs (OrL (or f g)) m c x) ts number within helped (λ d e.
         left_helper (or f g) main (help-or vs st α (image (fin.get m) f) (image (fin.get m) g) a p.formula (marks.used a (marked x.opened a))
         ∙ (ap (λ o. disjoined o (does (part a 0)) (does (part a 1))) p.side ∙ and_both (does (part a 0)) (does (part a 1)) d.helps e.helps)))
-    rule_helps (OrR (or f g)) ts x no_cut shape main number within marks helped =
+    rule_helps (OrR (or f g)) ts x no_cut no_unfolding shape main number within marks helped =
         let a : Address = c Right (or f g) in
         let p : HasImage m a Right (or f g) = on_right (or f g) main in
         by_one (OrR (or f g)) (inner_variable vs (OrR (or f g)) m c x) ts number within helped (λ e.
         right_helper (or f g) main (help-or vs st α (image (fin.get m) f) (image (fin.get m) g) a p.formula (marks.used a (marked x.opened a))
         ∙ (ap (λ o. disjoined o (does (part a 0)) (does (part a 1))) p.side ∙ either_part a (eq_by_cmp formula_cmp e.formula f) e.helps)))
-    rule_helps (ImpL (imp f g)) ts x no_cut shape main number within marks helped =
+    rule_helps (ImpL (imp f g)) ts x no_cut no_unfolding shape main number within marks helped =
         let a : Address = c Left (imp f g) in
         let p : HasImage m a Left (imp f g) = on_left (imp f g) main in
         by_two (ImpL (imp f g)) (inner_variable vs (ImpL (imp f g)) m c x) ts number within helped (λ d e.
         left_helper (imp f g) main (help-imp vs st α (image (fin.get m) f) (image (fin.get m) g) a p.formula (marks.used a (marked x.opened a))
         ∙ (ap (λ o. disjoined o (does (part a 0)) (does (part a 1))) p.side ∙ and_both (does (part a 0)) (does (part a 1)) d.helps e.helps)))
-    rule_helps (ImpR (imp f g)) ts x no_cut shape main number within marks helped =
+    rule_helps (ImpR (imp f g)) ts x no_cut no_unfolding shape main number within marks helped =
         let a : Address = c Right (imp f g) in
         let v : Var = inner_variable vs (ImpR (imp f g)) m c x in
         let p : HasImage m a Right (imp f g) = on_right (imp f g) main in
         by_one (ImpR (imp f g)) v ts number within helped (λ e.
         right_helper (imp f g) main (help-imp vs st α (image (fin.get m) f) (image (fin.get m) g) a p.formula (marks.used a (marked x.opened a))
         ∙ (ap (λ o. disjoined o (does (part a 0)) (does (part a 1))) p.side ∙ part_of_imp (imp f g) m v a e.side e.formula e.helps)))
-    rule_helps (AllL (all b) t) ts x no_cut shape main number within marks helped =
+    rule_helps (AllL (all b) t) ts x no_cut no_unfolding shape main number within marks helped =
         let a : Address = c Left (all b) in
         let u : Term = image_term (fin.get m) t in
         let p : HasImage m a Left (all b) = on_left (all b) main in
         by_one (AllL (all b) t) (inner_variable vs (AllL (all b) t) m c x) ts number within helped (λ e.
         left_helper (all b) main (help_all_left vs st α (image (fin.get m) b) a u p.formula p.side (marks.used a (marked x.opened a)) (marks.instances (via a u) (marked x.instances (via a u))) e.helps))
-    rule_helps (AllR (all b) y) ts x no_cut shape main number within marks helped =
+    rule_helps (AllR (all b) y) ts x no_cut no_unfolding shape main number within marks helped =
         let a : Address = c Right (all b) in
         let p : HasImage m a Right (all b) = on_right (all b) main in
         by_one (AllR (all b) y) (inner_variable vs (AllR (all b) y) m c x) ts number within helped (λ e.
         right_helper (all b) main (help_all_right vs st α (image (fin.get m) b) a p.formula p.side (marks.used a (marked x.opened a))
         ∙ (ap (λ w. does (via a (free w))) (kept_variable a (met vs (AllR (all b) y) m c x) marks (is_there a x.names)) ∙ e.helps)))
-    rule_helps (ExL (ex b) y) ts x no_cut shape main number within marks helped =
+    rule_helps (ExL (ex b) y) ts x no_cut no_unfolding shape main number within marks helped =
         let a : Address = c Left (ex b) in
         let p : HasImage m a Left (ex b) = on_left (ex b) main in
         by_one (ExL (ex b) y) (inner_variable vs (ExL (ex b) y) m c x) ts number within helped (λ e.
         left_helper (ex b) main (help_ex_left vs st α (image (fin.get m) b) a p.formula p.side (marks.used a (marked x.opened a))
         ∙ (ap (λ w. does (via a (free w))) (kept_variable a (met vs (ExL (ex b) y) m c x) marks (is_there a x.names)) ∙ e.helps)))
-    rule_helps (ExR (ex b) t) ts x no_cut shape main number within marks helped =
+    rule_helps (ExR (ex b) t) ts x no_cut no_unfolding shape main number within marks helped =
         let a : Address = c Right (ex b) in
         let u : Term = image_term (fin.get m) t in
         let p : HasImage m a Right (ex b) = on_right (ex b) main in
         by_one (ExR (ex b) t) (inner_variable vs (ExR (ex b) t) m c x) ts number within helped (λ e.
         right_helper (ex b) main (help_ex_right vs st α (image (fin.get m) b) a u p.formula p.side (marks.used a (marked x.opened a)) (marks.instances (via a u) (marked x.instances (via a u))) e.helps))
-    rule_helps Weak ts x no_cut shape main number within marks helped =
+    rule_helps Weak ts x no_cut no_unfolding shape main number within marks helped =
         by_one Weak (inner_variable vs Weak m c x) ts number within helped (λ e. clash false e.among refl)
-    rule_helps (Cut f) ts x no_cut shape main number within marks helped = cc
-    rule_helps r ts x no_cut shape main number within marks helped = cc
+    rule_helps (DefL f) ts x no_cut no_unfolding shape main number within marks helped = cc
+    rule_helps (DefR f) ts x no_cut no_unfolding shape main number within marks helped = cc
+    rule_helps (Cut f) ts x no_cut no_unfolding shape main number within marks helped = cc
+    rule_helps r ts x no_cut no_unfolding shape main number within marks helped = cc

@@ -1,4 +1,4 @@
--- What is extracted from a valid proof without cuts is true under each assignment.
+-- What is extracted from a valid proof without cuts and unfoldings is true under each assignment.
 use Rattle.std.proofs.Common.{◌≡◌, ℕ, suc, Bool, true, false, not, ◌||◌, List, [], ◌∷◌, map, refl, sym, ap, ◌∙◌}
 use Rattle.std.specs.FinMap as fin
 use Rattle.std.specs.List.{list_any}
@@ -16,13 +16,16 @@ use Rattle.lk_rules.specs.declared.sequent.Side.{Side}
 use Rattle.lk_rules.specs.declared.sequent.Side.TheVariants.{Left, Right}
 use Rattle.lk_rules.specs.declared.rule.Rule.{Rule}
 use Rattle.lk_rules.specs.Sequents.{side_of}
-use Rattle.lk_rules.specs.Rules.{main_stands, eigen_free, Row}
+use Rattle.lk_rules.specs.Rules.{is_unfolding_rule, main_stands, eigen_free, Row}
 use Rattle.lk_rules.proofs.Rows.{stands_of}
 use Rattle.lk_rules.proofs.Subsequents.{and_left, and_right}
 use Rattle.proof_trees.specs.Trees.{Tree, node, Trees, none, more, concl, count, first_end, second_end, is_cut, IsValid, AllValid, cut_free, cut_free_all, IsCutFree}
+use Rattle.proof_trees.specs.Conclusions.{EachNode, EachNodeOf}
+use Rattle.proof_trees.specs.Occurrence.{has_body_in_sequent, IsPlainNode}
 use Rattle.proof_trees.proofs.Booleans.{or_first, or_second}
 use Rattle.proof_trees.proofs.Verdicts.{row_of_verdict}
-use Rattle.contraction_laws.proofs.Cuts.{AllWithin, Premises, premises_of}
+use Rattle.proof_trees.proofs.WithoutBodies.{plain_nodes}
+use Rattle.cut_laws.proofs.Cuts.{AllWithin, Premises, premises_of}
 use Rattle.refutations.proofs.FormulaSets.{equal}
 use Rattle.search_laws.specs.Truth.{Assignment, IsTautology}
 use Rattle.search_laws.proofs.Tests.{not_true}
@@ -46,47 +49,51 @@ abbrev pub AllFit : Map → (ℕ → Context) → ℕ → Trees → Type 0
 AllFit m cs i none = Unit {0}
 AllFit m cs i (more t ts) = HaveImages m (cs i) (concl t) × AllFit m cs (suc i) ts
 
--- what is known of a node of a valid proof without cuts
+-- what is known of a node of a valid proof without cuts and unfoldings
 pub record Inference (r : Rule) (s : Sequent) (ts : Trees) : Type 0 where
   pub row : Row r s (count ts) (first_end ts) (second_end ts)
   pub premises : Premises r s ts
   pub main : main_stands r s ≡ true
   pub no_cut : is_cut r ≡ false
+  pub no_unfolding : is_unfolding_rule r ≡ false
   pub above_free : cut_free_all ts ≡ true
+  pub above_plain : EachNodeOf IsPlainNode ts
 
-pub inference : (r : Rule) (s : Sequent) (ts : Trees) → IsValid (node r s ts) → cut_free (node r s ts) ≡ true → Inference r s ts
-inference r s ts valid free =
+pub inference : (r : Rule) (s : Sequent) (ts : Trees) → IsValid (node r s ts) → cut_free (node r s ts) ≡ true → EachNode IsPlainNode (node r s ts) → Inference r s ts
+inference r s ts valid free plain =
     let row : Row r s (count ts) (first_end ts) (second_end ts) = row_of_verdict r s (count ts) (first_end ts) (second_end ts) valid.0.right in
     record {
       row = row;
       premises = premises_of r s ts row valid.1;
       main = stands_of r s row.main_formula;
       no_cut = not_true (is_cut r) (and_left _ _ free);
+      no_unfolding = plain.0.rule;
       above_free = and_right (not (is_cut r)) _ free;
+      above_plain = plain.1;
     }
 
-pub all_fit : (r : Rule) (s : Sequent) (m : Map) (c : Context) (v : Var) → IsClosedMap (fin.get m) → HaveImages m c s → is_cut r ≡ false → main_stands r s ≡ true → eigen_free r s ≡ false
+pub all_fit : (r : Rule) (s : Sequent) (m : Map) (c : Context) (v : Var) → IsClosedMap (fin.get m) → HaveImages m c s → is_cut r ≡ false → is_unfolding_rule r ≡ false → main_stands r s ≡ true → eigen_free r s ≡ false
     → (i : ℕ) (ts : Trees) → AllWithin r s i ts → AllFit (inner_map r m v) (inner_context r s m c v) i ts
-all_fit r s m c v closed fits no_cut main out i none within = tt
-all_fit r s m c v closed fits no_cut main out i (more t ts) within = (fits_inner m closed c s v fits r i (concl t) no_cut main out within.0, all_fit r s m c v closed fits no_cut main out (suc i) ts within.1)
+all_fit r s m c v closed fits no_cut no_unfolding main out i none within = tt
+all_fit r s m c v closed fits no_cut no_unfolding main out i (more t ts) within = (fits_inner m closed c s v fits r i (concl t) no_cut no_unfolding main out within.0, all_fit r s m c v closed fits no_cut no_unfolding main out (suc i) ts within.1)
 
 module _ (vs : List Var) (st : State) (α : Assignment) where
   mutual
-    helps-walked : (t : Tree) (m : Map) (c : Context) (x : State) → IsValid t → cut_free t ≡ true → IsClosedMap (fin.get m) → HaveImages m c (concl t) → Includes (walked vs t m c x) st → Helper vs st α c (concl t)
-    helps-walked (node r s ts) m c x valid free closed fits marks =
-        let i : Inference r s ts = inference r s ts valid free in
+    helps-walked : (t : Tree) (m : Map) (c : Context) (x : State) → IsValid t → cut_free t ≡ true → EachNode IsPlainNode t → IsClosedMap (fin.get m) → HaveImages m c (concl t) → Includes (walked vs t m c x) st → Helper vs st α c (concl t)
+    helps-walked (node r s ts) m c x valid free plain closed fits marks =
+        let i : Inference r s ts = inference r s ts valid free plain in
         let v : Var = inner_variable vs r m c x in
-        rule_helps vs st α m c s closed fits r ts x i.no_cut i.row.shape i.main i.premises.number i.premises.within
+        rule_helps vs st α m c s closed fits r ts x i.no_cut i.no_unfolding i.row.shape i.main i.premises.number i.premises.within
         (next (includes-walked_each vs ts (inner_map r m v) (inner_context r s m c v) 0 (met vs r m c x)) marks)
-        (helps-walked_each ts (inner_map r m v) (inner_context r s m c v) 0 (met vs r m c x) valid.1 i.above_free (closed_inner m closed v r)
-        (all_fit r s m c v closed fits i.no_cut i.main i.row.eigenvariable 0 ts i.premises.within) marks)
+        (helps-walked_each ts (inner_map r m v) (inner_context r s m c v) 0 (met vs r m c x) valid.1 i.above_free i.above_plain (closed_inner m closed v r)
+        (all_fit r s m c v closed fits i.no_cut i.no_unfolding i.main i.row.eigenvariable 0 ts i.premises.within) marks)
 
-    helps-walked_each : (ts : Trees) (m : Map) (cs : ℕ → Context) (i : ℕ) (x : State) → AllValid ts → cut_free_all ts ≡ true → IsClosedMap (fin.get m) → AllFit m cs i ts → Includes (walked_each vs ts m cs i x) st
+    helps-walked_each : (ts : Trees) (m : Map) (cs : ℕ → Context) (i : ℕ) (x : State) → AllValid ts → cut_free_all ts ≡ true → EachNodeOf IsPlainNode ts → IsClosedMap (fin.get m) → AllFit m cs i ts → Includes (walked_each vs ts m cs i x) st
         → AllHelped vs st α cs i ts
-    helps-walked_each none m cs i x valid free closed fit marks = tt
-    helps-walked_each (more t ts) m cs i x valid free closed fit marks = (
-      helps-walked t m (cs i) x valid.0 (and_left _ _ free) closed fit.0 (next (includes-walked_each vs ts m cs (suc i) (walked vs t m (cs i) x)) marks),
-      helps-walked_each ts m cs (suc i) (walked vs t m (cs i) x) valid.1 (and_right (cut_free t) _ free) closed fit.1 marks,
+    helps-walked_each none m cs i x valid free plain closed fit marks = tt
+    helps-walked_each (more t ts) m cs i x valid free plain closed fit marks = (
+      helps-walked t m (cs i) x valid.0 (and_left _ _ free) plain.0 closed fit.0 (next (includes-walked_each vs ts m cs (suc i) (walked vs t m (cs i) x)) marks),
+      helps-walked_each ts m cs (suc i) (walked vs t m (cs i) x) valid.1 (and_right (cut_free t) _ free) plain.1 closed fit.1 marks,
     )
 
 -- at first each formula has its own address
@@ -104,7 +111,7 @@ listed_passes p e s f there h =
     any-trees p e (set.listing s)
     ∙ any_of (eq_by_cmp formula_cmp) equal (λ g. p (e g)) (set.listing s) f (sym (has-listing s f) ∙ there) h
 
-module _ (t : Tree) (valid : IsValid t) (free : IsCutFree t) (α : Assignment) where
+module _ (t : Tree) (valid : IsValid t) (free : IsCutFree t) (bodies : has_body_in_sequent (concl t) ≡ false) (α : Assignment) where
   abbrev helped_on : Side → List Exp → Bool
   helped_on side = list_any (helped α side)
 
@@ -119,9 +126,9 @@ module _ (t : Tree) (valid : IsValid t) (free : IsCutFree t) (α : Assignment) w
   some_helps : (helped_on Left (extracted t).left || helped_on Right (extracted t).right) ≡ true
   some_helps =
       let h : Helper (vars_in t) (marks_of t) α root (concl t) =
-      helps-walked (vars_in t) (marks_of t) α t fin.empty root unmarked valid free closed_empty (fits_first (concl t)) (itself (marks_of t))
+      helps-walked (vars_in t) (marks_of t) α t fin.empty root unmarked valid free (plain_nodes t valid free bodies) closed_empty (fits_first (concl t)) (itself (marks_of t))
       in of_side h.side h.formula h.stands h.helps
 
 -- what the trees stand for is a tautology
-pub tautology_extracted : (t : Tree) → IsValid t → IsCutFree t → IsTautology (deep_sequent (extracted t))
-tautology_extracted t valid free = (tautology_helped (extracted t)).1 (some_helps t valid free)
+pub tautology_extracted : (t : Tree) → IsValid t → IsCutFree t → has_body_in_sequent (concl t) ≡ false → IsTautology (deep_sequent (extracted t))
+tautology_extracted t valid free bodies = (tautology_helped (extracted t)).1 (some_helps t valid free bodies)

@@ -1,6 +1,6 @@
--- Expansion proofs from proofs without cuts, after Miller (1987). The proof is gone through from its conclusion, the left premise first.
--- Each formula of a conclusion on the way has an address, and what the rules use is marked there; the trees are read off in the end. So
--- what two premises use at one address is merged.
+-- Expansion proofs from proofs without cuts in which no rule unfolds an atom, after Miller (1987). The proof is gone through from its
+-- conclusion, the left premise first. Each formula of a conclusion on the way has an address, and what the rules use is marked there; the
+-- trees are read off in the end. So what two premises use at one address is merged.
 --     vars_tree, vars_in      the variables of a proof
 --     paired      an axiom
 --     met, inner_map, inner_context      a rule, and the map and the addresses for its premises
@@ -21,7 +21,7 @@ use Rattle.lk_rules.specs.declared.sequent.Sequent.{Sequent}
 use Rattle.lk_rules.specs.declared.sequent.Side.{Side}
 use Rattle.lk_rules.specs.declared.sequent.Side.TheVariants.{Left, Right}
 use Rattle.lk_rules.specs.declared.rule.Rule.{Rule}
-use Rattle.lk_rules.specs.declared.rule.Rule.TheVariants.{Ax, AndL, AndR, OrL, OrR, ImpL, ImpR, AllL, AllR, ExL, ExR, Cut, Weak}
+use Rattle.lk_rules.specs.declared.rule.Rule.TheVariants.{Ax, AndL, AndR, OrL, OrR, ImpL, ImpR, AllL, AllR, ExL, ExR, DefL, DefR, Cut, Weak}
 use Rattle.lk_rules.specs.Sequents.{side_of, vars_sequent}
 use Rattle.lk_rules.specs.Rules.{main}
 use Rattle.proof_trees.specs.Trees.{Tree, node, Trees, none, more, concl}
@@ -87,13 +87,15 @@ address_of_main c [] [] = root Left top
 abbrev pub main_address : Rule → Context → Address
 main_address r c = address_of_main c (main r Left) (main r Right)
 
--- the marks of a rule
+-- the marks of a rule. A cut leaves none, nor does a rule that unfolds an atom
 abbrev pub met : List Var → Rule → Map → Context → State → State
 met vs (Ax f) m c st = paired vs (c Left f) (c Right f) st
 met vs (AllL f t) m c st = instantiated (c Left f) (image_term (fin.get m) t) (opened (c Left f) st)
 met vs (AllR f y) m c st = named (c Right f) (opened (c Right f) st)
 met vs (ExL f y) m c st = named (c Left f) (opened (c Left f) st)
 met vs (ExR f t) m c st = instantiated (c Right f) (image_term (fin.get m) t) (opened (c Right f) st)
+met vs (DefL f) m c st = st
+met vs (DefR f) m c st = st
 met vs (Cut f) m c st = st
 met vs Weak m c st = st
 met vs r m c st = opened (main_address r c) st
@@ -146,7 +148,7 @@ abbrev mutual
 abbrev pub marks_of : Tree → State
 marks_of t = walked (vars_in t) t fin.empty root unmarked
 
--- the expansion of a proof without cuts
+-- the expansion of a proof without cuts and unfoldings
 abbrev pub extracted : Tree → Expansion
 extracted t = record {
   left = map (λ f. tree_at (vars_in t) (marks_of t) (root Left f)) (set.listing (concl t).left);

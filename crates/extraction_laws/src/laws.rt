@@ -16,8 +16,9 @@ ghost use Rattle.lk_rules.specs.declared.sequent.Side.{Side as Place};
 ghost use Rattle.lk_rules.specs.declared.sequent.Side.TheVariants.{Left, Right};
 ghost use Rattle.lk_rules.specs.declared.rule.Rule.{Rule as Inference};
 ghost use Rattle.lk_rules.specs.Sequents.{side_of};
-ghost use Rattle.lk_rules.specs.Rules.{main_stands, eigen_free, IsWithin};
+ghost use Rattle.lk_rules.specs.Rules.{is_unfolding_rule, main_stands, eigen_free, IsWithin};
 ghost use Rattle.proof_trees.specs.Trees.{Tree as Proof, node, Trees as Proofs, none, more, concl, is_cut, IsValid, IsCutFree};
+ghost use Rattle.proof_trees.specs.Occurrence.{has_body_in_sequent};
 ghost use Rattle.expansion_laws.specs.Expansions.{wk, leaf, neg, conj, disj, impl, shallow};
 ghost use Rattle.expansion_laws.specs.Building.{is_flat};
 ghost use Rattle.expansion_laws.specs.Proofs.{IsExpansionProof};
@@ -32,9 +33,9 @@ pub fn formulas()
     ensures right { (t : Proof) → map shallow (extracted t).right ≡ set.listing (concl t).right }
 {}
 
-/// What is extracted from a valid proof without cuts is an expansion proof of its conclusion.
+/// What is extracted from a valid proof without cuts is an expansion proof of its conclusion, if no predicate symbol there has a body.
 pub fn expansion_proof()
-    ensures { (t : Proof) → IsValid t → IsCutFree t → IsExpansionProof (extracted t) (concl t) }
+    ensures { (t : Proof) → IsValid t → IsCutFree t → has_body_in_sequent (concl t) ≡ false → IsExpansionProof (extracted t) (concl t) }
 {}
 
 /// A proof that was gone through leaves no new marks when it is gone through again with the same map and the same addresses, also after
@@ -47,10 +48,10 @@ pub fn again()
 {}
 
 /// The addresses of the formulas on the way have the images of the formulas, on their sides: at first the formulas themselves, and in the
-/// premises of an inference where it is so in its conclusion. The terms of the map stay closed.
+/// premises of an inference that unfolds no atom where it is so in its conclusion. The terms of the map stay closed.
 pub fn images()
     ensures first { (s : Conclusion) → HaveImages fin.empty root s }
-    ensures premise { (r : Inference) (s e : Conclusion) (i : ℕ) (m : Map) (c : Context) (v : Variable) → is_cut r ≡ false → main_stands r s ≡ true → eigen_free r s ≡ false → IsWithin r s i e → IsClosedMap (fin.get m) → HaveImages m c s → HaveImages (inner_map r m v) (inner_context r s m c v i) e }
+    ensures premise { (r : Inference) (s e : Conclusion) (i : ℕ) (m : Map) (c : Context) (v : Variable) → is_cut r ≡ false → is_unfolding_rule r ≡ false → main_stands r s ≡ true → eigen_free r s ≡ false → IsWithin r s i e → IsClosedMap (fin.get m) → HaveImages m c s → HaveImages (inner_map r m v) (inner_context r s m c v i) e }
     ensures closed { (r : Inference) (m : Map) (v : Variable) → IsClosedMap (fin.get m) → IsClosedMap (fin.get (inner_map r m v)) }
 {}
 

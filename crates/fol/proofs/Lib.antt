@@ -2,5 +2,4 @@ pub mod OrderTies
 pub mod FormedDepth
 pub mod NumberedTexts
 pub mod Fingerprints
-pub mod KeyTies
 pub mod FormedPredicates

@@ -5,6 +5,5 @@ pub mod Mixing
 pub mod Facts
 pub mod Order
 pub mod OrderLaws
-pub mod Keys
 pub mod Numbered
 pub mod Formed

@@ -34,13 +34,6 @@ pub fn well_formed_var(var: &Var) -> bool
     }
 }
 
-/// Whether the predicate symbol is well formed: its name is one or more printable ASCII bytes, and its body is as `well_formed` says.
-pub fn well_formed_predicate(predicate: &Predicate) -> bool
-    ensures { result ≡ is_formed_pred predicate.now }
-{
-    is_predicate_formed(predicate)
-}
-
 /// Whether the symbol's name is one or more printable ASCII bytes.
 pub fn well_formed_sym(symbol: &Sym) -> bool
     ensures { result ≡ is_formed_sym symbol.now }

@@ -7,7 +7,6 @@
 
 mod facts;
 mod formed;
-mod keys;
 mod numerals;
 mod order;
 mod symbols;
@@ -15,10 +14,7 @@ mod syntax;
 mod texts;
 
 pub use facts::mix;
-pub use formed::{
-    well_formed, well_formed_predicate, well_formed_sym, well_formed_term, well_formed_var,
-};
-pub use keys::{FormulaKey, TermKey};
+pub use formed::{well_formed, well_formed_sym, well_formed_term, well_formed_var};
 pub use numerals::numbered;
 pub use symbols::{Sym, Var};
 pub use syntax::{Formula, FormulaNode, Predicate, Term, TermNode, Terms, TermsLink};

@@ -24,7 +24,7 @@ use Rattle.lk_rules.specs.declared.sequent.Side.{Side}
 use Rattle.lk_rules.specs.declared.sequent.Side.TheVariants.{Left, Right}
 use Rattle.lk_rules.specs.Sequents.{is_free_in_sequent}
 use Rattle.lk_rules.proofs.Subsequents.{and_left, and_right, and_both}
-use Rattle.contraction_laws.proofs.Sides.{stays_in, neither_first, neither_second}
+use Rattle.cut_laws.proofs.Sides.{stays_in, neither_first, neither_second}
 use Rattle.search_laws.specs.Truth.{Assignment, value, has_quantifier}
 use Rattle.search_laws.proofs.Tests.{neither, not-or, not_true, not_false}
 use Rattle.expansion_laws.specs.Helping.{helps}

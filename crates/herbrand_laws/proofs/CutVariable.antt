@@ -17,7 +17,7 @@ use Rattle.free_variables.proofs.OccurrenceLaws.{is_free-var_list_terms}
 use Rattle.lk_rules.specs.declared.sequent.Sequent.{Sequent}
 use Rattle.lk_rules.specs.Sequents.{is_free_in_sequent, vars_sequent}
 use Rattle.lk_rules.proofs.SequentVariables.{sequent_var_members}
-use Rattle.contraction_laws.proofs.Sides.{neither_first, neither_second}
+use Rattle.cut_laws.proofs.Sides.{neither_first, neither_second}
 use Rattle.herbrand_laws.specs.Herbrand.{Item}
 use Rattle.herbrand_laws.specs.Introduction.{tuple_variables, cut_variable}
 

@@ -1,11 +1,11 @@
--- Worked examples of tuples, rows and candidates.
-use Rattle.std.proofs.Common.{◌≡◌, ◌+◌, ◌*◌, true, not, cond, [], ◌∷◌, ◌++◌, map, length, Some, None, refl, sym, ap, ◌∙◌}
+-- Worked examples of matrices, tuples, rows and candidates.
+use Rattle.std.proofs.Common.{◌≡◌, ◌+◌, ◌*◌, true, false, not, cond, [], ◌∷◌, ◌++◌, map, length, Some, None, refl, sym, ap, ◌∙◌}
 use Rattle.std.specs.List.{filter, list_any, sum_by}
 use Rattle.std.specs.Ordering.{eq_by_cmp}
 use Rattle.std.specs.Cmp.Lexicographic.{pointwise}
 use Rattle.std.specs.FinMap as fin
 use Rattle.fol.specs.declared.symbols.Var.{Var}
-use Rattle.fol.specs.Syntax.{Term, free, bound, app, Terms, nil, cons, plain, Formula, atom, all}
+use Rattle.fol.specs.Syntax.{Term, free, bound, app, Terms, nil, cons, pred, plain, defined, Formula, atom, top, all}
 use Rattle.fol.specs.Order.{term_cmp, terms_cmp}
 use Rattle.fol.specs.OrderLaws.{term_total, terms_total}
 use Rattle.finite.specs.Finite as set
@@ -14,7 +14,7 @@ use Rattle.lk_rules.specs.declared.sequent.Sequent.{Sequent}
 use Rattle.lk_rules.specs.declared.sequent.Side.TheVariants.{Left}
 use Rattle.lk_rules.specs.declared.rule.Rule.TheVariants.{AllL, AllR}
 use Rattle.expansion_laws.specs.Expansions.{wk, leaf, weak, none, more}
-use Rattle.herbrand_laws.specs.Herbrand.{tuples_on, Item, quantifiers}
+use Rattle.herbrand_laws.specs.Herbrand.{is_prenex, tuples_on, Item, quantifiers}
 use Rattle.herbrand_laws.specs.Patterns.{put, TermSet, Row, delta}
 use Rattle.herbrand_laws.specs.Candidates.{rows_of, same_terms, patterns, rest, cost, best}
 use Rattle.herbrand_laws.specs.Introduction.{rules_for, cut_variable, cut_formula, left_rules, right_rules, by_tuple, matrix_of, assumed, conjunction, matrix_at}
@@ -38,6 +38,14 @@ p t u = atom (plain (record { name = 112 ∷ []; arity = 2 })) (cons t (cons u n
 
 abbrev two : Term → Term → Terms
 two t u = cons t (cons u nil)
+
+-- `![X]: p(X, a)` on the left is a quantifier over a matrix, but not over an atom whose symbol has a body
+
+over_atom : is_prenex Left (all (p (bound 0) a)) ≡ true
+over_atom = refl
+
+over_defined : is_prenex Left (all (atom (pred (record { name = 112 ∷ []; arity = 0 }) (defined top)) nil)) ≡ false
+over_defined = refl
 
 -- `![X]: ![Y]: p(X, Y)` with its instance by a, of which b is used and f(b) isn't
 used : tuples_on Left (weak (all (all (p (bound 1) (bound 0)))) (more a (weak (all (p a (bound 0))) (more b (leaf (p a b)) (more (f b) (wk (p a (f b))) none))) none)) ≡ two a b ∷ []

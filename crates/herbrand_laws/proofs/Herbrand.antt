@@ -1,4 +1,5 @@
--- The Herbrand sequent of an expansion proof is a tautology without quantifiers, of matrix instances of the formulas.
+-- The Herbrand sequent of an expansion proof is a tautology without quantifiers, of matrix instances of the formulas. No predicate symbol of
+-- those has a body.
 use Rattle.std.proofs.Common.{◌≡◌, ℕ, zero, suc, ◌+◌, true, false, not as negated, ◌||◌, List, [], ◌∷◌, ◌++◌, map, get_or, refl, sym, ap, subst, ◌∙◌, arith}
 use Rattle.std.specs.List.{All, list_all, list_any}
 use Rattle.std.specs.Ordering.{eq_by_cmp}
@@ -8,15 +9,17 @@ use Rattle.std.proofs.lemmas.List.Elements.{All-nil, All-cons, All-head, All-tai
 use Rattle.std.proofs.lemmas.List.Folds.{list_any-append, list_all-append, list_all-map}
 use Rattle.std.proofs.lemmas.List.Sums.{list_all-from_AllPass}
 use Rattle.fol.specs.Syntax.{Terms, nil, cons, Formula}
+use Rattle.fol.specs.Facts.{has_body}
 use Rattle.fol.specs.Order.{formula_cmp}
 use Rattle.fol.specs.Formed.{count_terms}
 use Rattle.finite.specs.Finite as set
-use Rattle.finite.proofs.Finite.{has-empty}
+use Rattle.finite.proofs.Finite.{has-empty, has-listing}
 use Rattle.lk_rules.specs.declared.sequent.Sequent.{Sequent}
 use Rattle.lk_rules.specs.declared.sequent.Side.{Side}
 use Rattle.lk_rules.specs.declared.sequent.Side.TheVariants.{Left, Right}
 use Rattle.lk_rules.specs.Sequents.{side_of}
 use Rattle.lk_rules.proofs.Subsequents.{and_left, and_right, and_both}
+use Rattle.proof_trees.specs.Occurrence.{has_body_in_sequent}
 use Rattle.proof_trees.proofs.Booleans.{or_first, or_second, either, or_more}
 use Rattle.proof_trees.proofs.Members.{from_some}
 use Rattle.refutations.proofs.FormulaSets.{equal}
@@ -32,7 +35,7 @@ use Rattle.expansion_laws.proofs.Lists.{all-set_of, not-any}
 use Rattle.expansion_laws.proofs.Falsified.{tautology_helped}
 use Rattle.herbrand_laws.specs.Herbrand.{is_prenex, prefix, matrix_instance, tuples, tuples_in, tuples_on, item_of, items_of, matrix_instances, IsPrenex, herbrand_sequent, IsMatrixInstance}
 use Rattle.herbrand_laws.proofs.Lists.{any-map}
-use Rattle.herbrand_laws.proofs.Matrices.{matrix_plain}
+use Rattle.herbrand_laws.proofs.Matrices.{matrix_plain, prenex_no_body}
 use Rattle.herbrand_laws.proofs.Reached.{some_tuple_helps, tuple_helps}
 
 -- the sequent with the formulas of two lists
@@ -216,3 +219,13 @@ module _ (x : Expansion) (s : Sequent) (proof : IsExpansionProof x s) (prenex : 
 
   pub herbrand_instance : (side : Side) (f : Formula) → set.has (side_of (herbrand_sequent (items_of x)) side) f ≡ true → IsMatrixInstance s side f
   herbrand_instance = subst (λ q. (side : Side) (f : Formula) → set.has (side_of q side) f ≡ true → IsMatrixInstance s side f) (as_listed x) listed_instance
+
+-- no predicate symbol of the sequent has a body
+
+prenex_side : (s : Sequent) → IsPrenex s → (side : Side) → list_any has_body (set.listing (side_of s side)) ≡ false
+prenex_side s h side =
+    fails (list_any has_body (set.listing (side_of s side))) (from_some has_body (set.listing (side_of s side)) (λ f m e.
+    clash (has_body f) e (prenex_no_body side f (h side f (has-listing (side_of s side) f ∙ m)))))
+
+pub prenex_without_bodies : (s : Sequent) → IsPrenex s → has_body_in_sequent s ≡ false
+prenex_without_bodies s h = λ i. prenex_side s h Left i || prenex_side s h Right i

@@ -1,10 +1,13 @@
 -- Formulas with weak quantifiers in front, and their instances.
-use Rattle.std.proofs.Common.{◌≡◌, ℕ, suc, ◌+◌, true, false, not as negated, ◌||◌, refl, sym, ap, ◌∙◌, arith}
+use Rattle.std.proofs.Common.{◌≡◌, ℕ, suc, ◌+◌, true, false, not as negated, ◌&&◌, ◌||◌, refl, sym, ap, ◌∙◌, arith}
 use Rattle.fol.specs.Syntax.{Term, Terms, nil, cons, Formula, atom, top, bot, not, and, or, imp, all, ex}
+use Rattle.fol.specs.Facts.{has_body}
 use Rattle.fol.specs.Formed.{count_terms}
 use Rattle.substitution.specs.Instance.{inst_at}
+use Rattle.substitution.proofs.ShapeLaws.{body-inst_at}
 use Rattle.lk_rules.specs.declared.sequent.Side.{Side}
 use Rattle.lk_rules.specs.declared.sequent.Side.TheVariants.{Left, Right}
+use Rattle.lk_rules.proofs.Subsequents.{and_left, and_right}
 use Rattle.search_laws.specs.Truth.{has_quantifier}
 use Rattle.search_laws.proofs.Tests.{not_true}
 use Rattle.expansion_laws.specs.Proofs.{is_weak_on}
@@ -28,11 +31,11 @@ prefix-inst_at u Left (all f) k = ap suc (prefix-inst_at u Left f (k + 1))
 prefix-inst_at u Right (ex f) k = ap suc (prefix-inst_at u Right f (k + 1))
 prefix-inst_at u s f k = refl
 
--- an instance is weak quantifiers over a formula without quantifiers just where the formula is
+-- an instance is weak quantifiers over such a matrix just where the formula is
 pub prenex-inst_at : (u : Term) (s : Side) (f : Formula) (k : ℕ) → is_prenex s (inst_at u k f) ≡ is_prenex s f
 prenex-inst_at u Left (all f) k = prenex-inst_at u Left f (k + 1)
 prenex-inst_at u Right (ex f) k = prenex-inst_at u Right f (k + 1)
-prenex-inst_at u s f k = ap negated (quantified-inst_at u f k)
+prenex-inst_at u s f k = λ i. negated (quantified-inst_at u f k i) && negated (body-inst_at u f k i)
 
 -- the quantifiers of the instance of a weakly quantified formula
 pub next_prefix : (s : Side) (f : Formula) (t : Term) → is_weak_on s f ≡ true → prefix s f ≡ suc (prefix s (instance_of f t))
@@ -55,7 +58,13 @@ weak_front s f n e = absurd (omega arith)
 plain_without : (s : Side) (f : Formula) → 0 ≡ prefix s f → is_prenex s f ≡ true → has_quantifier f ≡ false
 plain_without Left (all f) e h = absurd (omega arith)
 plain_without Right (ex f) e h = absurd (omega arith)
-plain_without s f e h = not_true (has_quantifier f) h
+plain_without s f e h = not_true (has_quantifier f) (and_left (negated (has_quantifier f)) (negated (has_body f)) h)
+
+-- no predicate symbol of a formula that is weak quantifiers over such a matrix has a body
+pub prenex_no_body : (s : Side) (f : Formula) → is_prenex s f ≡ true → has_body f ≡ false
+prenex_no_body Left (all f) h = prenex_no_body Left f h
+prenex_no_body Right (ex f) h = prenex_no_body Right f h
+prenex_no_body s f h = not_true (has_body f) (and_right (negated (has_quantifier f)) (negated (has_body f)) h)
 
 -- the matrix instance by a tuple of a term for each quantifier has no quantifier
 pub matrix_plain : (s : Side) (us : Terms) (f : Formula) → count_terms us ≡ prefix s f → is_prenex s f ≡ true → has_quantifier (matrix_instance us f) ≡ false

@@ -1,13 +1,14 @@
 -- A tree that helps has a tuple whose matrix instance helps.
-use Rattle.std.proofs.Common.{◌≡◌, ℕ, suc, Bool, true, false, ◌&&◌, List, [], ◌∷◌, map, refl, sym, ap, ◌∙◌, arith}
+use Rattle.std.proofs.Common.{◌≡◌, ℕ, suc, Bool, true, false, not, ◌&&◌, List, [], ◌∷◌, map, refl, sym, ap, ◌∙◌, arith}
 use Rattle.std.specs.List.{list_any}
 use Rattle.std.proofs.lemmas.List.Folds.{list_any-append}
 use Rattle.fol.specs.Syntax.{Term, free, Terms, nil, cons, Formula, all, ex}
+use Rattle.fol.specs.Facts.{has_body}
 use Rattle.lk_rules.specs.declared.sequent.Side.{Side}
 use Rattle.lk_rules.specs.declared.sequent.Side.TheVariants.{Left, Right}
 use Rattle.lk_rules.proofs.Subsequents.{and_left, and_right, and_both}
 use Rattle.proof_trees.proofs.Booleans.{or_first, or_second, either}
-use Rattle.contraction_laws.proofs.Sides.{neither_first, neither_second}
+use Rattle.cut_laws.proofs.Sides.{neither_first, neither_second}
 use Rattle.refutations.proofs.FormulaSets.{equal}
 use Rattle.search_laws.specs.Truth.{Assignment, has_quantifier}
 use Rattle.search_laws.proofs.Tests.{clash, not_true}
@@ -69,7 +70,7 @@ no_prefix s f e = refl
 plain_front : (s : Side) (f : Formula) → is_quantified f ≡ false → is_prenex s f ≡ true → has_quantifier f ≡ false
 plain_front Left (all f) e q = cc
 plain_front Right (ex f) e q = cc
-plain_front s f e q = not_true (has_quantifier f) q
+plain_front s f e q = not_true (has_quantifier f) (and_left (not (has_quantifier f)) (not (has_body f)) q)
 
 -- a weakly quantified formula has one quantifier and more
 counted_front : (s : Side) (f : Formula) → is_weak_on s f ≡ true → (n : ℕ) × (prefix s f ≡ suc n)

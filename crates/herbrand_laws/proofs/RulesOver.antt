@@ -16,7 +16,7 @@ use Rattle.lk_rules.proofs.Rows.{main_of}
 use Rattle.lk_rules.proofs.Subsequents.{and_left, and_right, and_both}
 use Rattle.proof_trees.specs.Trees.{Tree, none, more, concl, first_end, second_end, IsInference, IsValid, is_cut, is_quantifier_rule, cuts, quants}
 use Rattle.proof_trees.proofs.Verdicts.{verdict_of_row}
-use Rattle.contraction_laws.proofs.Sides.{itself, within_extended}
+use Rattle.cut_laws.proofs.Sides.{itself, within_extended}
 use Rattle.search_laws.proofs.Found.{are_formed}
 use Rattle.search_laws.proofs.Listed.{all-adds_each}
 use Rattle.herbrand_laws.specs.Introduction.{end_after, over}

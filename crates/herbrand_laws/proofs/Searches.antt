@@ -24,7 +24,7 @@ use Rattle.lk_rules.specs.Rules.{aux}
 use Rattle.lk_rules.proofs.Subsequents.{and_left, and_right, and_both}
 use Rattle.proof_trees.proofs.Booleans.{or_first, or_second, either}
 use Rattle.proof_trees.proofs.Members.{from_some, some_passes}
-use Rattle.contraction_laws.proofs.Sides.{within_added, within_extended, neither_first, neither_second, alone}
+use Rattle.cut_laws.proofs.Sides.{within_added, within_extended, neither_first, neither_second, alone}
 use Rattle.refutations.proofs.FormulaSets.{equal}
 use Rattle.search_laws.specs.Truth.{Assignment, falsifies, IsTautology}
 use Rattle.search_laws.proofs.Found.{are_formed}

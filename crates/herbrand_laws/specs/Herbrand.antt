@@ -1,5 +1,5 @@
 -- Herbrand sequents, after Herbrand (1930) and Miller (1987), of sequents all of whose formulas are weak quantifiers over a formula without
--- quantifiers: `all` on the left, `ex` on the right.
+-- quantifiers and without predicate symbols that have a body: `all` on the left, `ex` on the right.
 --     is_prenex, prefix      whether a formula is of that kind on a side, and how many quantifiers it has
 --     instance_of, matrix_instance      the instance of a quantified formula by a term; that of all its quantifiers by a tuple
 --     tuples      the tuples of terms by which a tree reaches its formula without quantifiers
@@ -7,9 +7,10 @@
 --     IsPrenex      each formula of a sequent is of that kind
 --     herbrand_sequent      the matrix instances by the tuples
 --     IsMatrixInstance      a formula is the matrix instance of one of a sequent
-use Rattle.std.specs.Prelude.{◌≡◌, ℕ, zero, suc, Bool, true, not as negated, List, [], ◌∷◌, ◌++◌, map}
+use Rattle.std.specs.Prelude.{◌≡◌, ℕ, zero, suc, Bool, true, ◌&&◌, not as negated, List, [], ◌∷◌, ◌++◌, map}
 use Rattle.std.specs.List.{flat_map}
 use Rattle.fol.specs.Syntax.{Term, Terms, nil, cons, Formula, all, ex}
+use Rattle.fol.specs.Facts.{has_body}
 use Rattle.fol.specs.Formed.{count_terms}
 use Rattle.finite.specs.Finite as set
 use Rattle.substitution.specs.Instance.{inst}
@@ -21,11 +22,11 @@ use Rattle.search_laws.specs.Truth.{has_quantifier}
 use Rattle.expansion_laws.specs.Expansions.{Exp, wk, weak, Insts, none, more, shallow}
 use Rattle.expansion_laws.specs.Dependency.{Expansion}
 
--- whether a formula is zero or more weak quantifiers over a formula without quantifiers, its matrix
+-- whether a formula is zero or more weak quantifiers over its matrix, which has no quantifier and no predicate symbol with a body
 abbrev pub is_prenex : Side → Formula → Bool
 is_prenex Left (all f) = is_prenex Left f
 is_prenex Right (ex f) = is_prenex Right f
-is_prenex s f = negated (has_quantifier f)
+is_prenex s f = negated (has_quantifier f) && negated (has_body f)
 
 -- how many weak quantifiers stand in front
 abbrev pub prefix : Side → Formula → ℕ
@@ -86,7 +87,7 @@ on_side side other fs = []
 abbrev pub matrix_instances : Side → List Item → List Formula
 matrix_instances side items = flat_map (λ i. on_side side i.side (map (λ us. matrix_instance us i.formula) i.tuples)) items
 
--- each formula of the sequent is weak quantifiers over a formula without quantifiers
+-- each formula of the sequent is weak quantifiers over such a matrix
 abbrev pub IsPrenex : Sequent → Type 0
 IsPrenex s = (side : Side) (f : Formula) → set.has (side_of s side) f ≡ true → is_prenex side f ≡ true
 

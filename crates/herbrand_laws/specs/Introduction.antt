@@ -161,8 +161,7 @@ pub record AreFormed (s : Sequent) : Type 0 where
   pub left : All IsFormed (set.listing s.left)
   pub right : All IsFormed (set.listing s.right)
 
--- An expansion proof of a sequent of well-formed formulas that are weak quantifiers over formulas without quantifiers. The terms of its tuples
--- are well formed.
+-- An expansion proof of a sequent of well-formed formulas that are weak quantifiers over matrices. The terms of its tuples are well formed.
 pub record IsFormedProof (x : Expansion) (s : Sequent) : Type 0 where
   pub proof : IsExpansionProof x s
   pub prenex : IsPrenex s

@@ -14,6 +14,7 @@ ghost use Rattle.lk_rules.specs.declared.rule.Rule.TheVariants.{Cut};
 ghost use Rattle.lk_rules.specs.Sequents.{side_of, adds_to, extended, IsSubsequent};
 ghost use Rattle.lk_rules.specs.Rules.{aux};
 ghost use Rattle.proof_trees.specs.Trees.{Tree as Proof, none, more, concl, quants, IsInference};
+ghost use Rattle.proof_trees.specs.Occurrence.{has_body_in_sequent};
 ghost use Rattle.search_laws.specs.Truth.{has_quantifier, IsPropositional, IsTautology};
 ghost use Rattle.search_laws.specs.Search.{walk, proved};
 ghost use Rattle.expansion_laws.specs.Expansions.{Exp};
@@ -25,9 +26,15 @@ ghost use Rattle.herbrand_laws.specs.Patterns.{put_term, put, has_variable_term,
 ghost use Rattle.herbrand_laws.specs.Candidates.{rows_of, IsRowOf, occurring, patterns, is_covered, cost, candidate_cmp, least, best};
 ghost use Rattle.herbrand_laws.specs.Introduction.{cut_formula, left_rules, right_rules, end_after, left_search, right_search, introduced, introduction, AreFormed, IsFormedProof, IsProofWithCut};
 
-/// The Herbrand sequent of an expansion proof, of a sequent whose formulas are weak quantifiers over a formula without quantifiers, is a
-/// tautology without quantifiers. Each of its formulas is the matrix instance of one of the sequent's by a tuple of as many terms as that has
-/// quantifiers; they are well formed where the sequent's formulas and the terms are.
+/// No predicate symbol of a sequent whose formulas are weak quantifiers over matrices has a body, so none is unfolded in a proof of it without
+/// cuts.
+pub fn prenex_sequents()
+    ensures { (s : Conclusion) → IsPrenex s → has_body_in_sequent s ≡ false }
+{}
+
+/// The Herbrand sequent of an expansion proof, of a sequent whose formulas are weak quantifiers over matrices, is a tautology without
+/// quantifiers. Each of its formulas is the matrix instance of one of the sequent's by a tuple of as many terms as that has quantifiers; they
+/// are well formed where the sequent's formulas and the terms are.
 pub fn herbrand_sequents()
     ensures tautology { (x : Expansion) (s : Conclusion) → IsExpansionProof x s → IsPrenex s → IsTautology (herbrand_sequent (items_of x)) }
     ensures propositional { (x : Expansion) (s : Conclusion) → IsExpansionProof x s → IsPrenex s → IsPropositional (herbrand_sequent (items_of x)) }

@@ -10,13 +10,13 @@ use Rattle.lk_rules.specs.declared.sequent.Sequent.{Sequent}
 use Rattle.lk_rules.specs.declared.rule.Rule.{Rule}
 use Rattle.lk_rules.specs.RuleOrder.{term_of, variable_of}
 use Rattle.lk_rules.specs.Sequents.{extended, is_free_in_sequent, union_sequent, IsSubsequent}
-use Rattle.lk_rules.specs.Rules.{aux, main_stands, IsWithin}
+use Rattle.lk_rules.specs.Rules.{IsFormedRule, is_unfolding_rule, aux, main_stands, IsWithin}
 use Rattle.lk_rules.proofs.Rows.{main_of}
 use Rattle.proof_trees.specs.Trees.{is_cut}
 use Rattle.proof_trees.specs.Occurrence.{passes, is_pred_in_sequent}
 use Rattle.proof_trees.proofs.Booleans.{either}
 use Rattle.proof_trees.proofs.Premises.{free_without_cut, pred_without_cut}
-use Rattle.contraction_laws.proofs.Sides.{itself, within_extended}
+use Rattle.cut_laws.proofs.Sides.{itself, within_extended}
 use Rattle.interp_laws.proofs.Members.{by_members, member, in_one, in_two, from_union, from_extended, new_in_extended}
 
 -- a premise of the rule is within the premise's parts
@@ -47,14 +47,14 @@ second_parts r i s one two x within h =
 
 -- symbols and variables of a part with the auxiliary formulas
 
-pub pred_above : (q : Pred) (r : Rule) (i : ℕ) (s : Sequent) → is_cut r ≡ false → main_stands r s ≡ true → is_pred_in_sequent q (extended s (aux r i)) ≡ true → is_pred_in_sequent q s ≡ true
-pred_above q r i s uncut stands = pred_without_cut q r s i (extended s (aux r i)) uncut (main_of r s stands) (itself (extended s (aux r i)))
+pub pred_above : (q : Pred) (r : Rule) (i : ℕ) (s : Sequent) → is_cut r ≡ false → is_unfolding_rule r ≡ false → main_stands r s ≡ true → is_pred_in_sequent q (extended s (aux r i)) ≡ true → is_pred_in_sequent q s ≡ true
+pred_above q r i s uncut no_unfolding stands = pred_without_cut q r s i (extended s (aux r i)) uncut no_unfolding (main_of r s stands) (itself (extended s (aux r i)))
 
 -- a variable that is free there is free in the part, unless it stands in the rule's term or is the eigenvariable
-pub free_above : {P : Type 0} (v : Var) (r : Rule) (i : ℕ) (s : Sequent) → is_cut r ≡ false → main_stands r s ≡ true → (is_free_in_sequent v s ≡ true → P)
+pub free_above : {P : Type 0} (v : Var) (r : Rule) (i : ℕ) (s : Sequent) → IsFormedRule r → is_cut r ≡ false → main_stands r s ≡ true → (is_free_in_sequent v s ≡ true → P)
     → (passes (is_free_in_term v) (term_of r) ≡ true → P) → (passes (eq_by_cmp var_cmp v) (variable_of r) ≡ true → P) → is_free_in_sequent v (extended s (aux r i)) ≡ true → P
-free_above v r i s uncut stands old of_term eigen h =
+free_above v r i s formed uncut stands old of_term eigen h =
     either (is_free_in_sequent v s) (passes (is_free_in_term v) (term_of r) || passes (eq_by_cmp var_cmp v) (variable_of r))
     old
     (either (passes (is_free_in_term v) (term_of r)) (passes (eq_by_cmp var_cmp v) (variable_of r)) of_term eigen)
-    (free_without_cut v r s i (extended s (aux r i)) uncut (main_of r s stands) (itself (extended s (aux r i))) h)
+    (free_without_cut v r s i (extended s (aux r i)) formed uncut (main_of r s stands) (itself (extended s (aux r i))) h)

@@ -1,5 +1,5 @@
 -- What interpolation asks for holds of the premises and their parts too.
-use Rattle.std.proofs.Common.{◌≡◌, ℕ, true, ◌&&◌, ◌∙◌}
+use Rattle.std.proofs.Common.{◌≡◌, ℕ, true, false, ◌&&◌, ◌∙◌}
 use Rattle.lk_rules.specs.declared.sequent.Sequent.{Sequent}
 use Rattle.lk_rules.specs.declared.sequent.Side.{Side}
 use Rattle.lk_rules.specs.declared.sequent.Side.TheVariants.{Left, Right}
@@ -7,18 +7,22 @@ use Rattle.lk_rules.specs.declared.rule.Rule.{Rule}
 use Rattle.lk_rules.specs.declared.rule.Rule.TheVariants.{Weak}
 use Rattle.lk_rules.specs.RuleOrder.{variable_of}
 use Rattle.lk_rules.specs.Sequents.{union_sequent, IsSubsequent}
-use Rattle.lk_rules.specs.Rules.{IsFormedRule, IsWithin, Row}
+use Rattle.lk_rules.specs.Rules.{IsFormedRule, is_unfolding_rule, main_stands, IsWithin, Row}
+use Rattle.lk_rules.proofs.Rows.{main_of}
 use Rattle.lk_rules.proofs.Subsequents.{and_left, and_right}
-use Rattle.proof_trees.specs.Trees.{Tree, node, Trees, none, more, concl, count, first_end, second_end, IsInference, IsValid, cut_free, cut_free_all}
+use Rattle.proof_trees.specs.Trees.{Tree, node, Trees, none, more, concl, count, first_end, second_end, IsInference, IsValid, is_cut, cut_free, cut_free_all}
+use Rattle.proof_trees.specs.Occurrence.{has_body_in_sequent}
+use Rattle.proof_trees.proofs.Premises.{body_without_cut, unfolded_in_conclusion}
 use Rattle.proof_trees.proofs.Verdicts.{row_of_verdict}
-use Rattle.contraction_laws.specs.Contraction.{moved_rule}
-use Rattle.contraction_laws.proofs.Cuts.{Premises}
-use Rattle.contraction_laws.proofs.Moved.{moved_formed}
+use Rattle.proof_trees.proofs.WithoutBodies.{stays_false}
+use Rattle.cut_laws.specs.Contraction.{moved_rule}
+use Rattle.cut_laws.proofs.Cuts.{Premises, main_in_end}
+use Rattle.cut_laws.proofs.Moved.{moved_stands, moved_formed}
 use Rattle.interp_laws.specs.Interpolation.{moved_tree, first_above, second_above}
 use Rattle.interp_laws.specs.Parts.{IsFormedSequent, HasParts}
 use Rattle.interp_laws.proofs.Above.{first_parts, second_parts}
 use Rattle.interp_laws.proofs.Members.{through}
-use Rattle.interp_laws.proofs.Moved.{moved_free, moved_premise}
+use Rattle.interp_laws.proofs.Moved.{moved_free, moved_cut, moved_premise}
 use Rattle.interp_laws.proofs.RuleParts.{extended_formed}
 
 pub row_at : (r : Rule) (s : Sequent) (ts : Trees) → IsInference r s ts → Row r s (count ts) (first_end ts) (second_end ts)
@@ -83,3 +87,25 @@ weak_has s one two p h = record {
   second_formed = h.second_formed;
   together = through (concl p) s (union_sequent one two) (row_at Weak s (more p none) h.valid.0).first_premise h.together;
 }
+
+-- where no predicate symbol of the conclusion has a body, none of a premise's has one, and the rule unfolds no atom
+
+no_body_above : (r : Rule) (i : ℕ) (s x : Sequent) → is_cut r ≡ false → main_stands r s ≡ true → IsWithin r s i x → has_body_in_sequent s ≡ false → has_body_in_sequent x ≡ false
+no_body_above r i s x uncut stands within = stays_false (has_body_in_sequent x) (has_body_in_sequent s) (body_without_cut r s i x uncut (main_of r s stands) within)
+
+module _ (r : Rule) (s : Sequent) (uncut : is_cut r ≡ false) where
+  pub no_unfolding_at : (ts : Trees) → IsInference r s ts → has_body_in_sequent s ≡ false → is_unfolding_rule r ≡ false
+  no_unfolding_at ts h = stays_false (is_unfolding_rule r) (has_body_in_sequent s) (unfolded_in_conclusion r s (count ts) (first_end ts) (second_end ts) (row_at r s ts h) uncut)
+
+  -- a renamed premise
+  pub no_body_moved : (e : Sequent) (p : Tree) → IsValid (node r s (more p none)) → has_body_in_sequent s ≡ false → has_body_in_sequent (concl (moved_tree e (variable_of r) p)) ≡ false
+  no_body_moved e p valid =
+      no_body_above (moved_rule e r) 0 s (concl (moved_tree e (variable_of r) p)) (moved_cut e r ∙ uncut) (moved_stands e s r ∙ main_in_end (node r s (more p none)) valid)
+      (moved_premise e s r p valid.0 valid.1.0).within.0
+
+  -- the first premise, and the second
+  pub no_body_first : (p : Tree) (ts : Trees) → IsValid (node r s (more p ts)) → has_body_in_sequent s ≡ false → has_body_in_sequent (concl p) ≡ false
+  no_body_first p ts valid = no_body_above r 0 s (concl p) uncut (main_in_end (node r s (more p ts)) valid) (row_at r s (more p ts) valid.0).first_premise
+
+  pub no_body_second : (p q : Tree) (ts : Trees) → IsValid (node r s (more p (more q ts))) → has_body_in_sequent s ≡ false → has_body_in_sequent (concl q) ≡ false
+  no_body_second p q ts valid = no_body_above r 1 s (concl q) uncut (main_in_end (node r s (more p (more q ts))) valid) (row_at r s (more p (more q ts)) valid.0).second_premise

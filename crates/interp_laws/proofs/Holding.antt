@@ -19,18 +19,18 @@ use Rattle.lk_rules.specs.declared.rule.Rule.TheVariants.{AllL, AllR, ExL, ExR}
 use Rattle.lk_rules.specs.Sequents.{adds_to, is_free_in_sequent}
 use Rattle.lk_rules.proofs.Subsequents.{and_both}
 use Rattle.proof_trees.specs.Occurrence.{is_pred_in_sequent}
-use Rattle.contraction_laws.proofs.Sides.{clash}
+use Rattle.cut_laws.proofs.Sides.{clash}
 use Rattle.interp_laws.specs.Interpolation.{Interpolation, part, with_all, with_ex, quantifier_of, quantified, closed_by}
 use Rattle.interp_laws.proofs.Bound.{closed-bind_at, nested_less, formed_bound, given_back, formed_before, free_kept, other_kept, pred-bind}
 use Rattle.interp_laws.proofs.Members.{some_added, new_in, unless}
 use Rattle.interp_laws.proofs.Proofs.{IsProof, over_part}
 
--- the proofs are proofs of the parts with the interpolant; its predicate symbols are those of both parts; it has no index of a quantifier
--- outside; and it is well formed unless too many quantifiers stand inside one another
-pub record Holds (one two : Sequent) (i : Interpolation) : Type 0 where
+-- the proofs are proofs of the parts with the interpolant; where `Plain` holds, its predicate symbols are those of both parts; it has no
+-- index of a quantifier outside; and it is well formed unless too many quantifiers stand inside one another
+pub record Holds (Plain : Type 0) (one two : Sequent) (i : Interpolation) : Type 0 where
   pub first : IsProof one Right i.formula i.first
   pub second : IsProof two Left i.formula i.second
-  pub preds : (q : Pred) (side : Side) → is_pred_in q i.formula ≡ true → is_pred_in_sequent q (part one two side) ≡ true
+  pub preds : Plain → (q : Pred) (side : Side) → is_pred_in q i.formula ≡ true → is_pred_in_sequent q (part one two side) ≡ true
   pub closed : is_closed_at 0 i.formula ≡ true
   pub formed : (w : ℕ) → w ≡ 2 ^ 32 → nesting i.formula < w → is_formed i.formula ≡ true
 
@@ -51,7 +51,7 @@ bound_out x side s f g out body =
     (λ h. let self : not (eq_by_cmp var_cmp x x) ≡ true = other_kept x x f (body h) in clash (not (eq_by_cmp var_cmp x x)) self (ap not (itself x))))
     refl
 
-module _ (one two : Sequent) (x : Var) (i : Interpolation) (var : IsFormedVar x) (h : Holds one two i) where
+module _ (Plain : Type 0) (one two : Sequent) (x : Var) (i : Interpolation) (var : IsFormedVar x) (h : Holds Plain one two i) where
   -- the body of the quantified formula is well formed where that is
   before : is_formed_at 1 (bind i.formula x) ≡ true → is_formed i.formula ≡ true
   before formed = formed_before i.formula x h.closed var formed
@@ -63,7 +63,7 @@ module _ (one two : Sequent) (x : Var) (i : Interpolation) (var : IsFormedVar x)
   given = ap (λ f. f ∷ []) (given_back i.formula x h.closed)
 
   -- quantified universally
-  all_holds : is_free_in_sequent x one ≡ false → Holds one two (with_all (all (bind i.formula x)) x one two i)
+  all_holds : is_free_in_sequent x one ≡ false → Holds Plain one two (with_all (all (bind i.formula x)) x one two i)
   all_holds out =
       let f : Formula = all (bind i.formula x) in
       record {
@@ -73,13 +73,13 @@ module _ (one two : Sequent) (x : Var) (i : Interpolation) (var : IsFormedVar x)
         second = over_part (AllL f (free x)) two Left f i.formula i.second
             (record { shape = refl; stands = stands_left two f; eigenvariable = refl; no_cut = refl })
             refl given (λ formed. and_both _ _ formed var) before h.second;
-        preds = λ q side e. h.preds q side (sym (pred-bind q i.formula x) ∙ e);
+        preds = λ p q side e. h.preds p q side (sym (pred-bind q i.formula x) ∙ e);
         closed = closed-bind_at x i.formula 0 h.closed;
         formed = after;
       }
 
   -- and existentially
-  ex_holds : is_free_in_sequent x two ≡ false → Holds one two (with_ex (ex (bind i.formula x)) x one two i)
+  ex_holds : is_free_in_sequent x two ≡ false → Holds Plain one two (with_ex (ex (bind i.formula x)) x one two i)
   ex_holds out =
       let f : Formula = ex (bind i.formula x) in
       record {
@@ -89,14 +89,14 @@ module _ (one two : Sequent) (x : Var) (i : Interpolation) (var : IsFormedVar x)
         second = over_part (ExL f x) two Left f i.formula i.second
             (record { shape = refl; stands = stands_left two f; eigenvariable = bound_out x Left two i.formula f out (λ e. e); no_cut = refl })
             refl given (λ formed. and_both _ _ formed var) before h.second;
-        preds = λ q side e. h.preds q side (sym (pred-bind q i.formula x) ∙ e);
+        preds = λ p q side e. h.preds p q side (sym (pred-bind q i.formula x) ∙ e);
         closed = closed-bind_at x i.formula 0 h.closed;
         formed = after;
       }
 
-quantified_holds : (m : Side) (one two : Sequent) (x : Var) (i : Interpolation) → IsFormedVar x → is_free_in_sequent x (part one two m) ≡ false → Holds one two i → Holds one two (quantified m one two x i)
-quantified_holds Right one two x i var out h = all_holds one two x i var h out
-quantified_holds Left one two x i var out h = ex_holds one two x i var h out
+quantified_holds : (Plain : Type 0) (m : Side) (one two : Sequent) (x : Var) (i : Interpolation) → IsFormedVar x → is_free_in_sequent x (part one two m) ≡ false → Holds Plain one two i → Holds Plain one two (quantified m one two x i)
+quantified_holds Plain Right one two x i var out h = all_holds Plain one two x i var h out
+quantified_holds Plain Left one two x i var out h = ex_holds Plain one two x i var h out
 
 -- a variable that may be quantified for a part: it isn't free there
 pub record IsOutside (s : Sequent) (x : Var) : Type 0 where
@@ -104,10 +104,10 @@ pub record IsOutside (s : Sequent) (x : Var) : Type 0 where
   pub out : is_free_in_sequent x s ≡ false
 
 -- several quantifiers
-pub closed_holds : (m : Side) (one two : Sequent) (xs : List Var) (i : Interpolation) → AllByRecursion (IsOutside (part one two m)) xs → Holds one two i → Holds one two (closed_by m one two xs i)
-closed_holds m one two [] i outside h = h
-closed_holds m one two (x ∷ xs) i outside h =
-    quantified_holds m one two x (closed_by m one two xs i) outside.0.formed outside.0.out (closed_holds m one two xs i outside.1 h)
+pub closed_holds : (Plain : Type 0) (m : Side) (one two : Sequent) (xs : List Var) (i : Interpolation) → AllByRecursion (IsOutside (part one two m)) xs → Holds Plain one two i → Holds Plain one two (closed_by m one two xs i)
+closed_holds Plain m one two [] i outside h = h
+closed_holds Plain m one two (x ∷ xs) i outside h =
+    quantified_holds Plain m one two x (closed_by m one two xs i) outside.0.formed outside.0.out (closed_holds Plain m one two xs i outside.1 h)
 
 -- what is free in a closed interpolant was so before, and isn't quantified
 

@@ -1,10 +1,11 @@
--- Worked examples of a rule with two premises, and of an eigenvariable that is free in a part. The conclusions in the proofs do not matter.
+-- Worked examples of a rule with two premises, of one that unfolds an atom, and of an eigenvariable that is free in a part. The conclusions in
+-- the proofs do not matter.
 use Rattle.std.proofs.Common.{◌≡◌, true, false, ◌||◌, ◌&&◌, if◌then◌else◌, [], ◌∷◌, sym, ap, ◌∙◌, arith}
 use Rattle.std.specs.FinMap as fin
 use Rattle.std.specs.List.{list_any}
 use Rattle.fol.specs.declared.symbols.Var.{Var}
 use Rattle.fol.specs.declared.symbols.Var.TheVariants.{Word, Num}
-use Rattle.fol.specs.Syntax.{free, nil, cons, plain, Formula, atom, bot, not as negation, and, or, all}
+use Rattle.fol.specs.Syntax.{free, nil, cons, pred, plain, defined, Formula, atom, bot, not as negation, and, or, all}
 use Rattle.fol.specs.Order.{formula_cmp}
 use Rattle.fol.specs.OrderLaws.{formula_total}
 use Rattle.finite.specs.Finite as set
@@ -16,13 +17,13 @@ use Rattle.substitution.specs.Maps.{only}
 use Rattle.lk_rules.specs.declared.sequent.Sequent.{Sequent}
 use Rattle.lk_rules.specs.declared.sequent.Side.TheVariants.{Left, Right}
 use Rattle.lk_rules.specs.declared.rule.Rule.{Rule}
-use Rattle.lk_rules.specs.declared.rule.Rule.TheVariants.{Ax, AndR, AllR}
+use Rattle.lk_rules.specs.declared.rule.Rule.TheVariants.{Ax, AndR, AllR, DefR}
 use Rattle.lk_rules.specs.Sequents.{empty, adds_to, extended, is_free_in_sequent, vars_sequent, union_sequent, image_sequent}
 use Rattle.lk_rules.specs.Rules.{aux}
 use Rattle.lk_rules.proofs.SequentVariables.{sequent_var_members}
 use Rattle.proof_trees.specs.Trees.{Tree, node, none, more}
 use Rattle.proof_trees.specs.Substitution.{renamed, sub}
-use Rattle.interp_laws.specs.Interpolation.{Interpolation, at_axiom, at_leaf, inferred, joined, by_premises, itp}
+use Rattle.interp_laws.specs.Interpolation.{Interpolation, at_axiom, at_leaf, inferred, over_one, joined, by_premises, itp}
 use Rattle.interp_laws.proofs.Examples.{listing_none, listing_one, listing_two}
 use Rattle.interp_laws.proofs.Unrolled.{itp-unrolled}
 
@@ -70,6 +71,36 @@ module _ (s e f : Sequent) where
       (itp-unrolled (node rule s (more left (more right none))) one two
       ∙ (ap (λ b. by_premises itp (if b then Right else Left) rule (more left (more right none)) one two) stands
       ∙ λ i. joined Right rule one two (left_is i) (right_is i)))
+
+-- An atom without arguments whose body is `p`. Where the proof of it on the right, the second part, from `p` on the left, the first, unfolds it,
+-- the interpolant is `p`, which is no predicate symbol of the second part
+abbrev d : Formula
+d = atom (pred (record { name = 100 ∷ []; arity = 0 }) (defined p)) nil
+
+module _ (s o : Sequent) where
+  abbrev given : Sequent
+  given = adds_to empty Left p
+
+  abbrev wanted : Sequent
+  wanted = adds_to empty Right d
+
+  abbrev initial : Tree
+  initial = node (Ax p) o none
+
+  aside : (set.has given.right d && true) ≡ false
+  aside = ap (λ b. b && true) (has-empty formula_cmp d)
+
+  initial_is : itp initial given (extended wanted (aux (DefR d) 0)) ≡ at_axiom p given (extended wanted (aux (DefR d) 0)) true false
+  initial_is =
+      itp-unrolled initial given (extended wanted (aux (DefR d) 0))
+      ∙ λ i. at_axiom p given (extended wanted (aux (DefR d) 0)) (has-adds formula_total set.empty p p i) (has-empty formula_cmp p i)
+
+  pub unfolded : (itp (node (DefR d) s (more initial none)) given wanted).formula ≡ p
+  unfolded =
+      ap (λ i. i.formula)
+      (itp-unrolled (node (DefR d) s (more initial none)) given wanted
+      ∙ (ap (λ b. by_premises itp (if b then Right else Left) (DefR d) (more initial none) given wanted) aside
+      ∙ ap (over_one Left (DefR d) given wanted) initial_is))
 
 -- the eigenvariable Y of `![X]: p` on the right is free in the first part, which has `r(Y)` too: it becomes `V0`. The interpolant is `~p`
 abbrev y : Var

@@ -8,15 +8,16 @@ use Rattle.lk_rules.specs.declared.rule.Rule.{Rule}
 use Rattle.lk_rules.specs.declared.rule.Rule.TheVariants.{AllR, ExL}
 use Rattle.lk_rules.specs.RuleOrder.{variable_of}
 use Rattle.lk_rules.specs.Sequents.{is_free_in_sequent}
+use Rattle.lk_rules.specs.Rules.{is_unfolding_rule}
 use Rattle.proof_trees.specs.Trees.{Tree, Trees, none, more, count, first_end, second_end, IsInference, IsValid, is_cut, cut_free}
 use Rattle.proof_trees.specs.Shapes.{height}
 use Rattle.proof_trees.specs.Substitution.{renamed, sub, sub_all}
 use Rattle.proof_trees.proofs.Shapes.{height-sub}
 use Rattle.proof_trees.proofs.Substituted.{cut_free-sub}
 use Rattle.proof_trees.proofs.Verdicts.{row_of_verdict}
-use Rattle.contraction_laws.specs.Contraction.{moved_rule, renamed_trees, moved_trees}
-use Rattle.contraction_laws.proofs.Cuts.{Premises, premises_of}
-use Rattle.contraction_laws.proofs.Moved.{moved_premises}
+use Rattle.cut_laws.specs.Contraction.{moved_rule, renamed_trees, moved_trees}
+use Rattle.cut_laws.proofs.Cuts.{Premises, premises_of}
+use Rattle.cut_laws.proofs.Moved.{moved_premises}
 use Rattle.interp_laws.specs.Interpolation.{moved_tree}
 
 -- it is as high
@@ -42,6 +43,11 @@ moved_cut s (AllR a y) = refl
 moved_cut s (ExL a y) = refl
 moved_cut s r = refl
 
+pub moved_unfolding : (s : Sequent) (r : Rule) → is_unfolding_rule (moved_rule s r) ≡ is_unfolding_rule r
+moved_unfolding s (AllR a y) = refl
+moved_unfolding s (ExL a y) = refl
+moved_unfolding s r = refl
+
 one_renamed : (s : Sequent) (y : Var) (p : Tree) → renamed_trees s y (more p none) ≡ more (moved_tree s (Some y) p) none
 one_renamed s y p =
     elim (is_free_in_sequent y s) as (λ b. (if b then sub_all (more p none) (only y (free (renamed y s))) else more p none) ≡ more (if b then sub p (only y (free (renamed y s))) else p) none) [
@@ -50,7 +56,7 @@ one_renamed s y p =
     ]
 
 -- one tree is moved by itself
-one_moved : (s : Sequent) (r : Rule) (p : Tree) → moved_trees s r (more p none) ≡ more (moved_tree s (variable_of r) p) none
+pub one_moved : (s : Sequent) (r : Rule) (p : Tree) → moved_trees s r (more p none) ≡ more (moved_tree s (variable_of r) p) none
 one_moved s (AllR a y) p = one_renamed s y p
 one_moved s (ExL a y) p = one_renamed s y p
 one_moved s r p = refl

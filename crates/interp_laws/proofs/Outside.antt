@@ -16,7 +16,7 @@ use Rattle.lk_rules.specs.declared.sequent.Sequent.{Sequent}
 use Rattle.lk_rules.specs.Sequents.{is_free_in_sequent}
 use Rattle.proof_trees.specs.Occurrence.{passes}
 use Rattle.proof_trees.proofs.Booleans.{or_first, or_second}
-use Rattle.contraction_laws.proofs.Sides.{clash}
+use Rattle.cut_laws.proofs.Sides.{clash}
 use Rattle.interp_laws.specs.Interpolation.{vars_outside}
 use Rattle.interp_laws.proofs.Holding.{IsOutside, among_vars}
 

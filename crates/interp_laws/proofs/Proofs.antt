@@ -11,7 +11,7 @@ use Rattle.lk_rules.proofs.Rows.{main_of}
 use Rattle.lk_rules.proofs.Subsequents.{and_both}
 use Rattle.proof_trees.specs.Trees.{Tree, node, Trees, none, more, concl, count, first_end, second_end, IsInference, IsValid, is_cut, cut_free}
 use Rattle.proof_trees.proofs.Verdicts.{verdict_of_row}
-use Rattle.contraction_laws.proofs.Sides.{within_added, within_extended}
+use Rattle.cut_laws.proofs.Sides.{within_added, within_extended}
 use Rattle.interp_laws.proofs.Members.{Stands, among, among_first, among_second, member, through, new_in, with_new, new_in_extended, placed}
 
 -- t is a proof without cuts of s with f on that side, valid where f is well formed

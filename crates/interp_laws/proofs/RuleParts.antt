@@ -1,5 +1,5 @@
 -- What a rule names, and the parts: its main formula stands in one of them, and its auxiliary formulas are well formed.
-use Rattle.std.proofs.Common.{◌≡◌, ℕ, zero, suc, Bool, true, false, ◌&&◌, if◌then◌else◌, List, [], ◌∷◌, refl, sym, ap, ◌∙◌}
+use Rattle.std.proofs.Common.{◌≡◌, ℕ, zero, suc, Bool, true, false, ◌&&◌, if◌then◌else◌, List, [], ◌∷◌, Option, Some, None, IfSome, option_to_list, refl, sym, ap, ◌∙◌}
 use Rattle.std.specs.List.{All, list_all, list_any}
 use Rattle.std.specs.Ordering.{eq_by_cmp}
 use Rattle.std.proofs.lemmas.List.Sums.{AllPass-from_list_all, list_all-from_AllPass}
@@ -14,12 +14,14 @@ use Rattle.free_variables.specs.Occurrence.{is_free_in, is_free_in_term}
 use Rattle.free_variables.proofs.FormedMembers.{formed_var_of}
 use Rattle.substitution.specs.Instance.{inst}
 use Rattle.substitution.proofs.ImageLaws.{same_var}
+use Rattle.substitution.specs.Unfolding.{unf}
 use Rattle.substitution.proofs.InstanceFormed.{formed-inst}
+use Rattle.substitution.proofs.Unfoldings.{formed-unf}
 use Rattle.lk_rules.specs.declared.sequent.Sequent.{Sequent}
 use Rattle.lk_rules.specs.declared.sequent.Side.{Side}
 use Rattle.lk_rules.specs.declared.sequent.Side.TheVariants.{Left, Right}
 use Rattle.lk_rules.specs.declared.rule.Rule.{Rule}
-use Rattle.lk_rules.specs.declared.rule.Rule.TheVariants.{Ax, TopR, BotL, NegL, NegR, AndL, AndR, OrL, OrR, ImpL, ImpR, AllL, AllR, ExL, ExR, Cut, Weak}
+use Rattle.lk_rules.specs.declared.rule.Rule.TheVariants.{Ax, TopR, BotL, NegL, NegR, AndL, AndR, OrL, OrR, ImpL, ImpR, AllL, AllR, ExL, ExR, DefL, DefR, Cut, Weak}
 use Rattle.lk_rules.specs.Formulas.{FormulaSet}
 use Rattle.lk_rules.specs.RuleOrder.{term_of, variable_of}
 use Rattle.lk_rules.specs.Sequents.{extended, is_free_in_sequent, union_sequent, IsSubsequent}
@@ -29,7 +31,7 @@ use Rattle.lk_rules.proofs.Subsequents.{and_left, and_right, and_both}
 use Rattle.proof_trees.specs.Trees.{is_cut}
 use Rattle.proof_trees.specs.Occurrence.{passes}
 use Rattle.proof_trees.proofs.Booleans.{either}
-use Rattle.contraction_laws.proofs.Sides.{clash}
+use Rattle.cut_laws.proofs.Sides.{clash}
 use Rattle.interp_laws.specs.Interpolation.{part, part_of, has_main}
 use Rattle.interp_laws.specs.Parts.{IsFormedSequent}
 use Rattle.interp_laws.proofs.Members.{Stands, member, from_union, unless}
@@ -84,6 +86,8 @@ the_main (AllL a t) h = on_left (AllL a t) a (λ e. refl)
 the_main (AllR a y) h = on_right (AllR a y) a (λ e. refl)
 the_main (ExL a y) h = on_left (ExL a y) a (λ e. refl)
 the_main (ExR a t) h = on_right (ExR a t) a (λ e. refl)
+the_main (DefL a) h = on_left (DefL a) a (λ e. refl)
+the_main (DefR a) h = on_right (DefR a) a (λ e. refl)
 the_main (Cut a) h = cc
 the_main Weak h = cc
 
@@ -111,6 +115,10 @@ two_formed a b h = and_both a (b && true) (and_left a b h) (one_formed b (and_ri
 given_formed : (b : Formula) (t : Term) → (is_formed (all b) && is_formed_term t) ≡ true → (is_formed (inst b t) && true) ≡ true
 given_formed b t h = one_formed _ (formed-inst b t (and_left _ _ h) (and_right (is_formed (all b)) _ h))
 
+unfolding_formed : (o : Option Formula) → IfSome o IsFormed → list_all is_formed (option_to_list o) ≡ true
+unfolding_formed None h = refl
+unfolding_formed (Some f) h = one_formed _ h
+
 aux_formed : (r : Rule) (i : ℕ) (side : Side) → IsFormedRule r → list_all is_formed (aux r i side) ≡ true
 aux_formed (NegL (not a)) zero Right h = one_formed _ h
 aux_formed (NegR (not a)) zero Left h = one_formed _ h
@@ -128,6 +136,8 @@ aux_formed (AllL (all b) t) zero Left h = given_formed b t h
 aux_formed (AllR (all b) y) zero Right h = given_formed b (free y) h
 aux_formed (ExL (ex b) y) zero Left h = given_formed b (free y) h
 aux_formed (ExR (ex b) t) zero Right h = given_formed b t h
+aux_formed (DefL a) zero Left h = unfolding_formed (unf a) (formed-unf a h)
+aux_formed (DefR a) zero Right h = unfolding_formed (unf a) (formed-unf a h)
 aux_formed (Cut a) zero Right h = one_formed _ h
 aux_formed (Cut a) (suc zero) Left h = one_formed _ h
 aux_formed r i side h = refl

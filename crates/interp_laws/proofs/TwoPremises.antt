@@ -16,8 +16,8 @@ use Rattle.lk_rules.specs.Rules.{needs, aux, main_stands}
 use Rattle.lk_rules.proofs.Subsequents.{and_left, and_right, and_both}
 use Rattle.proof_trees.specs.Occurrence.{passes, is_pred_in_sequent}
 use Rattle.proof_trees.proofs.Booleans.{either}
-use Rattle.contraction_laws.proofs.Cuts.{main_larger}
-use Rattle.contraction_laws.proofs.Sides.{clash, within_added}
+use Rattle.cut_laws.proofs.Cuts.{main_larger}
+use Rattle.cut_laws.proofs.Sides.{clash, within_added}
 use Rattle.interp_laws.specs.Interpolation.{Interpolation, part, both_over, joined}
 use Rattle.interp_laws.proofs.Above.{pred_above, free_above}
 use Rattle.interp_laws.proofs.Holding.{stands_left, stands_right}
@@ -34,8 +34,8 @@ second_less : (a b w : ℕ) → max a b < w → b < w
 second_less a b w few = omega arith
 
 -- the rule may be used at its part with two formulas more
-usable_with : (r : Rule) (one two s : Sequent) (m : Side) (f g : Formula) → IsLast r one two m → needs r ≡ 2 → main_stands r s ≡ true → IsUsable r (adds_to (adds_to s m f) m g)
-usable_with r one two s m f g last number stands =
+usable_with : (Plain : Type 0) (r : Rule) (one two s : Sequent) (m : Side) (f g : Formula) → IsLast Plain r one two m → needs r ≡ 2 → main_stands r s ≡ true → IsUsable r (adds_to (adds_to s m f) m g)
+usable_with Plain r one two s m f g last number stands =
     let e : Sequent = adds_to (adds_to s m f) m g in
     record {
       shape = last.shape;
@@ -45,17 +45,17 @@ usable_with r one two s m f g last number stands =
     }
 
 -- a variable that is free in the part with auxiliary formulas is free in the part
-free_in_part : (v : Var) (r : Rule) (k : ℕ) (s e : Sequent) (m : Side) (one two : Sequent) → IsLast r one two m → needs r ≡ 2 → main_stands r s ≡ true → is_free_in_sequent v e ≡ true
+free_in_part : (Plain : Type 0) (v : Var) (r : Rule) (k : ℕ) (s e : Sequent) (m : Side) (one two : Sequent) → IsLast Plain r one two m → needs r ≡ 2 → main_stands r s ≡ true → is_free_in_sequent v e ≡ true
     → is_free_in_sequent v (extended s (aux r k)) ≡ true → is_free_in_sequent v s ≡ true
-free_in_part v r k s e m one two last number stands other =
-    free_above v r k s last.no_cut stands
+free_in_part Plain v r k s e m one two last number stands other =
+    free_above v r k s last.formed last.no_cut stands
     (λ old. old)
     (λ term. clash (passes (is_free_in_term v) (term_of r)) term (no_term_with_two r v number))
     (not_eigen r e v (none_with_two r e number) other)
 
 -- the main formula is of the first part
-module _ (r : Rule) (one two : Sequent) (last : IsLast r one two Right) (number : needs r ≡ 2) (i j : Interpolation)
-    (h : Interpolates (extended one (aux r 0)) two i) (g : Interpolates (extended one (aux r 1)) two j) where
+module _ (Plain : Type 0) (r : Rule) (one two : Sequent) (last : IsLast Plain r one two Right) (number : needs r ≡ 2) (i j : Interpolation)
+    (h : Interpolates Plain (extended one (aux r 0)) two i) (g : Interpolates Plain (extended one (aux r 1)) two j) where
   abbrev disjunction : Formula
   disjunction = or i.formula j.formula
 
@@ -65,7 +65,7 @@ module _ (r : Rule) (one two : Sequent) (last : IsLast r one two Right) (number 
       (record { shape = refl; stands = stands_right one disjunction; eigenvariable = refl; no_cut = refl })
       refl refl (λ formed. formed) refl
       (over_two_free r (adds_to (adds_to one Right i.formula) Right j.formula) i.first j.first last.no_cut h.holds.first.without_cuts g.holds.first.without_cuts)
-      (λ formed. over_premises r one Right i.formula j.formula i.first j.first (usable_with r one two one Right i.formula j.formula last number last.stands) last.formed number
+      (λ formed. over_premises r one Right i.formula j.formula i.first j.first (usable_with Plain r one two one Right i.formula j.formula last number last.stands) last.formed number
       h.holds.first g.holds.first (and_left _ _ formed) (and_right (is_formed i.formula) _ formed))
 
   first_forked : IsProof two Left disjunction (joined Right r one two i j).second
@@ -74,21 +74,21 @@ module _ (r : Rule) (one two : Sequent) (last : IsLast r one two Right) (number 
       (record { shape = refl; stands = stands_left two disjunction; eigenvariable = refl; no_cut = refl })
       refl refl refl (λ formed. formed) (λ formed. and_left _ _ formed) (λ formed. and_right (is_formed i.formula) _ formed) h.holds.second g.holds.second
 
-  first_preds : (q : Pred) (side : Side) → is_pred_in q disjunction ≡ true → is_pred_in_sequent q (part one two side) ≡ true
-  first_preds q Right =
+  first_preds : Plain → (q : Pred) (side : Side) → is_pred_in q disjunction ≡ true → is_pred_in_sequent q (part one two side) ≡ true
+  first_preds p q Right =
       either (is_pred_in q i.formula) (is_pred_in q j.formula)
-      (λ e. pred_above q r 0 one last.no_cut last.stands (h.holds.preds q Right e))
-      (λ e. pred_above q r 1 one last.no_cut last.stands (g.holds.preds q Right e))
-  first_preds q Left = either (is_pred_in q i.formula) (is_pred_in q j.formula) (h.holds.preds q Left) (g.holds.preds q Left)
+      (λ e. pred_above q r 0 one last.no_cut (last.no_unfolding p) last.stands (h.holds.preds p q Right e))
+      (λ e. pred_above q r 1 one last.no_cut (last.no_unfolding p) last.stands (g.holds.preds p q Right e))
+  first_preds p q Left = either (is_pred_in q i.formula) (is_pred_in q j.formula) (h.holds.preds p q Left) (g.holds.preds p q Left)
 
   first_vars : (v : Var) (side : Side) → is_free_in v disjunction ≡ true → is_free_in_sequent v (part one two side) ≡ true
   first_vars v Right =
       either (is_free_in v i.formula) (is_free_in v j.formula)
-      (λ e. free_in_part v r 0 one two Right one two last number last.stands (h.vars v Left e) (h.vars v Right e))
-      (λ e. free_in_part v r 1 one two Right one two last number last.stands (g.vars v Left e) (g.vars v Right e))
+      (λ e. free_in_part Plain v r 0 one two Right one two last number last.stands (h.vars v Left e) (h.vars v Right e))
+      (λ e. free_in_part Plain v r 1 one two Right one two last number last.stands (g.vars v Left e) (g.vars v Right e))
   first_vars v Left = either (is_free_in v i.formula) (is_free_in v j.formula) (h.vars v Left) (g.vars v Left)
 
-  pub first_both : Interpolates one two (joined Right r one two i j)
+  pub first_both : Interpolates Plain one two (joined Right r one two i j)
   first_both = record {
     holds = record {
       first = first_joined;
@@ -103,8 +103,8 @@ module _ (r : Rule) (one two : Sequent) (last : IsLast r one two Right) (number 
   }
 
 -- it is of the second part
-module _ (r : Rule) (one two : Sequent) (last : IsLast r one two Left) (number : needs r ≡ 2) (i j : Interpolation)
-    (h : Interpolates one (extended two (aux r 0)) i) (g : Interpolates one (extended two (aux r 1)) j) where
+module _ (Plain : Type 0) (r : Rule) (one two : Sequent) (last : IsLast Plain r one two Left) (number : needs r ≡ 2) (i j : Interpolation)
+    (h : Interpolates Plain one (extended two (aux r 0)) i) (g : Interpolates Plain one (extended two (aux r 1)) j) where
   abbrev conjunction : Formula
   conjunction = and i.formula j.formula
 
@@ -120,24 +120,24 @@ module _ (r : Rule) (one two : Sequent) (last : IsLast r one two Left) (number :
       (record { shape = refl; stands = stands_left two conjunction; eigenvariable = refl; no_cut = refl })
       refl refl (λ formed. formed) refl
       (over_two_free r (adds_to (adds_to two Left i.formula) Left j.formula) i.second j.second last.no_cut h.holds.second.without_cuts g.holds.second.without_cuts)
-      (λ formed. over_premises r two Left i.formula j.formula i.second j.second (usable_with r one two two Left i.formula j.formula last number last.stands) last.formed number
+      (λ formed. over_premises r two Left i.formula j.formula i.second j.second (usable_with Plain r one two two Left i.formula j.formula last number last.stands) last.formed number
       h.holds.second g.holds.second (and_left _ _ formed) (and_right (is_formed i.formula) _ formed))
 
-  second_preds : (q : Pred) (side : Side) → is_pred_in q conjunction ≡ true → is_pred_in_sequent q (part one two side) ≡ true
-  second_preds q Right = either (is_pred_in q i.formula) (is_pred_in q j.formula) (h.holds.preds q Right) (g.holds.preds q Right)
-  second_preds q Left =
+  second_preds : Plain → (q : Pred) (side : Side) → is_pred_in q conjunction ≡ true → is_pred_in_sequent q (part one two side) ≡ true
+  second_preds p q Right = either (is_pred_in q i.formula) (is_pred_in q j.formula) (h.holds.preds p q Right) (g.holds.preds p q Right)
+  second_preds p q Left =
       either (is_pred_in q i.formula) (is_pred_in q j.formula)
-      (λ e. pred_above q r 0 two last.no_cut last.stands (h.holds.preds q Left e))
-      (λ e. pred_above q r 1 two last.no_cut last.stands (g.holds.preds q Left e))
+      (λ e. pred_above q r 0 two last.no_cut (last.no_unfolding p) last.stands (h.holds.preds p q Left e))
+      (λ e. pred_above q r 1 two last.no_cut (last.no_unfolding p) last.stands (g.holds.preds p q Left e))
 
   second_vars : (v : Var) (side : Side) → is_free_in v conjunction ≡ true → is_free_in_sequent v (part one two side) ≡ true
   second_vars v Right = either (is_free_in v i.formula) (is_free_in v j.formula) (h.vars v Right) (g.vars v Right)
   second_vars v Left =
       either (is_free_in v i.formula) (is_free_in v j.formula)
-      (λ e. free_in_part v r 0 two one Left one two last number last.stands (h.vars v Right e) (h.vars v Left e))
-      (λ e. free_in_part v r 1 two one Left one two last number last.stands (g.vars v Right e) (g.vars v Left e))
+      (λ e. free_in_part Plain v r 0 two one Left one two last number last.stands (h.vars v Right e) (h.vars v Left e))
+      (λ e. free_in_part Plain v r 1 two one Left one two last number last.stands (g.vars v Right e) (g.vars v Left e))
 
-  pub second_both : Interpolates one two (joined Left r one two i j)
+  pub second_both : Interpolates Plain one two (joined Left r one two i j)
   second_both = record {
     holds = record {
       first = second_forked;

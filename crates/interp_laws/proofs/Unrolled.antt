@@ -8,7 +8,7 @@ use Rattle.lk_rules.specs.RuleOrder.{variable_of}
 use Rattle.lk_rules.specs.Sequents.{union_sequent}
 use Rattle.proof_trees.specs.Trees.{Tree, node, Trees, none, more}
 use Rattle.proof_trees.specs.Shapes.{height, height_all}
-use Rattle.contraction_laws.specs.Contraction.{moved_rule}
+use Rattle.cut_laws.specs.Contraction.{moved_rule}
 use Rattle.interp_laws.specs.Interpolation.{Interpolating, part_of, moved_tree, first_above, second_above, over_one, joined, has_main, by_premises, by_rule, itp_within, itp}
 use Rattle.interp_laws.proofs.Moved.{moved_height}
 

@@ -1,7 +1,8 @@
 -- Interpolation of proofs without cuts, after Maehara (1960), as in Takeuti's Proof Theory. Two sequents, the parts, have together all
 -- formulas of a proof's conclusion. The interpolant is a formula in the language of both parts, with a proof of the first part with the
 -- interpolant on the right, and one of the second part with it on the left. A part is named by the side on which the interpolant stands
--- in its proof: `Right` is the first part, `Left` the second.
+-- in its proof: `Right` is the first part, `Left` the second. Where no predicate symbol of the conclusion has a body, no rule unfolds an
+-- atom. Elsewhere such a rule is as any with one premise, and the interpolant may have symbols that only unfoldings have.
 --     Interpolation      an interpolant and its two proofs
 --     part, part_of      the part of a name; the part of a rule's main formula
 --     at_leaf, at_axiom      rules without premises
@@ -28,7 +29,7 @@ use Rattle.lk_rules.specs.Rules.{aux, main_stands}
 use Rattle.proof_trees.specs.Trees.{Tree, node, Trees, none, more}
 use Rattle.proof_trees.specs.Shapes.{height}
 use Rattle.proof_trees.specs.Substitution.{renamed, sub}
-use Rattle.contraction_laws.specs.Contraction.{moved_rule}
+use Rattle.cut_laws.specs.Contraction.{moved_rule}
 
 -- an interpolant, the proof of the first part with it on the right, and that of the second part with it on the left
 pub record Interpolation : Type 0 where

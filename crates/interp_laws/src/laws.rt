@@ -1,5 +1,5 @@
 //! The laws of interpolation. Each function does nothing: its contract is the law.
-ghost use Rattle.std.specs.Prelude.{◌≡◌, ℕ, ◌^◌, ◌<◌, ◌≤◌, true, List, ◌++◌, Option};
+ghost use Rattle.std.specs.Prelude.{◌≡◌, ℕ, ◌^◌, ◌<◌, ◌≤◌, true, false, List, ◌++◌, Option};
 ghost use Rattle.fol.specs.declared.symbols.Var.{Var as Variable};
 ghost use Rattle.fol.specs.Syntax.{Pred, Formula};
 ghost use Rattle.fol.specs.Formed.{IsFormed};
@@ -15,9 +15,9 @@ ghost use Rattle.lk_rules.specs.declared.rule.Rule.TheVariants.{Ax, Weak};
 ghost use Rattle.lk_rules.specs.RuleOrder.{variable_of};
 ghost use Rattle.lk_rules.specs.Sequents.{adds_to, is_free_in_sequent, union_sequent};
 ghost use Rattle.proof_trees.specs.Trees.{Tree as Proof, node, Trees as Proofs, none, more, concl, IsValid, IsCutFree};
-ghost use Rattle.proof_trees.specs.Occurrence.{is_pred_in_sequent};
+ghost use Rattle.proof_trees.specs.Occurrence.{is_pred_in_sequent, has_body_in_sequent};
 ghost use Rattle.proof_trees.specs.Shapes.{height};
-ghost use Rattle.contraction_laws.specs.Contraction.{moved_rule};
+ghost use Rattle.cut_laws.specs.Contraction.{moved_rule};
 ghost use Rattle.interp_laws.specs.Interpolation.{Interpolation, part_of, at_leaf, at_axiom, moved_tree, first_above, second_above, above, above_one, inferred, quantifier_of, closed_by, vars_to_close, over_one, joined, has_main, by_rule, itp_within, itp};
 ghost use Rattle.interp_laws.specs.Parts.{HasParts};
 
@@ -29,10 +29,10 @@ pub fn proofs()
     ensures valid { (t : Proof) (one two : Conclusion) → HasParts t one two → IsFormed (itp t one two).formula → IsValid (itp t one two).first × IsValid (itp t one two).second }
 {}
 
-/// Each predicate symbol of the interpolant is one of both parts, and each variable that is free in it is free in both. It is well formed
-/// unless 2^32 or more quantifiers stand inside one another in it, which no index would count.
+/// Each predicate symbol of the interpolant is one of both parts, if none of the proof's conclusion has a body. Each variable that is free in
+/// it is free in both. It is well formed unless 2^32 or more quantifiers stand inside one another in it, which no index would count.
 pub fn interpolants()
-    ensures predicates { (t : Proof) (one two : Conclusion) → HasParts t one two → (q : Pred) → is_pred_in q (itp t one two).formula ≡ true → (is_pred_in_sequent q one ≡ true) × (is_pred_in_sequent q two ≡ true) }
+    ensures predicates { (t : Proof) (one two : Conclusion) → HasParts t one two → has_body_in_sequent (concl t) ≡ false → (q : Pred) → is_pred_in q (itp t one two).formula ≡ true → (is_pred_in_sequent q one ≡ true) × (is_pred_in_sequent q two ≡ true) }
     ensures variables { (t : Proof) (one two : Conclusion) → HasParts t one two → (v : Variable) → is_free_in v (itp t one two).formula ≡ true → (is_free_in_sequent v one ≡ true) × (is_free_in_sequent v two ≡ true) }
     ensures formed { (t : Proof) (one two : Conclusion) → HasParts t one two → nesting (itp t one two).formula < 2 ^ 32 → IsFormed (itp t one two).formula }
 {}

@@ -24,7 +24,6 @@ use Rattle.substitution.specs.Image.{IsFormedMap}
 use Rattle.substitution.specs.Maps.{Map}
 use Rattle.substitution.proofs.ImageLaws.{formed_insert, formed_empty}
 use Rattle.std.specs.FinMap as fin
-use Rattle.finite.specs.Finite as set
 use Rattle.serde_json.specs.Data.{Data, Members, no_members, member}
 use Rattle.serde_json.specs.Find.{get, as_str, as_object}
 use Rattle.job_lang.specs.declared.places.Place.{Place}
@@ -33,7 +32,7 @@ use Rattle.job_words.specs.declared.causes.JobCause.TheVariants.{Field, Op as Un
 use Rattle.job_words.specs.declared.kinds.RuleKind.{RuleKind}
 use Rattle.job_words.specs.declared.kinds.RuleKind.TheVariants as kinds
 use Rattle.job_lang.specs.declared.jobs.Op.{Op}
-use Rattle.job_lang.specs.declared.jobs.Op.TheVariants.{Lk, Problem, Proves, Show, Measure, Subst, Cutelim, Resolution, Tautology, Expansion}
+use Rattle.job_lang.specs.declared.jobs.Op.TheVariants.{Lk, Problem, Proves, Show, Measure, Subst, Cutelim, Resolution, Tautology, Expansion, Interpolate}
 use Rattle.job_lang.specs.Places.{path}
 use Rattle.job_lang.specs.Fields.{Reading, ◌>>=◌, or_fault, text_at, list_at}
 use Rattle.job_lang.specs.Formulas.{in_field, formula_at, term_at, variable_at, side_at}
@@ -41,7 +40,8 @@ use Rattle.job_lang.specs.Problems.{problem_at}
 use Rattle.job_lang.specs.Rules.{main_at, rule_of_kind, rule_of}
 use Rattle.job_words.specs.RuleKinds.{is_text, kind_named}
 use Rattle.job_lang.specs.Steps.{step_of, step_at, steps_of, steps_at}
-use Rattle.job_lang.specs.FormedOps.{IsFormedOp}
+use Rattle.job_lang.specs.FormedOps.{AreFormedSides, IsFormedOp}
+use Rattle.job_lang.specs.Sequents.{sequent_at, part_of, part_at}
 use Rattle.job_lang.specs.Maps.{member_path, binding_of, map_of, map_at}
 use Rattle.job_lang.specs.Budgets.{budget_at}
 use Rattle.job_lang.specs.Numbers.{number_at, numbers_at, pair_at}
@@ -50,7 +50,7 @@ use Rattle.job_lang.specs.Resolutions.{input_step, subst_step, resolve_step, wro
 use Rattle.job_lang.specs.Problems as problems
 use Rattle.job_lang.proofs.FormedFields.{both_read, same_value, in_text, both_true, formula_formed, term_formed, variable_formed, each_formed, chosen, side_formed}
 use Rattle.job_lang.proofs.FormedExpansions.{flat_formed}
-use Rattle.job_lang.specs.Jobs.{value_of, name_of, proves_of, subst_of, cutelim_of, resolution_of, sequent_at, tautology_of, expansion_of, op_named, op_of, reads_named, reads_value, reads_job}
+use Rattle.job_lang.specs.Jobs.{value_of, name_of, proves_of, subst_of, cutelim_of, resolution_of, tautology_of, expansion_of, interpolate_of, op_named, op_of, reads_named, reads_value, reads_job}
 
 module _ (place : Place) (d : Data) where
   -- a rule that names its main formula alone, and one that names a term or a variable too
@@ -88,6 +88,8 @@ module _ (place : Place) (d : Data) where
   kind_formed kinds.OrR r is = with_main (λ a. rules.OrR a) r (λ a p. p) is
   kind_formed kinds.ImpL r is = with_main (λ a. rules.ImpL a) r (λ a p. p) is
   kind_formed kinds.ImpR r is = with_main (λ a. rules.ImpR a) r (λ a p. p) is
+  kind_formed kinds.DefL r is = with_main (λ a. rules.DefL a) r (λ a p. p) is
+  kind_formed kinds.DefR r is = with_main (λ a. rules.DefR a) r (λ a p. p) is
   kind_formed kinds.Cut r is = with_main (λ a. rules.Cut a) r (λ a p. p) is
   kind_formed kinds.AllL r is = with_term (λ a t. rules.AllL a t) r (λ a t. both_true (is_formed a) (is_formed_term t)) is
   kind_formed kinds.ExR r is = with_term (λ a t. rules.ExR a t) r (λ a t. both_true (is_formed a) (is_formed_term t)) is
@@ -191,15 +193,17 @@ problem_formed d p is =
 
 -- sequents
 
--- the formulas of both sides are well formed
-abbrev AreFormedSides : Sequent → Type 0
-AreFormedSides s = All IsFormed (set.listing s.left) × All IsFormed (set.listing s.right)
+sequent_formed : (place : Place) (d : Data) (s : Sequent) → sequent_at place d ≡ Ok s → AreFormedSides s
+sequent_formed place d s is =
+    let left = both_read (side_at place (codes "left") d) _ s is in
+    let right = both_read (side_at place (codes "right") d) _ s left.1.1 in
+    subst AreFormedSides (same_value _ s right.1.1) (side_formed place (codes "left") d left.0 left.1.0, side_formed place (codes "right") d right.0 right.1.0)
 
-sequent_formed : (d : Data) (s : Sequent) → sequent_at d ≡ Ok s → AreFormedSides s
-sequent_formed d s is =
-    let left = both_read (side_at places.Top (codes "left") d) _ s is in
-    let right = both_read (side_at places.Top (codes "right") d) _ s left.1.1 in
-    subst AreFormedSides (same_value _ s right.1.1) (side_formed places.Top (codes "left") d left.0 left.1.0, side_formed places.Top (codes "right") d right.0 right.1.0)
+part_formed : (place : Place) (key : List ℕ) (d : Data) (s : Sequent) → part_at place key d ≡ Ok s → AreFormedSides s
+part_formed place key d s is =
+    let member = both_read (or_fault (Field (path places.Top key None)) (get key d)) (part_of place key) s is in
+    let object = both_read (or_fault (Field (path places.Top key None)) (as_object member.0)) _ s member.1.1 in
+    sequent_formed place member.0 s object.1.1
 
 module _ (d : Data) (op : Op) where
   in_lk : (steps_at d >>= λ read. Ok (Lk read)) ≡ Ok op → IsFormedOp op
@@ -248,15 +252,24 @@ module _ (d : Data) (op : Op) where
 
   in_tautology : tautology_of d ≡ Ok op → IsFormedOp op
   in_tautology is =
-      let sequent = both_read (sequent_at d) _ op is in
+      let sequent = both_read (sequent_at places.Top d) _ op is in
       let budget = both_read (budget_at d) (λ x. Ok (Tautology sequent.0 x)) op sequent.1.1 in
-      subst IsFormedOp (same_value (Tautology sequent.0 budget.0) op budget.1.1) (sequent_formed d sequent.0 sequent.1.0)
+      subst IsFormedOp (same_value (Tautology sequent.0 budget.0) op budget.1.1) (sequent_formed places.Top d sequent.0 sequent.1.0)
 
   in_expansion : expansion_of d ≡ Ok op → IsFormedOp op
   in_expansion is =
       let flat = both_read (flat_at d) _ op is in
       let budget = both_read (budget_at d) (λ x. Ok (Expansion flat.0 x)) op flat.1.1 in
       subst IsFormedOp (same_value (Expansion flat.0 budget.0) op budget.1.1) (flat_formed d flat.0 flat.1.0)
+
+  in_interpolate : interpolate_of d ≡ Ok op → IsFormedOp op
+  in_interpolate is =
+      let proof = both_read (text_at places.Top (codes "proof") d) _ op is in
+      let first = both_read (part_at places.First (codes "first") d) _ op proof.1.1 in
+      let second = both_read (part_at places.Second (codes "second") d) _ op first.1.1 in
+      let budget = both_read (budget_at d) (λ x. Ok (Interpolate proof.0 first.0 second.0 x)) op second.1.1 in
+      subst IsFormedOp (same_value (Interpolate proof.0 first.0 second.0 budget.0) op budget.1.1)
+      (part_formed places.First (codes "first") d first.0 first.1.0, part_formed places.Second (codes "second") d second.0 second.1.0)
 
   in_none : ◌≡◌ {A = Reading Op} (Err UnknownOp) (Ok op) → IsFormedOp op
   in_none is = cc
@@ -272,7 +285,8 @@ module _ (d : Data) (op : Op) where
       (chosen (is_text name (codes "cutelim")) _ _ (Ok op) in_cutelim
       (chosen (is_text name (codes "resolution")) _ _ (Ok op) in_resolution
       (chosen (is_text name (codes "tautology")) _ _ (Ok op) in_tautology
-      (chosen (is_text name (codes "expansion")) _ _ (Ok op) in_expansion in_none))))))))) is
+      (chosen (is_text name (codes "expansion")) _ _ (Ok op) in_expansion
+      (chosen (is_text name (codes "interpolate")) _ _ (Ok op) in_interpolate in_none)))))))))) is
 
   op_formed : op_of d ≡ Ok op → IsFormedOp op
   op_formed is =

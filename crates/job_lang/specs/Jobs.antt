@@ -3,20 +3,19 @@ use Rattle.std.specs.Prelude.{◌≡◌, ℕ, List, codes, Option, Some, None, O
 use Rattle.std.specs.Str.{is_utf8}
 use Rattle.serde_json.specs.Data.{Data}
 use Rattle.serde_json.specs.Read.{read}
-use Rattle.job_lang.specs.declared.places.Place.TheVariants.{Top}
+use Rattle.job_lang.specs.declared.places.Place.TheVariants.{Top, First, Second}
 use Rattle.job_words.specs.declared.causes.JobCause.TheVariants.{Json, Field, Op as UnknownOp}
 use Rattle.job_lang.specs.declared.reading.ReadError.{ReadError}
 use Rattle.job_lang.specs.declared.reading.ReadError.TheVariants.{Fault as ReadFault, Memory as ReadMemory}
 use Rattle.job_lang.specs.declared.jobs.Op.{Op}
-use Rattle.job_lang.specs.declared.jobs.Op.TheVariants.{Lk, Problem, Proves, Show, Measure, Subst, Cutelim, Resolution, Tautology, Expansion}
+use Rattle.job_lang.specs.declared.jobs.Op.TheVariants.{Lk, Problem, Proves, Show, Measure, Subst, Cutelim, Resolution, Tautology, Expansion, Interpolate}
 use Rattle.job_lang.specs.declared.jobs.Job.{Job}
 use Rattle.job_lang.specs.declared.jobs.JobError.{JobError}
 use Rattle.job_lang.specs.declared.jobs.JobError.TheVariants.{Memory, Fault}
 use Rattle.job_words.specs.Names.{is_job_name}
 use Rattle.job_lang.specs.Places.{path}
 use Rattle.job_lang.specs.Fields.{Reading, ◌>>=◌, or_fault, text_at}
-use Rattle.lk_rules.specs.declared.sequent.Sequent.{Sequent}
-use Rattle.job_lang.specs.Formulas.{side_at}
+use Rattle.job_lang.specs.Sequents.{sequent_at, part_at}
 use Rattle.job_lang.specs.Maps.{map_at}
 use Rattle.job_lang.specs.Budgets.{budget_at}
 use Rattle.job_lang.specs.Problems.{problem_at}
@@ -63,17 +62,10 @@ resolution_of d = do
   steps ← res_steps_at d
   Ok (Resolution problem steps)
 
--- the sides of a sequent
-abbrev pub sequent_at : Data → Reading Sequent
-sequent_at d = do
-  left ← side_at Top (codes "left") d
-  right ← side_at Top (codes "right") d
-  Ok (record { left = left; right = right })
-
 -- a sequent and a budget
 abbrev pub tautology_of : Data → Reading Op
 tautology_of d = do
-  sequent ← sequent_at d
+  sequent ← sequent_at Top d
   budget ← budget_at d
   Ok (Tautology sequent budget)
 
@@ -83,6 +75,15 @@ expansion_of d = do
   flat ← flat_at d
   budget ← budget_at d
   Ok (Expansion flat budget)
+
+-- a proof, by the name of its job, the two parts of its end sequent, and a budget
+abbrev pub interpolate_of : Data → Reading Op
+interpolate_of d = do
+  proof ← text_at Top (codes "proof") d
+  first ← part_at First (codes "first") d
+  second ← part_at Second (codes "second") d
+  budget ← budget_at d
+  Ok (Interpolate proof first second budget)
 
 -- the operation of this name with its fields
 abbrev pub op_named : List ℕ → Data → Reading Op
@@ -97,7 +98,8 @@ op_named name d =
     else (if is_text name (codes "resolution") then resolution_of d
     else (if is_text name (codes "tautology") then tautology_of d
     else (if is_text name (codes "expansion") then expansion_of d
-    else Err UnknownOp)))))))))
+    else (if is_text name (codes "interpolate") then interpolate_of d
+    else Err UnknownOp))))))))))
 
 abbrev pub op_of : Data → Reading Op
 op_of d = text_at Top (codes "op") d >>= λ name. op_named name d

@@ -2,6 +2,7 @@ pub mod Places
 pub mod Fields
 pub mod Numbers
 pub mod Formulas
+pub mod Sequents
 pub mod Maps
 pub mod Budgets
 pub mod Problems

@@ -2,7 +2,7 @@
 use Rattle.std.specs.Prelude.{ℕ, List, [], ◌++◌, codes, Option, Some, None}
 use Rattle.std.specs.Fmt.{decimal}
 use Rattle.job_lang.specs.declared.places.Place.{Place}
-use Rattle.job_lang.specs.declared.places.Place.TheVariants.{Top, Step, Node, Instance}
+use Rattle.job_lang.specs.declared.places.Place.TheVariants.{Top, Step, Node, Instance, First, Second}
 
 -- what stands before the names of an object's members
 abbrev pub prefix : Place → List ℕ
@@ -10,6 +10,8 @@ prefix Top = []
 prefix (Step i) = codes "steps/" ++ decimal i ++ codes "/"
 prefix (Node i) = codes "nodes/" ++ decimal i ++ codes "/"
 prefix (Instance i k) = codes "nodes/" ++ decimal i ++ codes "/instances/" ++ decimal k ++ codes "/"
+prefix First = codes "first/"
+prefix Second = codes "second/"
 
 -- the place of an element of a list
 abbrev pub suffix : Option ℕ → List ℕ

@@ -6,7 +6,7 @@ use Rattle.lk_rules.specs.declared.rule.Rule.TheVariants as rules
 use Rattle.serde_json.specs.Data.{Data}
 use Rattle.job_words.specs.declared.causes.JobCause.TheVariants.{Field}
 use Rattle.job_words.specs.declared.kinds.RuleKind.{RuleKind}
-use Rattle.job_words.specs.declared.kinds.RuleKind.TheVariants.{Ax, TopR, BotL, NegL, NegR, AndL, AndR, OrL, OrR, ImpL, ImpR, AllL, AllR, ExL, ExR, Cut, Weak}
+use Rattle.job_words.specs.declared.kinds.RuleKind.TheVariants.{Ax, TopR, BotL, NegL, NegR, AndL, AndR, OrL, OrR, ImpL, ImpR, AllL, AllR, ExL, ExR, DefL, DefR, Cut, Weak}
 use Rattle.job_words.specs.RuleKinds.{kind_named}
 use Rattle.job_lang.specs.declared.places.Place.{Place}
 use Rattle.job_lang.specs.Places.{path}
@@ -31,6 +31,8 @@ rule_of_kind place OrL d = main_at place d >>= λ a. Ok (rules.OrL a)
 rule_of_kind place OrR d = main_at place d >>= λ a. Ok (rules.OrR a)
 rule_of_kind place ImpL d = main_at place d >>= λ a. Ok (rules.ImpL a)
 rule_of_kind place ImpR d = main_at place d >>= λ a. Ok (rules.ImpR a)
+rule_of_kind place DefL d = main_at place d >>= λ a. Ok (rules.DefL a)
+rule_of_kind place DefR d = main_at place d >>= λ a. Ok (rules.DefR a)
 rule_of_kind place Cut d = main_at place d >>= λ a. Ok (rules.Cut a)
 rule_of_kind place AllL d = main_at place d >>= λ a. term_at place (codes "term") d >>= λ t. Ok (rules.AllL a t)
 rule_of_kind place ExR d = main_at place d >>= λ a. term_at place (codes "term") d >>= λ t. Ok (rules.ExR a t)

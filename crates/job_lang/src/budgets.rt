@@ -10,8 +10,8 @@ use serde_json::Value;
 use std::alloc::Global;
 use std::marker::Model;
 
-/// How much an operation may do, as reductions of an elimination of cuts, sequents that a search visits or nodes of unfolded
-/// expansion trees: from 1 to 1,000,000,000.
+/// How much an operation may do, as reductions of an elimination of cuts, sequents that a search visits, nodes of unfolded expansion
+/// trees or inferences of a proof as a tree: from 1 to 1,000,000,000.
 #[derive(Debug, Drop)]
 pub struct Budget {
     amount: u64,

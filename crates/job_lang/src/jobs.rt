@@ -2,16 +2,16 @@
 ghost use Rattle.std.specs.Prelude.{◌≡◌, IfOk};
 ghost use Rattle.serde_json.specs.View.{view};
 ghost use Rattle.job_lang.specs.Fields.{Gives};
-ghost use Rattle.job_lang.specs.Jobs.{error_with, value_of as line_value, name_of as name_data, subst_of as subst_data, cutelim_of as cutelim_data, resolution_of as resolution_data, sequent_at as sequent_members, tautology_of as tautology_data, expansion_of as expansion_data, op_named as named_op, op_of as op_data, reads_job, GivesJob};
+ghost use Rattle.job_lang.specs.Jobs.{error_with, value_of as line_value, name_of as name_data, subst_of as subst_data, cutelim_of as cutelim_data, resolution_of as resolution_data, tautology_of as tautology_data, expansion_of as expansion_data, interpolate_of as interpolate_data, op_named as named_op, op_of as op_data, reads_job, GivesJob};
 
 use crate::budgets::{Budget, budget_at};
 use crate::expansions::flat_at;
-use crate::formulas::side_at;
 use crate::maps::{FormedMap, map_at};
 use crate::places::Place;
 use crate::problems::problem_at;
 use crate::reading::{ReadError, field_fault, text_at, written_at};
 use crate::resolutions::{ResSteps, res_steps_at};
+use crate::sequents::{part_at, sequent_at};
 use crate::steps::steps_at;
 use exp_tree::FlatExp;
 use job_words::{JobCause, Name, Steps, Utf8Text, is_name};
@@ -25,26 +25,60 @@ use tptp_problem::Problem;
 #[derive(Drop)]
 pub enum Op {
     /// The steps of a proof, to be checked.
-    Lk { steps: Steps },
+    Lk {
+        steps: Steps,
+    },
     /// A problem, read from its text.
-    Problem { problem: Problem },
+    Problem {
+        problem: Problem,
+    },
     /// Whether a proof proves a problem. Both are named by their jobs.
-    Proves { proof: Utf8Text, problem: Utf8Text },
+    Proves {
+        proof: Utf8Text,
+        problem: Utf8Text,
+    },
     /// The canonical steps of a proof.
-    Show { of: Utf8Text },
+    Show {
+        of: Utf8Text,
+    },
     /// The sizes of a proof.
-    Measure { proof: Utf8Text },
+    Measure {
+        proof: Utf8Text,
+    },
     /// A proof with its free variables replaced by terms.
-    Subst { proof: Utf8Text, map: FormedMap },
+    Subst {
+        proof: Utf8Text,
+        map: FormedMap,
+    },
     /// A proof made free of cuts, within a budget of reductions.
-    Cutelim { proof: Utf8Text, budget: Budget },
+    Cutelim {
+        proof: Utf8Text,
+        budget: Budget,
+    },
     /// The steps of a refutation of the clauses of a problem, which is named by its job.
-    Resolution { problem: Utf8Text, steps: ResSteps },
+    Resolution {
+        problem: Utf8Text,
+        steps: ResSteps,
+    },
     /// A search for a proof of a sequent without quantifiers, within a budget of sequents that are visited.
-    Tautology { sequent: Sequent, budget: Budget },
+    Tautology {
+        sequent: Sequent,
+        budget: Budget,
+    },
     /// The nodes of expansion trees and which of them are roots, to be checked as an expansion proof, within a budget of nodes of the
     /// unfolded trees and of sequents that are visited.
-    Expansion { flat: FlatExp, budget: Budget },
+    Expansion {
+        flat: FlatExp,
+        budget: Budget,
+    },
+    /// An interpolant of a proof without cuts, which is named by its job. Two sequents, the parts, have together just the formulas of its
+    /// end sequent. The budget is of inferences of the proof as a tree.
+    Interpolate {
+        proof: Utf8Text,
+        first: Sequent,
+        second: Sequent,
+        budget: Budget,
+    },
 }
 
 /// A job: what it asks for, under a name.
@@ -97,18 +131,10 @@ fn resolution_of(alloc: Global, texts: &mut FormulaTexts, value: &Value) -> Resu
     Ok(Op::Resolution { problem, steps })
 }
 
-fn sequent_at(alloc: Global, texts: &mut FormulaTexts, value: &Value) -> Result<Sequent, ReadError>
-    ensures { Gives (λ s. s) result (sequent_members (view value.now)) }
-{
-    let left = side_at(alloc, texts, value, Place::Top, "left")?;
-    let right = side_at(alloc, texts, value, Place::Top, "right")?;
-    Ok(Sequent { left, right })
-}
-
 fn tautology_of(alloc: Global, texts: &mut FormulaTexts, value: &Value) -> Result<Op, ReadError>
     ensures { Gives (λ op. op) result (tautology_data (view value.now)) }
 {
-    let sequent = sequent_at(alloc, texts, value)?;
+    let sequent = sequent_at(alloc, texts, value, Place::Top)?;
     let budget = budget_at(alloc, value)?;
     Ok(Op::Tautology { sequent, budget })
 }
@@ -119,6 +145,21 @@ fn expansion_of(alloc: Global, texts: &mut FormulaTexts, value: &Value) -> Resul
     let flat = flat_at(alloc, texts, value)?;
     let budget = budget_at(alloc, value)?;
     Ok(Op::Expansion { flat, budget })
+}
+
+fn interpolate_of(alloc: Global, texts: &mut FormulaTexts, value: &Value) -> Result<Op, ReadError>
+    ensures { Gives (λ op. op) result (interpolate_data (view value.now)) }
+{
+    let proof = written_at(alloc, value, Place::Top, "proof")?;
+    let first = part_at(alloc, texts, value, Place::First, "first")?;
+    let second = part_at(alloc, texts, value, Place::Second, "second")?;
+    let budget = budget_at(alloc, value)?;
+    Ok(Op::Interpolate {
+        proof,
+        first,
+        second,
+        budget,
+    })
 }
 
 fn op_named(
@@ -164,6 +205,9 @@ fn op_named(
     }
     if name == "expansion" {
         return expansion_of(alloc, texts, value);
+    }
+    if name == "interpolate" {
+        return interpolate_of(alloc, texts, value);
     }
     Err(ReadError::Fault(JobCause::Op))
 }

@@ -13,6 +13,7 @@ mod problems;
 mod reading;
 mod resolutions;
 mod rules;
+mod sequents;
 mod steps;
 
 pub use budgets::Budget;

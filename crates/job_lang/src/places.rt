@@ -17,6 +17,10 @@ pub enum Place {
     Node(usize),
     /// The instance with this number of a node.
     Instance { node: usize, instance: usize },
+    /// The first of two parts of a sequent.
+    First,
+    /// The second of them.
+    Second,
 }
 
 /// What stands in a path before the names of an instance's members.
@@ -36,6 +40,8 @@ fn prefix(alloc: Global, place: Place) -> Result<String, AllocError>
         Place::Step(step) => format!(in alloc; "steps/{step}/"),
         Place::Node(node) => format!(in alloc; "nodes/{node}/"),
         Place::Instance { node, instance } => instance_prefix(alloc, node, instance),
+        Place::First => String::from_str(alloc, "first/"),
+        Place::Second => String::from_str(alloc, "second/"),
     }
 }
 

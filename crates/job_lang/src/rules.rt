@@ -44,6 +44,8 @@ fn rule_of_kind(
         RuleKind::OrR => Ok(Rule::OrR(main)),
         RuleKind::ImpL => Ok(Rule::ImpL(main)),
         RuleKind::ImpR => Ok(Rule::ImpR(main)),
+        RuleKind::DefL => Ok(Rule::DefL(main)),
+        RuleKind::DefR => Ok(Rule::DefR(main)),
         RuleKind::Cut => Ok(Rule::Cut(main)),
         RuleKind::AllL => Ok(Rule::AllL(main, term_at(alloc, value, place, "term")?)),
         RuleKind::ExR => Ok(Rule::ExR(main, term_at(alloc, value, place, "term")?)),

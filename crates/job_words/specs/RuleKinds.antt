@@ -4,7 +4,7 @@ use Rattle.std.specs.Cmp.Lexicographic.{pointwise}
 use Rattle.lk_rules.specs.declared.rule.Rule.{Rule}
 use Rattle.lk_rules.specs.declared.rule.Rule.TheVariants as rules
 use Rattle.job_words.specs.declared.kinds.RuleKind.{RuleKind}
-use Rattle.job_words.specs.declared.kinds.RuleKind.TheVariants.{Ax, TopR, BotL, NegL, NegR, AndL, AndR, OrL, OrR, ImpL, ImpR, AllL, AllR, ExL, ExR, Cut, Weak}
+use Rattle.job_words.specs.declared.kinds.RuleKind.TheVariants.{Ax, TopR, BotL, NegL, NegR, AndL, AndR, OrL, OrR, ImpL, ImpR, AllL, AllR, ExL, ExR, DefL, DefR, Cut, Weak}
 
 -- two texts are the same
 abbrev pub is_text : List ℕ → List ℕ → Bool
@@ -26,6 +26,8 @@ kind_of (rules.AllL a t) = AllL
 kind_of (rules.AllR a y) = AllR
 kind_of (rules.ExL a y) = ExL
 kind_of (rules.ExR a t) = ExR
+kind_of (rules.DefL a) = DefL
+kind_of (rules.DefR a) = DefR
 kind_of (rules.Cut a) = Cut
 kind_of rules.Weak = Weak
 
@@ -45,9 +47,12 @@ kind_name AllL = codes "allL"
 kind_name AllR = codes "allR"
 kind_name ExL = codes "exL"
 kind_name ExR = codes "exR"
+kind_name DefL = codes "defL"
+kind_name DefR = codes "defR"
 kind_name Cut = codes "cut"
 kind_name Weak = codes "weak"
 
+-- the kinds that a job may name. No text has a symbol with a body, so none has a rule that unfolds one
 abbrev pub kinds : List RuleKind
 kinds = Ax ∷ TopR ∷ BotL ∷ NegL ∷ NegR ∷ AndL ∷ AndR ∷ OrL ∷ OrR ∷ ImpL ∷ ImpR ∷ AllL ∷ AllR ∷ ExL ∷ ExR ∷ Cut ∷ Weak ∷ []
 

@@ -22,6 +22,8 @@ pub enum RuleKind {
     AllR,
     ExL,
     ExR,
+    DefL,
+    DefR,
     Cut,
     Weak,
 }
@@ -47,6 +49,8 @@ impl RuleKind {
             Rule::AllR(_, _) => RuleKind::AllR,
             Rule::ExL(_, _) => RuleKind::ExL,
             Rule::ExR(_, _) => RuleKind::ExR,
+            Rule::DefL(_) => RuleKind::DefL,
+            Rule::DefR(_) => RuleKind::DefR,
             Rule::Cut(_) => RuleKind::Cut,
             Rule::Weak => RuleKind::Weak,
         }
@@ -72,12 +76,14 @@ impl RuleKind {
             RuleKind::AllR => "allR",
             RuleKind::ExL => "exL",
             RuleKind::ExR => "exR",
+            RuleKind::DefL => "defL",
+            RuleKind::DefR => "defR",
             RuleKind::Cut => "cut",
             RuleKind::Weak => "weak",
         }
     }
 
-    /// The kind with this name.
+    /// The kind with this name, of those that a job may name: not one that unfolds an atom, since no text has a symbol with a body.
     pub fn named(name: &str) -> Option<RuleKind>
         ensures { result ≡ named_kind name.now }
     {

@@ -11,7 +11,7 @@ use Rattle.fol.specs.Syntax.{Term, bound, Formula, top}
 use Rattle.fol.specs.Order.{var_cmp, term_cmp, formula_cmp}
 use Rattle.fol.proofs.OrderTies.{var_ties, term_ties, formula_ties, order_same, equality_same}
 use Rattle.lk_rules.specs.declared.rule.Rule.{Rule}
-use Rattle.lk_rules.specs.declared.rule.Rule.TheVariants.{Ax, TopR, BotL, NegL, NegR, AndL, AndR, OrL, OrR, ImpL, ImpR, AllL, AllR, ExL, ExR, Cut, Weak}
+use Rattle.lk_rules.specs.declared.rule.Rule.TheVariants.{Ax, TopR, BotL, NegL, NegR, AndL, AndR, OrL, OrR, ImpL, ImpR, AllL, AllR, ExL, ExR, DefL, DefR, Cut, Weak}
 use Rattle.lk_rules.specs.RuleOrder.{rule_kind, formula_of, term_of, variable_of, rule_cmp, rule_total}
 
 then_ties : (a b : Ordering) → ordering_then a b ≡ Equal → (a ≡ Equal) × (b ≡ Equal)
@@ -43,8 +43,10 @@ rule_from n f t y =
     if n == 12 then AllR (unwrap_or f top) (unwrap_or y (Num 0)) else (
     if n == 13 then ExL (unwrap_or f top) (unwrap_or y (Num 0)) else (
     if n == 14 then ExR (unwrap_or f top) (unwrap_or t (bound 0)) else (
-    if n == 15 then Cut (unwrap_or f top) else (
-    Weak))))))))))))))))
+    if n == 15 then DefL (unwrap_or f top) else (
+    if n == 16 then DefR (unwrap_or f top) else (
+    if n == 17 then Cut (unwrap_or f top) else (
+    Weak))))))))))))))))))
 
 rule_from-parts : (r : Rule) → rule_from (rule_kind r) (formula_of r) (term_of r) (variable_of r) ≡ r
 rule_from-parts (Ax a) = refl
@@ -62,6 +64,8 @@ rule_from-parts (AllL a t) = refl
 rule_from-parts (AllR a y) = refl
 rule_from-parts (ExL a y) = refl
 rule_from-parts (ExR a t) = refl
+rule_from-parts (DefL a) = refl
+rule_from-parts (DefR a) = refl
 rule_from-parts (Cut a) = refl
 rule_from-parts Weak = refl
 

@@ -13,7 +13,7 @@ use Rattle.fol.specs.Syntax.{Term, Formula}
 use Rattle.fol.specs.Order.{var_cmp, term_cmp, formula_cmp}
 use Rattle.fol.specs.OrderLaws.{var_total, term_total, formula_total}
 use Rattle.lk_rules.specs.declared.rule.Rule.{Rule}
-use Rattle.lk_rules.specs.declared.rule.Rule.TheVariants.{Ax, TopR, BotL, NegL, NegR, AndL, AndR, OrL, OrR, ImpL, ImpR, AllL, AllR, ExL, ExR, Cut, Weak}
+use Rattle.lk_rules.specs.declared.rule.Rule.TheVariants.{Ax, TopR, BotL, NegL, NegR, AndL, AndR, OrL, OrR, ImpL, ImpR, AllL, AllR, ExL, ExR, DefL, DefR, Cut, Weak}
 
 -- the place of a rule's kind among the kinds
 abbrev pub rule_kind : Rule → ℕ
@@ -32,8 +32,10 @@ rule_kind (AllL a t) = 11
 rule_kind (AllR a y) = 12
 rule_kind (ExL a y) = 13
 rule_kind (ExR a t) = 14
-rule_kind (Cut a) = 15
-rule_kind Weak = 16
+rule_kind (DefL a) = 15
+rule_kind (DefR a) = 16
+rule_kind (Cut a) = 17
+rule_kind Weak = 18
 
 -- the formula that the rule names: its main formula, or of a cut the cut formula
 abbrev pub formula_of : Rule → Option Formula
@@ -52,6 +54,8 @@ formula_of (AllL a t) = Some a
 formula_of (AllR a y) = Some a
 formula_of (ExL a y) = Some a
 formula_of (ExR a t) = Some a
+formula_of (DefL a) = Some a
+formula_of (DefR a) = Some a
 formula_of (Cut a) = Some a
 formula_of Weak = None
 

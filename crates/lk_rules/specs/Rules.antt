@@ -1,12 +1,13 @@
 -- The rules of Gentzen's calculus LK (1935), in the form with sequents of sets. A rule has a main formula, which stands in the
 -- conclusion, and each of its premises has auxiliary formulas. Weakening is absorbed: a premise's end sequent is any subsequent of
--- the conclusion with the premise's auxiliary formulas added.
+-- the conclusion with the premise's auxiliary formulas added. Two rules unfold an atom: its auxiliary formula is what it stands for.
 --     is_formed_rule      what a rule names is well formed
+--     is_unfolding_rule      the two rules that unfold an atom whose predicate symbol has a body
 --     needs, has_shape, main, aux, eigen_free      the table of rules: for each rule its premises, the connective of its main
 --         formula, the sides on which that stands, its auxiliary formulas by premise and side, and its side condition
 --     verdict_of      the first fault of an inference
 --     Row      an inference is right
-use Rattle.std.specs.Prelude.{◌≡◌, ℕ, zero, suc, Bool, true, false, if◌then◌else◌, ◌&&◌, ◌||◌, eqb, List, [], ◌∷◌, Option, Some, None, Result, Ok, Err, IfSome}
+use Rattle.std.specs.Prelude.{◌≡◌, ℕ, zero, suc, Bool, true, false, if◌then◌else◌, ◌&&◌, ◌||◌, eqb, List, [], ◌∷◌, Option, Some, None, option_to_list, is_some, Result, Ok, Err, IfSome}
 use Rattle.std.specs.List.{All, list_all, list_any}
 use Rattle.std.specs.Ordering.{eq_by_cmp}
 use Rattle.fol.specs.Syntax.{free, Formula, top, bot, not, and, or, imp, all, ex}
@@ -14,11 +15,12 @@ use Rattle.fol.specs.Order.{formula_cmp}
 use Rattle.finite.specs.Finite as set
 use Rattle.fol.specs.Formed.{is_formed, is_formed_term, is_formed_var}
 use Rattle.substitution.specs.Instance.{inst}
+use Rattle.substitution.specs.Unfolding.{unf}
 use Rattle.lk_rules.specs.declared.sequent.Sequent.{Sequent}
 use Rattle.lk_rules.specs.declared.sequent.Side.{Side}
 use Rattle.lk_rules.specs.declared.sequent.Side.TheVariants.{Left, Right}
 use Rattle.lk_rules.specs.declared.rule.Rule.{Rule}
-use Rattle.lk_rules.specs.declared.rule.Rule.TheVariants.{Ax, TopR, BotL, NegL, NegR, AndL, AndR, OrL, OrR, ImpL, ImpR, AllL, AllR, ExL, ExR, Cut, Weak}
+use Rattle.lk_rules.specs.declared.rule.Rule.TheVariants.{Ax, TopR, BotL, NegL, NegR, AndL, AndR, OrL, OrR, ImpL, ImpR, AllL, AllR, ExL, ExR, DefL, DefR, Cut, Weak}
 use Rattle.lk_rules.specs.declared.inference.RuleFault.{RuleFault}
 use Rattle.lk_rules.specs.declared.inference.RuleFault.TheVariants.{Premises, Shape, MainMissing, EigenFree, Premise}
 use Rattle.lk_rules.specs.Formulas.{FormulaSet}
@@ -41,11 +43,19 @@ is_formed_rule (AllL a t) = is_formed a && is_formed_term t
 is_formed_rule (AllR a y) = is_formed a && is_formed_var y
 is_formed_rule (ExL a y) = is_formed a && is_formed_var y
 is_formed_rule (ExR a t) = is_formed a && is_formed_term t
+is_formed_rule (DefL a) = is_formed a
+is_formed_rule (DefR a) = is_formed a
 is_formed_rule (Cut a) = is_formed a
 is_formed_rule Weak = true
 
 abbrev pub IsFormedRule : Rule → Type 0
 IsFormedRule r = is_formed_rule r ≡ true
+
+-- whether the rule unfolds an atom
+abbrev pub is_unfolding_rule : Rule → Bool
+is_unfolding_rule (DefL a) = true
+is_unfolding_rule (DefR a) = true
+is_unfolding_rule r = false
 
 -- how many premises the rule has
 abbrev pub needs : Rule → ℕ
@@ -64,10 +74,13 @@ needs (AllL a t) = 1
 needs (AllR a y) = 1
 needs (ExL a y) = 1
 needs (ExR a t) = 1
+needs (DefL a) = 1
+needs (DefR a) = 1
 needs (Cut a) = 2
 needs Weak = 1
 
--- whether the main formula has the connective or the quantifier that the rule introduces. Other rules' formulas have any shape
+-- whether the main formula has the connective or the quantifier that the rule introduces, or is an atom with an unfolding where the rule
+-- unfolds it. Other rules' formulas have any shape
 abbrev pub has_shape : Rule → Bool
 has_shape (NegL (not a)) = true
 has_shape (NegL a) = false
@@ -93,6 +106,8 @@ has_shape (ExL (ex b) y) = true
 has_shape (ExL a y) = false
 has_shape (ExR (ex b) t) = true
 has_shape (ExR a t) = false
+has_shape (DefL a) = is_some (unf a)
+has_shape (DefR a) = is_some (unf a)
 has_shape r = true
 
 -- the main formula, on each side of the conclusion on which it must stand. Cut and weakening have none
@@ -112,6 +127,8 @@ main (AllL a t) Left = a ∷ []
 main (AllR a y) Right = a ∷ []
 main (ExL a y) Left = a ∷ []
 main (ExR a t) Right = a ∷ []
+main (DefL a) Left = a ∷ []
+main (DefR a) Right = a ∷ []
 main r side = []
 
 -- the auxiliary formulas of a premise, counted from 0, on each side
@@ -132,6 +149,8 @@ aux (AllL (all b) t) zero Left = inst b t ∷ []
 aux (AllR (all b) y) zero Right = inst b (free y) ∷ []
 aux (ExL (ex b) y) zero Left = inst b (free y) ∷ []
 aux (ExR (ex b) t) zero Right = inst b t ∷ []
+aux (DefL a) zero Left = option_to_list (unf a)
+aux (DefR a) zero Right = option_to_list (unf a)
 aux (Cut a) zero Right = a ∷ []
 aux (Cut a) (suc zero) Left = a ∷ []
 aux r premise side = []

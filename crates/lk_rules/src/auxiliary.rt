@@ -3,14 +3,14 @@ ghost use Rattle.std.specs.Prelude.{◌≡◌, ◌<◌, true, IfOk};
 ghost use Rattle.fol.specs.Syntax.{free};
 ghost use Rattle.fol.specs.Formed.{IsFormed, IsFormedVar};
 ghost use Rattle.substitution.specs.Instance.{inst, IsOpenBody};
-ghost use Rattle.lk_rules.specs.Rules.{IsFormedRule, has_shape, needs, aux as auxiliary_formulas};
+ghost use Rattle.lk_rules.specs.Rules.{IsFormedRule, is_unfolding_rule, has_shape, needs, aux as auxiliary_formulas};
 ghost use Rattle.lk_rules.specs.Sequents.{empty as empty_sequent, adds_to, extended};
 
 use crate::rule::Rule;
 use crate::sequent::{Sequent, Side};
 use fol::{Formula, FormulaNode, Term, Var};
 use std::alloc::{AllocError, Global};
-use substitution::instance;
+use substitution::{instance, unfold};
 
 /// The auxiliary formulas of a premise, counted from 0, as a sequent: what stands in the premise in place of the main formula.
 pub fn aux(alloc: Global, rule: &Rule, premise: u64) -> Result<Sequent, AllocError>
@@ -64,6 +64,7 @@ pub fn aux(alloc: Global, rule: &Rule, premise: u64) -> Result<Sequent, AllocErr
             FormulaNode::Ex(body) => one(alloc, Side::Right, &instance(alloc, body, term)?),
             _ => Ok(Sequent::empty(alloc)),
         },
+        Rule::DefL(_) | Rule::DefR(_) => unfolding_aux(alloc, rule),
         Rule::AndR(_) | Rule::OrL(_) | Rule::ImpL(_) | Rule::Cut(_) => {
             branch_aux(alloc, rule, premise)
         }
@@ -104,6 +105,25 @@ fn branch_aux(alloc: Global, rule: &Rule, premise: u64) -> Result<Sequent, Alloc
         },
         (Rule::Cut(cut), 0) => one(alloc, Side::Right, cut),
         (Rule::Cut(cut), 1) => one(alloc, Side::Left, cut),
+        _ => Ok(Sequent::empty(alloc)),
+    }
+}
+
+// The auxiliary formulas of the premise, by a rule that unfolds an atom.
+fn unfolding_aux(alloc: Global, rule: &Rule) -> Result<Sequent, AllocError>
+    requires formed { IsFormedRule rule.now }
+    requires unfolds { is_unfolding_rule rule.now ≡ true }
+    ensures { IfOk result (λ sequent. sequent ≡ extended empty_sequent (auxiliary_formulas rule.now 0)) }
+{
+    match rule {
+        Rule::DefL(main) => match unfold(alloc, main)? {
+            Some(unfolding) => one(alloc, Side::Left, &unfolding),
+            None => Ok(Sequent::empty(alloc)),
+        },
+        Rule::DefR(main) => match unfold(alloc, main)? {
+            Some(unfolding) => one(alloc, Side::Right, &unfolding),
+            None => Ok(Sequent::empty(alloc)),
+        },
         _ => Ok(Sequent::empty(alloc)),
     }
 }

@@ -1,10 +1,11 @@
 //! The check of one inference.
-ghost use Rattle.std.specs.Prelude.{◌≡◌, ◌↔◌, ◌≤◌, ◌||◌, IsOk, IsSome, option_copied};
+ghost use Rattle.std.specs.Prelude.{◌≡◌, ◌↔◌, ◌≤◌, ◌||◌, IsOk, IsSome, is_some, option_copied};
 ghost use Rattle.std.specs.List.{list_any};
 ghost use Rattle.std.specs.Ordering.{eq_by_cmp};
 ghost use Rattle.fol.specs.Syntax.{top, bot};
 ghost use Rattle.fol.specs.Order.{formula_cmp};
 ghost use Rattle.finite.specs.Finite as set;
+ghost use Rattle.substitution.specs.Unfolding.{unf};
 ghost use Rattle.lk_rules.specs.Rules.{IsFormedRule, needs, has_shape, main_stands, eigen_free, aux, fits_side, fits, verdict_of, Row};
 
 use crate::formulas::Formulas;
@@ -12,14 +13,14 @@ use crate::rule::Rule;
 use crate::sequent::{Sequent, Side};
 use crate::variable_instances::is_variable_instance;
 use fol::{Formula, FormulaNode};
-use substitution::is_instance;
+use substitution::{is_instance, is_unfolding};
 
 /// What is wrong with an inference: the first fault in this order.
 #[derive(Clone, Copy, PartialEq, Eq, Debug)]
 pub enum RuleFault {
     /// The rule has another number of premises.
     Premises,
-    /// The main formula does not have the connective that the rule introduces.
+    /// The main formula does not have the connective that the rule introduces, or isn't an atom with an unfolding where the rule unfolds it.
     Shape,
     /// The main formula is missing from a side of the conclusion on which it must stand.
     MainMissing,
@@ -80,12 +81,14 @@ fn premises_of(rule: &Rule) -> u64
         | Rule::AllR(..)
         | Rule::ExL(..)
         | Rule::ExR(..)
+        | Rule::DefL(_)
+        | Rule::DefR(_)
         | Rule::Weak => 1,
         Rule::AndR(_) | Rule::OrL(_) | Rule::ImpL(_) | Rule::Cut(_) => 2,
     }
 }
 
-// Whether the main formula has the connective or the quantifier that the rule introduces.
+// Whether the main formula has the connective or the quantifier that the rule introduces, or an unfolding where the rule unfolds it.
 fn is_shaped(rule: &Rule) -> bool
     ensures { result ≡ has_shape rule.now }
 {
@@ -96,8 +99,16 @@ fn is_shaped(rule: &Rule) -> bool
         Rule::ImpL(main) | Rule::ImpR(main) => matches!(main.node(), FormulaNode::Imp(..)),
         Rule::AllL(main, _) | Rule::AllR(main, _) => matches!(main.node(), FormulaNode::All(_)),
         Rule::ExL(main, _) | Rule::ExR(main, _) => matches!(main.node(), FormulaNode::Ex(_)),
+        Rule::DefL(main) | Rule::DefR(main) => has_unfolding(main),
         Rule::Ax(_) | Rule::TopR | Rule::BotL | Rule::Cut(_) | Rule::Weak => true,
     }
+}
+
+// Whether the formula is an atom whose predicate symbol has a body.
+fn has_unfolding(formula: &Formula) -> bool
+    ensures { result ≡ is_some (unf formula.now) }
+{
+    matches!(formula.node(), FormulaNode::Atom(predicate, _) if predicate.body.is_some())
 }
 
 // Whether the main formula stands in the conclusion where the rule asks for it.
@@ -114,13 +125,15 @@ fn main_formula_stands(rule: &Rule, end: &Sequent) -> bool
         | Rule::OrL(main)
         | Rule::ImpL(main)
         | Rule::AllL(main, _)
-        | Rule::ExL(main, _) => end.left.has(main),
+        | Rule::ExL(main, _)
+        | Rule::DefL(main) => end.left.has(main),
         Rule::NegR(main)
         | Rule::AndR(main)
         | Rule::OrR(main)
         | Rule::ImpR(main)
         | Rule::AllR(main, _)
-        | Rule::ExR(main, _) => end.right.has(main),
+        | Rule::ExR(main, _)
+        | Rule::DefR(main) => end.right.has(main),
         Rule::Cut(_) | Rule::Weak => true,
     }
 }
@@ -206,6 +219,9 @@ fn is_auxiliary(rule: &Rule, premise: u64, side: Side, formula: &Formula) -> boo
         }
         (Rule::ExR(main, term), 0, Side::Right) => {
             matches!(main.node(), FormulaNode::Ex(body) if is_instance(body, term, formula))
+        }
+        (Rule::DefL(main), 0, Side::Left) | (Rule::DefR(main), 0, Side::Right) => {
+            is_unfolding(main, formula)
         }
         (Rule::Cut(main), 0, Side::Right) | (Rule::Cut(main), 1, Side::Left) => formula == main,
         _ => false,

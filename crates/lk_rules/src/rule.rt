@@ -40,6 +40,10 @@ pub enum Rule {
     ExL(Formula, Var),
     /// An existential formula on the right, with its instance by the term in the premise.
     ExR(Formula, Term),
+    /// An atom on the left whose predicate symbol has a body, with its unfolding in the premise.
+    DefL(Formula),
+    /// An atom on the right whose predicate symbol has a body, with its unfolding in the premise.
+    DefR(Formula),
     /// The cut: the formula stands on the right of the first premise and on the left of the second.
     Cut(Formula),
     /// Weakening: the one premise is a subsequent of the conclusion.
@@ -58,6 +62,8 @@ impl Drop for Rule {
             | Rule::OrR(main)
             | Rule::ImpL(main)
             | Rule::ImpR(main)
+            | Rule::DefL(main)
+            | Rule::DefR(main)
             | Rule::Cut(main) => drop(main),
             Rule::AllL(main, term) | Rule::ExR(main, term) => {
                 drop(main);
@@ -87,6 +93,8 @@ impl Rule {
             | Rule::OrR(main)
             | Rule::ImpL(main)
             | Rule::ImpR(main)
+            | Rule::DefL(main)
+            | Rule::DefR(main)
             | Rule::Cut(main) => well_formed(main),
             Rule::AllL(main, term) | Rule::ExR(main, term) => {
                 well_formed(main) && well_formed_term(term)
@@ -118,6 +126,8 @@ impl Rule {
             Rule::AllR(main, variable) => Ok(Rule::AllR(main.copy()?, variable.copy()?)),
             Rule::ExL(main, variable) => Ok(Rule::ExL(main.copy()?, variable.copy()?)),
             Rule::ExR(main, term) => Ok(Rule::ExR(main.copy()?, term.copy()?)),
+            Rule::DefL(main) => Ok(Rule::DefL(main.copy()?)),
+            Rule::DefR(main) => Ok(Rule::DefR(main.copy()?)),
             Rule::Cut(main) => Ok(Rule::Cut(main.copy()?)),
             Rule::Weak => Ok(Rule::Weak),
         }

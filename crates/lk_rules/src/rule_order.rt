@@ -29,6 +29,8 @@ impl Rule {
             | Rule::AllR(main, _)
             | Rule::ExL(main, _)
             | Rule::ExR(main, _)
+            | Rule::DefL(main)
+            | Rule::DefR(main)
             | Rule::Cut(main) => Some(main),
             Rule::TopR | Rule::BotL | Rule::Weak => None,
         }
@@ -81,8 +83,10 @@ impl Rule {
             Rule::AllR(..) => 12,
             Rule::ExL(..) => 13,
             Rule::ExR(..) => 14,
-            Rule::Cut(_) => 15,
-            Rule::Weak => 16,
+            Rule::DefL(_) => 15,
+            Rule::DefR(_) => 16,
+            Rule::Cut(_) => 17,
+            Rule::Weak => 18,
         }
     }
 }

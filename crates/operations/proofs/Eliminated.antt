@@ -2,12 +2,12 @@
 use Rattle.std.proofs.Common.{◌≡◌, ℕ, Option, Some, None, sym, ap, subst}
 use Rattle.proof_trees.specs.Trees.{Tree}
 use Rattle.proof_graph.specs.declared.graph.Graph.{Graph}
-use Rattle.operations.specs.declared.answers.Refusal.{Refusal}
-use Rattle.operations.specs.declared.answers.Failure.TheVariants.{Budget}
+use Rattle.operation_laws.specs.declared.refusals.Refusal.{Refusal}
+use Rattle.operation_laws.specs.declared.refusals.Failure.TheVariants.{Budget}
 use Rattle.operations.specs.declared.answers.Ran.{Ran}
 use Rattle.operations.specs.declared.answers.Ran.TheVariants as ran
-use Rattle.operations.specs.Answers.{reduced, refused, product}
-use Rattle.operations.specs.Running.{eliminates}
+use Rattle.operation_laws.specs.Answers.{reduced, refused, product}
+use Rattle.operation_laws.specs.Running.{eliminates}
 use Rattle.operations.specs.Means.{Comes}
 
 pub elimination_gives : (g : Graph) (r : Ran) (t : Tree) (n : ℕ) (wanted : Option (Tree × ℕ)) → wanted ≡ Some (t, n)

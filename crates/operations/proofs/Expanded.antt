@@ -15,8 +15,8 @@ use Rattle.exp_check.specs.declared.fault.ExpFault.TheVariants as checks
 use Rattle.exp_check.specs.Checking.{checking}
 use Rattle.operations.specs.declared.answers.Ran.{Ran}
 use Rattle.operations.specs.declared.answers.Ran.TheVariants as ran
-use Rattle.operations.specs.Answers.{expansion, product, capped}
-use Rattle.operations.specs.Running.{checked, reads}
+use Rattle.operation_laws.specs.Answers.{expansion, product, capped}
+use Rattle.operation_laws.specs.Running.{checked, reads}
 use Rattle.operations.specs.Means.{Comes}
 
 -- a number of 64 bits isn't cut off

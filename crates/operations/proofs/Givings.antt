@@ -1,14 +1,14 @@
 -- What an operation comes to, by what its fields are given.
 use Rattle.std.proofs.Common.{◌≡◌, Err, sym, ap, ◌∙◌, subst}
 use Rattle.proof_graph.specs.declared.graph.Graph.{Graph}
-use Rattle.operations.specs.declared.answers.Refusal.{Refusal}
+use Rattle.operation_laws.specs.declared.refusals.Refusal.{Refusal}
 use Rattle.operations.specs.declared.answers.Absent.{Absent}
 use Rattle.operations.specs.declared.answers.Absent.TheVariants as absent
 use Rattle.operations.specs.declared.answers.Ran.{Ran}
 use Rattle.operations.specs.declared.answers.Ran.TheVariants as ran
-use Rattle.operations.specs.Answers.{Answer, refused, lacking}
-use Rattle.operations.specs.Given.{Found, missing, wanting, found}
-use Rattle.operations.specs.Running.{over, over_both}
+use Rattle.operation_laws.specs.Answers.{Answer, refused, lacking}
+use Rattle.operation_laws.specs.Given.{Found, missing, wanting, found}
+use Rattle.operation_laws.specs.Running.{over, over_both}
 use Rattle.operations.specs.Means.{Finds, without, Comes}
 
 -- a field that is given nothing

@@ -5,8 +5,4 @@ pub mod Refuted
 pub mod Searched
 pub mod StrongVars
 pub mod Expanded
-pub mod Making
-pub mod Sound
-pub mod Claimed
-pub mod Shows
-pub mod Examples
+pub mod Interpolated

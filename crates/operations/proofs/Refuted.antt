@@ -9,12 +9,12 @@ use Rattle.refutations.specs.declared.step.ResCause.{ResCause}
 use Rattle.refutations.specs.Refutations.{refutation}
 use Rattle.tptp_problem.specs.declared.problems.Problem.{Problem}
 use Rattle.tptp_problem.specs.ProblemClauses.{clauses_of}
-use Rattle.operations.specs.declared.answers.Refusal.{Refusal}
-use Rattle.operations.specs.declared.answers.Failure.TheVariants.{Refutation}
+use Rattle.operation_laws.specs.declared.refusals.Refusal.{Refusal}
+use Rattle.operation_laws.specs.declared.refusals.Failure.TheVariants.{Refutation}
 use Rattle.operations.specs.declared.answers.Ran.{Ran}
 use Rattle.operations.specs.declared.answers.Ran.TheVariants as ran
-use Rattle.operations.specs.Answers.{Answer, proof, refused, lacking, product}
-use Rattle.operations.specs.Running.{has_closure, refutation_shown, refuted, refutes_clauses, refutes}
+use Rattle.operation_laws.specs.Answers.{Answer, proof, refused, lacking, product}
+use Rattle.operation_laws.specs.Running.{has_closure, refutation_shown, refuted, refutes_clauses, refutes}
 use Rattle.operations.specs.Means.{Comes}
 
 pub import_gives : (g : Graph) (r : Ran) (t : Tree) (wanted : Result Tree (ℕ × ResCause)) → wanted ≡ Ok t → Comes g r (product (proof t)) → Comes g r (refuted wanted)

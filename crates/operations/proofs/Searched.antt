@@ -1,6 +1,6 @@
 -- What a search answers decides what the operation comes to.
 use Rattle.std.proofs.Common.{◌≡◌, ℕ, Bool, true, false, cond, List, Option, Some, None, Result, Ok, Err, refl, sym, ap, subst, ◌∙◌}
-use Rattle.std.specs.Prelude.{find, is_some, option_map, nat_lt}
+use Rattle.std.specs.Prelude.{find, is_some, option_map}
 use Rattle.std.specs.List.{list_any}
 use Rattle.std_collections.proofs.SetKeys.{is_some-find}
 use Rattle.fol.specs.Syntax.{Formula}
@@ -11,17 +11,16 @@ use Rattle.lk_rules.specs.declared.sequent.Side.TheVariants.{Left, Right}
 use Rattle.proof_trees.specs.Trees.{Tree}
 use Rattle.proof_graph.specs.declared.graph.Graph.{Graph}
 use Rattle.search_laws.specs.Truth.{Assignment, has_quantifier, IsPropositional}
-use Rattle.search_laws.specs.Search.{Walk, proved, falsified, visits, walk}
+use Rattle.search_laws.specs.Search.{walk}
 use Rattle.prop_search.specs.declared.fault.SearchFault.{SearchFault}
 use Rattle.prop_search.specs.declared.fault.SearchFault.TheVariants as search
-use Rattle.prop_search.specs.Deciding.{verdict, found}
-use Rattle.operations.specs.declared.answers.Refusal.{Refusal}
-use Rattle.operations.specs.declared.answers.Failure.TheVariants.{Budget, Quantified, Falsified}
+use Rattle.prop_search.specs.Deciding.{found}
+use Rattle.operation_laws.specs.declared.refusals.Failure.TheVariants.{Budget, Quantified, Falsified}
 use Rattle.operations.specs.declared.answers.Ran.{Ran}
 use Rattle.operations.specs.declared.answers.Ran.TheVariants as ran
-use Rattle.operations.specs.Answers.{proof, refused, failed, product}
-use Rattle.operations.specs.Given.{or_else}
-use Rattle.operations.specs.Running.{quantified_on, quantified_in, searched, searches}
+use Rattle.operation_laws.specs.Answers.{proof, failed, product}
+use Rattle.operation_laws.specs.Given.{or_else}
+use Rattle.operation_laws.specs.Running.{quantified_on, quantified_in, searched, searches}
 use Rattle.operations.specs.Means.{Comes}
 
 pub search_gives : (g : Graph) (r : Ran) (t : Tree) (wanted : Result Tree SearchFault) → wanted ≡ Ok t → Comes g r (product (proof t)) → Comes g r (searched wanted)
@@ -39,16 +38,6 @@ search_lacks g (Ok t) = tt
 search_lacks g (Err (search.Falsified atoms)) = tt
 search_lacks g (Err search.Budget) = tt
 search_lacks g (Err search.Memory) = tt
-
-searched_stays : (wanted : Result Tree SearchFault) (r : Refusal) → searched wanted ≡ refused r → ⊥
-searched_stays (Ok t) r is = cc
-searched_stays (Err (search.Falsified atoms)) r is = cc
-searched_stays (Err search.Budget) r is = cc
-searched_stays (Err search.Memory) r is = cc
-
-pub never_refused : (q : Option (Formula × Side)) (s : Sequent) (n : ℕ) (r : Refusal) → searches q s n ≡ refused r → ⊥
-never_refused (Some q) s n r is = cc
-never_refused None s n r is = searched_stays (found n (walk s)) r is
 
 -- a sequent that has such a formula, and one that has none
 pub quantified_comes : (g : Graph) (r : Ran) (q : Option (Formula × Side)) (f : Formula) (side : Side) (s : Sequent) (n : ℕ) → q ≡ Some (f, side)
@@ -80,15 +69,3 @@ none_quantified s none =
       left = none_among (set.listing s.left) (find has_quantifier (set.listing s.left)) refl in_left;
       right = none_among (set.listing s.right) (find has_quantifier (set.listing s.right)) refl in_right;
     }
-
--- a proof that is found within a budget is that of the whole search
-pub found_proved : (n : ℕ) (w : Walk) (t : Tree) → found n w ≡ Ok t → w ≡ proved t
-found_proved n w t is = by_test (nat_lt n (visits w)) w is
-  where
-    by_walk : (v : Walk) → verdict v ≡ Ok t → v ≡ proved t
-    by_walk (proved u) same = let trees : u ≡ t = cc in ap proved trees
-    by_walk (falsified k a) same = cc
-
-    by_test : (b : Bool) (v : Walk) → cond b (Err search.Budget) (verdict v) ≡ Ok t → v ≡ proved t
-    by_test true v same = cc
-    by_test false v same = by_walk v same

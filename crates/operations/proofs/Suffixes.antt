@@ -5,7 +5,7 @@ use Rattle.std.specs.Str.{bytes_eq}
 use Rattle.std.specs.Str.Pattern.{FindsTextSuffix, StripsSuffix}
 use Rattle.std.proofs.lemmas.List.{drop_at, take-append-drop}
 use Rattle.std.proofs.lemmas.Slice.Eq.{bytes_eq-Decides}
-use Rattle.operations.specs.Given.{without}
+use Rattle.operation_laws.specs.Given.{without}
 
 module _ (suffix text : List ℕ) where
   abbrev front : List ℕ

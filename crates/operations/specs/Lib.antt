@@ -1,6 +1,1 @@
-pub mod Values
-pub mod Answers
-pub mod Given
-pub mod Running
-pub mod Claims
 pub mod Means

@@ -3,8 +3,9 @@
 --     Fits      the value may be given to an operation over this graph
 --     made_of      what a product of the program means
 --     Comes      what an operation came to stands for an answer
+--     is_refusal      an operation came to a refusal or a failure
 --     IsAnswerOf      an outcome and a value are what is answered
-use Rattle.std.specs.Prelude.{◌≡◌, ◌⊎◌, Option, Some, None, Result, Ok, Err}
+use Rattle.std.specs.Prelude.{◌≡◌, ◌⊎◌, Bool, true, false, Option, Some, None, Result, Ok, Err}
 use Rattle.std.specs.List.{All}
 use Rattle.proof_graph.specs.declared.graph.Graph.{Graph}
 use Rattle.proof_graph.specs.Graphs.{IsOf}
@@ -15,19 +16,19 @@ use Rattle.exp_check.specs.declared.fault.ExpFault.TheVariants as checks
 use Rattle.tptp_problem.specs.ProblemClauses.{IsReadProblem}
 use Rattle.reply_lines.specs.declared.replies.Outcome.{Outcome}
 use Rattle.reply_lines.specs.declared.replies.Outcome.TheVariants.{Memory}
-use Rattle.operations.specs.declared.answers.Refusal.{Refusal}
-use Rattle.operations.specs.declared.answers.Refusal.TheVariants.{UnknownName, Kind, Empty, Step}
+use Rattle.operation_laws.specs.declared.refusals.Refusal.{Refusal}
+use Rattle.operation_laws.specs.declared.refusals.Refusal.TheVariants.{UnknownName, Kind, Empty, Step}
 use Rattle.operations.specs.declared.held.Held.{Held}
 use Rattle.operations.specs.declared.held.Held.TheVariants as held
 use Rattle.operations.specs.declared.answers.Made.{Made}
 use Rattle.operations.specs.declared.answers.Made.TheVariants as made
 use Rattle.operations.specs.declared.answers.Ran.{Ran}
 use Rattle.operations.specs.declared.answers.Ran.TheVariants as ran
-use Rattle.operations.specs.Values.{Value, nothing, refused, lacking, proof, problem, expansion}
-use Rattle.operations.specs.Answers.{Product, Answer, shown_refusal, shown_failure, shown_product, held_product}
-use Rattle.operations.specs.Answers as answers
-use Rattle.operations.specs.Given.{Found}
-use Rattle.operations.specs.Given as given
+use Rattle.operation_laws.specs.Values.{Value, nothing, refused, lacking, proof, pair, problem, expansion}
+use Rattle.operation_laws.specs.Answers.{Product, Answer, shown_refusal, shown_failure, shown_product, held_product}
+use Rattle.operation_laws.specs.Answers as answers
+use Rattle.operation_laws.specs.Given.{Found}
+use Rattle.operation_laws.specs.Given as given
 use Rattle.operations.specs.declared.given.ToShow.{ToShow}
 use Rattle.operations.specs.declared.given.ToShow.TheVariants as to_show
 use Rattle.operations.specs.declared.answers.Absent.{Absent}
@@ -39,16 +40,18 @@ sense held.Refused = Some refused
 sense held.Unheld = Some lacking
 sense held.Unknown = None
 sense (held.Proof r) = Some (proof r.tree)
+sense (held.Pair r s) = Some (pair r.tree s.tree)
 sense (held.Problem p) = Some (problem p)
 sense (held.Expansion e) = Some (expansion (expansion_of e))
 
--- a reference is of the graph, and a problem is such as is read
+-- references are of the graph, and a problem is such as is read
 abbrev pub Fits : Graph → Held → Type 0
 Fits g held.Nothing = Unit {0}
 Fits g held.Refused = Unit {0}
 Fits g held.Unheld = Unit {0}
 Fits g held.Unknown = Unit {0}
 Fits g (held.Proof r) = IsOf g r
+Fits g (held.Pair r s) = IsOf g r × IsOf g s
 Fits g (held.Problem p) = IsReadProblem p
 Fits g (held.Expansion e) = Unit {0}
 
@@ -62,6 +65,7 @@ made_of (made.Steps list) = answers.steps list
 made_of (made.Sizes cuts nodes quants size) = answers.sizes cuts nodes quants size
 made_of (made.Expansion e) = answers.expansion (expansion_of e)
 made_of (made.Nodes flat) = answers.nodes flat
+made_of (made.Interpolant f r s) = answers.interpolant f r.tree s.tree
 
 -- its references are of the graph, and a problem is such as is read
 abbrev pub FitsMade : Graph → Made → Type 0
@@ -73,6 +77,7 @@ FitsMade g (made.Steps list) = Unit {0}
 FitsMade g (made.Sizes cuts nodes quants size) = Unit {0}
 FitsMade g (made.Expansion e) = Unit {0}
 FitsMade g (made.Nodes flat) = Unit {0}
+FitsMade g (made.Interpolant f r s) = IsOf g r × IsOf g s
 
 -- the refusal shows a name
 abbrev pub ShowsName : Refusal → Type 0
@@ -132,6 +137,14 @@ Comes g (ran.Done m) wanted = (wanted ≡ answers.product (made_of m)) × FitsMa
 -- these two are the outcome and the value that are answered
 abbrev pub Is : Outcome × Held → Outcome → Held → Type 0
 Is answer outcome h = (answer.0 ≡ outcome) × (answer.1 ≡ h)
+
+-- whether an operation came to no product though memory didn't run out: it is refused, or it failed
+abbrev pub is_refusal : Ran → Bool
+is_refusal (ran.Refused r) = true
+is_refusal ran.Unnamed = true
+is_refusal (ran.Failed f) = true
+is_refusal ran.Lacking = false
+is_refusal (ran.Done m) = false
 
 -- An outcome with what the job holds. Where a refusal shows a name and there is no memory for that, want of memory is answered with the
 -- value of a refusal, which no other answer has. Where memory ran out in the operation, want of it is answered with the value that later

@@ -1,5 +1,5 @@
 //! Answering an operation over the values that its names of jobs stand for.
-ghost use Rattle.std.specs.Prelude.{◌≡◌, length, map};
+ghost use Rattle.std.specs.Prelude.{◌≡◌, true, length, map};
 ghost use Rattle.std.specs.List.{All};
 ghost use mathlib.Core.List.{IsPrefix};
 ghost use Rattle.proof_graph.specs.declared.graph.Graph.{Graph};
@@ -8,17 +8,17 @@ ghost use Rattle.proof_subst.specs.Benches.{graph_of, pass_in};
 ghost use Rattle.cut_elim.specs.Desks.{bench_of, pass_in as bench_pass_in, IsDeskPassOf};
 ghost use Rattle.tptp_problem.specs.ProblemClauses.{IsReadProblem};
 ghost use Rattle.job_lang.specs.FormedOps.{IsFormedOp};
-ghost use Rattle.operations.specs.declared.answers.Refusal.{Refusal as Refused};
-ghost use Rattle.operations.specs.Answers.{refused, product, problem as problem_made};
-ghost use Rattle.operations.specs.Given.{names_in};
-ghost use Rattle.operations.specs.Running.{run};
-ghost use Rattle.operations.specs.Means.{sense, Fits, Comes, IsAnswerOf};
+ghost use Rattle.operation_laws.specs.Answers.{product, problem as problem_made};
+ghost use Rattle.operation_laws.specs.Given.{names_in};
+ghost use Rattle.operation_laws.specs.Running.{run};
+ghost use Rattle.operations.specs.Means.{sense, Fits, Comes, is_refusal, IsAnswerOf};
 
 use crate::answers::{Made, Ran};
 use crate::concluding::conclude;
 use crate::expanding::check_expansion;
 use crate::given::{first, second};
 use crate::held::Held;
+use crate::interpolating::interpolate_in;
 use crate::proofs::{admit_steps, eliminate_in, substitute_in};
 use crate::readings::{measure, prove, show};
 use crate::refuting::refute;
@@ -55,8 +55,7 @@ fn run_given<R: Wait>(
     requires op { IsFormedOp op.now }
     requires fits { All (Fits (graph_of (bench_of desk.now))) given.now }
     ensures ran { Comes (graph_of (bench_of desk.now)) result (run op.now (map sense given.now)) }
-    ensures unchanged { (r : Refused) → run op.now (map sense given.now) ≡ refused r
-        → history (pass_in (bench_pass_in pass.new)) ≡ history (pass_in (bench_pass_in pass.old)) }
+    ensures unchanged { is_refusal result ≡ true → history (pass_in (bench_pass_in pass.new)) ≡ history (pass_in (bench_pass_in pass.old)) }
     ensures grown { IsPrefix (history (pass_in (bench_pass_in pass.old))) (history (pass_in (bench_pass_in pass.new))) }
     ensures pass_stays { IsDeskPassOf desk.now pass.new }
 {
@@ -102,6 +101,22 @@ fn run_given<R: Wait>(
             budget.get(),
         ),
         Op::Expansion { flat, budget } => check_expansion(alloc, flat, budget.get()),
+        Op::Interpolate {
+            proof,
+            first: one,
+            second: two,
+            budget,
+        } => interpolate_in(
+            rt,
+            alloc,
+            bench,
+            Desk::bench_pass(pass),
+            proof,
+            first(given),
+            one,
+            two,
+            budget.get(),
+        ),
     }
 }
 
@@ -109,9 +124,9 @@ fn run_given<R: Wait>(
 /// (none for `Lk`, `Problem`, `Tautology` and `Expansion`, the proof and then the problem for `Proves`, and one for the others). The answer is the outcome with what
 /// the job holds.
 ///
-/// A value that has a fault is refused, the first such value alone: at `Unknown` by `UnknownName`, and by `Kind` at another kind of value
-/// than the field takes, or at any where the text has the suffix `.first` or `.second`. `Unheld` is no fault: where no value has one and one is `Unheld`,
-/// the answer is `Outcome::Memory` with `Held::Unheld`, as it is where memory runs out in the operation. Each refusal holds `Held::Refused`.
+/// A text with the suffix `.first` or `.second` stands for that proof of a `Pair`. A value that has a fault is refused, the first such value
+/// alone: at `Unknown` by `UnknownName`, and by `Kind` at another kind of value than the field takes, at a pair without a suffix, and at
+/// any other value with one. `Unheld` is no fault: where no value has one and one is `Unheld`, the answer is `Outcome::Memory` with `Held::Unheld`, as it is where memory runs out in the operation. Each refusal holds `Held::Refused`.
 /// Where there is no memory for the name that a refusal shows, the answer is `Outcome::Memory` with `Held::Refused`, which is the answer in
 /// no other case.
 pub fn answer<R: Wait>(
@@ -128,9 +143,8 @@ pub fn answer<R: Wait>(
     requires fits { All (Fits (graph_of (bench_of desk.now))) given.now }
     ensures answered { IsAnswerOf result (run op.now (map sense given.now)) }
     ensures fits { Fits (graph_of (bench_of desk.now)) result.1 }
-    // A refusal comes before any work.
-    ensures unchanged { (r : Refused) → run op.now (map sense given.now) ≡ refused r
-        → history (pass_in (bench_pass_in pass.new)) ≡ history (pass_in (bench_pass_in pass.old)) }
+    // A refusal comes before any work, and what work found to have no product is thrown away.
+    ensures unchanged { result.1 ≡ Held.Refused → history (pass_in (bench_pass_in pass.new)) ≡ history (pass_in (bench_pass_in pass.old)) }
     ensures grown { IsPrefix (history (pass_in (bench_pass_in pass.old))) (history (pass_in (bench_pass_in pass.new))) }
     ensures pass_stays { IsDeskPassOf desk.now pass.new }
 {

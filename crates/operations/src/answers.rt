@@ -1,46 +1,9 @@
 //! What operations come to.
-use exp_tree::{CheckedExp, FlatExp, NodeCause, RootCause};
-use job_words::{FormedFormula, FormedVar, FormedVars, Steps, Utf8Text};
-use lk_rules::{Formulas, Side};
+use exp_tree::{CheckedExp, FlatExp};
+use job_words::{FormedFormula, Steps};
+use operation_laws::{Failure, Refusal};
 use proof_graph::ProofRef;
-use reply_lines::{RefutationShown, StepShown};
 use tptp_problem::Problem;
-
-/// Why an operation is refused before any work.
-#[derive(Drop)]
-pub enum Refusal {
-    /// No earlier job has the name that is written in a field.
-    UnknownName(Utf8Text),
-    /// The job that is named in a field holds another kind of value.
-    Kind(Utf8Text),
-    /// The proof has no step.
-    Empty,
-    /// The first faulty step of a proof, counted from 0, and its first fault.
-    Step { step: u64, cause: StepShown },
-}
-
-/// Why an operation has no product, where that was found by work.
-#[derive(Drop)]
-pub enum Failure {
-    /// After as much work as the budget allows there is more to do.
-    Budget,
-    /// The first faulty step of a refutation, counted from 0, and its fault.
-    Refutation { step: u64, cause: RefutationShown },
-    /// The first formula of a sequent that has a quantifier, the left side before the right one.
-    Quantified { formula: FormedFormula, side: Side },
-    /// The sequent is false where just these atoms are true.
-    Falsified(Formulas),
-    /// The first faulty node of a flat list, counted from 0, and its first fault.
-    Node { node: u64, cause: NodeCause },
-    /// The first faulty root of a flat list, and its first fault. Left roots are counted before right ones, from 0.
-    Root { root: u64, cause: RootCause },
-    /// The least variable of two strong quantifiers of expansion trees.
-    EigenTwice(FormedVar),
-    /// The least variable of a strong quantifier of expansion trees that is free in one of their formulas.
-    EigenFree(FormedVar),
-    /// Variables of strong quantifiers each of which has to be there before the next, and the last before the first.
-    Cycle(FormedVars),
-}
 
 /// What an operation makes.
 #[derive(Drop)]
@@ -66,6 +29,12 @@ pub enum Made {
     Expansion(CheckedExp),
     /// The trees of an expansion proof as a flat list.
     Nodes(FlatExp),
+    /// An interpolant, with the proof of the first part and that of the second.
+    Interpolant {
+        formula: FormedFormula,
+        first: ProofRef,
+        second: ProofRef,
+    },
 }
 
 /// Why a field is given nothing that the operation could take.

@@ -1,15 +1,17 @@
 //! What is replied to a job and what the job holds, by what its operation came to.
-ghost use Rattle.std.specs.Prelude.{◌≡◌, IfOk};
+ghost use Rattle.std.specs.Prelude.{◌≡◌, true, IfOk};
 ghost use Rattle.proof_graph.specs.declared.graph.Graph.{Graph as GraphMeaning};
 ghost use Rattle.proof_graph.specs.Graphs.{IsOf};
 ghost use Rattle.exp_tree.specs.Reads.{expansion_of};
 ghost use Rattle.tptp_problem.specs.ProblemClauses.{IsReadProblem};
-ghost use Rattle.operations.specs.Answers.{Answer, product, proof as proof_made, reduced as reduced_made, problem as problem_made, expansion as expansion_made, summary_of, exp_summary_of, shown_refusal as refusal_shown, shown_failure as failure_shown};
-ghost use Rattle.operations.specs.Means.{Fits, FitsMade, made_of, Comes, IsAnswerOf};
+ghost use Rattle.operation_laws.specs.Answers.{Answer, product, proof as proof_made, reduced as reduced_made, problem as problem_made, expansion as expansion_made, interpolant as interpolant_made, summary_of, exp_summary_of, shown_refusal as refusal_shown, shown_failure as failure_shown};
+ghost use Rattle.operations.specs.Means.{Fits, FitsMade, made_of, Comes, is_refusal, IsAnswerOf};
 
-use crate::answers::{Failure, Made, Ran, Refusal};
+use crate::answers::{Made, Ran};
 use crate::held::Held;
 use exp_tree::{CheckedExp, count_instances, shallow_sequent, strong_vars};
+use job_words::FormedFormula;
+use operation_laws::{Failure, Refusal};
 use proof_graph::{Graph, ProofRef};
 use proof_steps::{cuts, quants};
 use reply_lines::{ExpSummary, Outcome, Summary};
@@ -40,6 +42,9 @@ fn shown_failure(failure: Failure) -> Outcome
         Failure::EigenTwice(var) => Outcome::EigenTwice(var),
         Failure::EigenFree(var) => Outcome::EigenFree(var),
         Failure::Cycle(vars) => Outcome::Cycle(vars),
+        Failure::Cut(step) => Outcome::Cut(step),
+        Failure::Defined { formula, side } => Outcome::Defined { formula, side },
+        Failure::Partition { formula, side } => Outcome::Partition { formula, side },
     }
 }
 
@@ -58,6 +63,7 @@ fn hold_proof(graph: &Graph, alloc: Global, proof: ProofRef) -> (Outcome, Held)
     requires { IsOf graph.now proof }
     ensures answered { IsAnswerOf result (product (proof_made proof.tree)) }
     ensures fits { Fits graph.now result.1 }
+    ensures refused { result.1 ≡ Held.Refused → ⊥ }
 {
     match summary(graph, alloc, &proof) {
         Ok(summary) => (Outcome::Proof(summary), Held::Proof(proof)),
@@ -69,6 +75,7 @@ fn hold_reduced(graph: &Graph, alloc: Global, proof: ProofRef, reductions: u64) 
     requires { IsOf graph.now proof }
     ensures answered { IsAnswerOf result (product (reduced_made proof.tree reductions)) }
     ensures fits { Fits graph.now result.1 }
+    ensures refused { result.1 ≡ Held.Refused → ⊥ }
 {
     match summary(graph, alloc, &proof) {
         Ok(summary) => (Outcome::Reduced(summary, reductions), Held::Proof(proof)),
@@ -80,6 +87,7 @@ fn hold_problem(problem: Problem) -> (Outcome, Held)
     requires { IsReadProblem problem }
     ensures answered { IsAnswerOf result (product (problem_made problem)) }
     ensures fits { (g : GraphMeaning) → Fits g result.1 }
+    ensures refused { result.1 ≡ Held.Refused → ⊥ }
 {
     let entries = problem.entries.as_slice().len() as u64;
     match problem.sequent.copy() {
@@ -110,9 +118,53 @@ fn exp_summary(alloc: Global, checked: &CheckedExp) -> Result<ExpSummary, AllocE
 fn hold_expansion(alloc: Global, checked: CheckedExp) -> (Outcome, Held)
     ensures answered { IsAnswerOf result (product (expansion_made (expansion_of checked))) }
     ensures fits { (g : GraphMeaning) → Fits g result.1 }
+    ensures refused { result.1 ≡ Held.Refused → ⊥ }
 {
     match exp_summary(alloc, &checked) {
         Ok(summary) => (Outcome::Expansion(summary), Held::Expansion(checked)),
+        Err(_) => (Outcome::Memory, Held::Unheld),
+    }
+}
+
+// Two proofs in short.
+fn summaries(
+    graph: &Graph,
+    alloc: Global,
+    first: &ProofRef,
+    second: &ProofRef,
+) -> Result<(Summary, Summary), AllocError>
+    requires first { IsOf graph.now first.now }
+    requires second { IsOf graph.now second.now }
+    ensures first { IfOk result (λ s. s.0 ≡ summary_of first.now.tree) }
+    ensures second { IfOk result (λ s. s.1 ≡ summary_of second.now.tree) }
+{
+    let first = summary(graph, alloc, first)?;
+    let second = summary(graph, alloc, second)?;
+    Ok((first, second))
+}
+
+fn hold_interpolant(
+    graph: &Graph,
+    alloc: Global,
+    formula: FormedFormula,
+    first: ProofRef,
+    second: ProofRef,
+) -> (Outcome, Held)
+    requires first { IsOf graph.now first }
+    requires second { IsOf graph.now second }
+    ensures answered { IsAnswerOf result (product (interpolant_made formula first.tree second.tree)) }
+    ensures fits { Fits graph.now result.1 }
+    ensures refused { result.1 ≡ Held.Refused → ⊥ }
+{
+    match summaries(graph, alloc, &first, &second) {
+        Ok((first_summary, second_summary)) => (
+            Outcome::Interpolant {
+                first: first_summary,
+                formula,
+                second: second_summary,
+            },
+            Held::Pair(first, second),
+        ),
         Err(_) => (Outcome::Memory, Held::Unheld),
     }
 }
@@ -122,6 +174,7 @@ fn hold(graph: &Graph, alloc: Global, made: Made) -> (Outcome, Held)
     requires { FitsMade graph.now made }
     ensures answered { IsAnswerOf result (product (made_of made)) }
     ensures fits { Fits graph.now result.1 }
+    ensures refused { result.1 ≡ Held.Refused → ⊥ }
 {
     match made {
         Made::Proof(proof) => hold_proof(graph, alloc, proof),
@@ -145,6 +198,11 @@ fn hold(graph: &Graph, alloc: Global, made: Made) -> (Outcome, Held)
         ),
         Made::Expansion(checked) => hold_expansion(alloc, checked),
         Made::Nodes(flat) => (Outcome::Nodes(flat), Held::Nothing),
+        Made::Interpolant {
+            formula,
+            first,
+            second,
+        } => hold_interpolant(graph, alloc, formula, first, second),
     }
 }
 
@@ -153,6 +211,7 @@ pub fn conclude(graph: &Graph, alloc: Global, ran: Ran) -> (Outcome, Held)
     requires { (wanted : Answer) × Comes graph.now ran wanted }
     ensures answered { (wanted : Answer) → Comes graph.now ran wanted → IsAnswerOf result wanted }
     ensures fits { Fits graph.now result.1 }
+    ensures refused { result.1 ≡ Held.Refused → is_refusal ran ≡ true }
 {
     match ran {
         Ran::Refused(refusal) => (shown_refusal(refusal), Held::Refused),

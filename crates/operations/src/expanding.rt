@@ -7,14 +7,15 @@ ghost use Rattle.expansion_laws.specs.Dependency.{Expansion, strongs_of};
 ghost use Rattle.exp_tree.specs.Reads.{expansion_of, StandsRightly};
 ghost use Rattle.exp_tree.specs.FlatReading.{reading};
 ghost use Rattle.exp_check.specs.Checking.{checking, Checks};
-ghost use Rattle.operations.specs.Running.{checked, reads};
+ghost use Rattle.operation_laws.specs.Running.{checked, reads};
 ghost use Rattle.operations.specs.Means.{HasFormedVars, Comes};
 
-use crate::answers::{Failure, Made, Ran};
+use crate::answers::{Made, Ran};
 use exp_check::{ExpFault, check_proof};
 use exp_tree::{ExpSequent, FlatExp, NodesFault, laws, read_nodes};
 use fol::Var;
 use job_words::{FormedVar, FormedVars};
+use operation_laws::Failure;
 use std::alloc::{AllocError, Global};
 
 // The strong quantifiers of trees have well-formed variables.

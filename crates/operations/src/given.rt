@@ -1,17 +1,19 @@
 //! What the names of jobs in an operation are given.
-ghost use Rattle.std.specs.Prelude.{◌≡◌, ◌<◌, IfOk, is_some, length, map, option_map, slice_get};
+ghost use Rattle.std.specs.Prelude.{◌≡◌, ◌<◌, IfOk, IfSome, is_some, length, map, option_map, slice_get};
 ghost use Rattle.std.specs.List.{All};
 ghost use Rattle.proof_graph.specs.declared.graph.Graph.{Graph};
-ghost use Rattle.operations.specs.declared.answers.Refusal.TheVariants.{UnknownName, Kind as OtherKind};
-ghost use Rattle.operations.specs.Given.{names_in, without as without_suffix, pair_name as pair_of, base_name as base_of, proof_given as proof_found, problem_given as problem_found, shown_given as shown_found, first_of, second_of};
+ghost use Rattle.proof_graph.specs.Graphs.{IsOf};
+ghost use Rattle.operation_laws.specs.declared.refusals.Refusal.TheVariants.{UnknownName, Kind as OtherKind};
+ghost use Rattle.operation_laws.specs.Given.{names_in, without as without_suffix, first_name, second_name, pair_name as pair_of, base_name as base_of, one_of as one_named, proof_given as proof_found, problem_given as problem_found, shown_given as shown_found, first_of, second_of};
 ghost use Rattle.operations.specs.Means.{sense, Fits, FitsShown, Finds, shown_as, IsAbsent};
-ghost use Rattle.operations.specs.declared.held.Held.TheVariants.{Proof as ProofHeld, Problem as ProblemHeld};
+ghost use Rattle.operations.specs.declared.held.Held.TheVariants.{Problem as ProblemHeld};
 
-use crate::answers::{Absent, Refusal};
+use crate::answers::Absent;
 use crate::held::Held;
 use exp_tree::CheckedExp;
 use job_lang::Op;
 use job_words::Utf8Text;
+use operation_laws::Refusal;
 use proof_graph::ProofRef;
 use std::alloc::{AllocError, Global};
 use tptp_problem::Problem;
@@ -31,6 +33,7 @@ pub fn name_at(op: &Op, place: usize) -> Option<&str>
         | Op::Measure { proof: text }
         | Op::Subst { proof: text, .. }
         | Op::Cutelim { proof: text, .. }
+        | Op::Interpolate { proof: text, .. }
         | Op::Resolution { problem: text, .. } => match place {
             0 => Some(text.as_str()),
             _ => None,
@@ -70,6 +73,20 @@ fn is_of_pair(text: &Utf8Text) -> bool
     pair_name(text.as_str()).is_some()
 }
 
+// Whether a name stands for the first proof of a pair.
+fn is_first(text: &Utf8Text) -> bool
+    ensures { result ≡ is_some (first_name text.now) }
+{
+    without(text.as_str(), ".first").is_some()
+}
+
+// Whether a name stands for the second proof of a pair.
+fn is_second(text: &Utf8Text) -> bool
+    ensures { result ≡ is_some (second_name text.now) }
+{
+    without(text.as_str(), ".second").is_some()
+}
+
 fn text_copy(alloc: Global, text: &Utf8Text) -> Result<Utf8Text, AllocError>
     ensures { IfOk result (λ copy. copy ≡ text.now) }
 {
@@ -96,13 +113,27 @@ fn other_kind(alloc: Global, text: &Utf8Text) -> Absent
     }
 }
 
+// The proof of a pair that a name stands for.
+fn one_of<'h>(text: &Utf8Text, first: &'h ProofRef, second: &'h ProofRef) -> Option<&'h ProofRef>
+    ensures fits { IfSome result (λ r. (g : Graph) → IsOf g first.now → IsOf g second.now → IsOf g r.now) }
+    ensures value { option_map (λ r. r.now.tree) result ≡ one_named text.now first.now.tree second.now.tree }
+{
+    if is_first(text) {
+        return Some(first);
+    }
+    if is_second(text) {
+        return Some(second);
+    }
+    None
+}
+
 /// The proof that a field with this text is given, or why there is none.
 pub fn proof_given<'h>(
     alloc: Global,
     text: &Utf8Text,
     value: &'h Held,
 ) -> Result<&'h ProofRef, Absent>
-    ensures value { IfOk result (λ r. value.now ≡ ProofHeld r.now) }
+    ensures fits { IfOk result (λ r. (g : Graph) → Fits g value.now → IsOf g r.now) }
     ensures found { Finds (λ r. r.now.tree) result (proof_found text.now (sense value.now)) }
 {
     match value {
@@ -114,6 +145,10 @@ pub fn proof_given<'h>(
             }
             Ok(proof)
         }
+        Held::Pair(first, second) => match one_of(text, first, second) {
+            Some(proof) => Ok(proof),
+            None => Err(other_kind(alloc, text)),
+        },
         Held::Nothing | Held::Refused | Held::Problem(_) | Held::Expansion(_) => {
             Err(other_kind(alloc, text))
         }
@@ -138,15 +173,14 @@ pub fn problem_given<'h>(
             }
             Ok(problem)
         }
-        Held::Nothing | Held::Refused | Held::Proof(_) | Held::Expansion(_) => {
-            Err(other_kind(alloc, text))
-        }
+        Held::Nothing | Held::Refused | Held::Proof(_) | Held::Pair(_, _) | Held::Expansion(_) =>
+            Err(other_kind(alloc, text)),
     }
 }
 
 /// What can be shown.
 pub enum ToShow<'h> {
-    /// A proof.
+    /// A proof, which may be one of a pair.
     Proof(&'h ProofRef),
     /// Expansion trees that are an expansion proof of the sequent of their formulas.
     Expansion(&'h CheckedExp),
@@ -170,6 +204,10 @@ pub fn shown_given<'h>(
             }
             Ok(ToShow::Proof(proof))
         }
+        Held::Pair(first, second) => match one_of(text, first, second) {
+            Some(proof) => Ok(ToShow::Proof(proof)),
+            None => Err(other_kind(alloc, text)),
+        },
         Held::Expansion(trees) => {
             if is_of_pair(text) {
                 return Err(other_kind(alloc, text));

@@ -18,6 +18,8 @@ pub enum Held {
     Unknown,
     /// A proof, by its reference in the graph that the session's proofs share.
     Proof(ProofRef),
+    /// The two proofs of an interpolant, by their references in that graph: that of the first part, and that of the second.
+    Pair(ProofRef, ProofRef),
     /// A problem.
     Problem(Problem),
     /// Expansion trees that are an expansion proof of the sequent of their formulas.
@@ -28,6 +30,10 @@ impl Drop for Held {
     fn drop(self) {
         match self {
             Held::Proof(proof) => drop(proof),
+            Held::Pair(first, second) => {
+                drop(first);
+                drop(second);
+            }
             Held::Problem(problem) => drop(problem),
             Held::Expansion(trees) => drop(trees),
             Held::Nothing | Held::Refused | Held::Unheld | Held::Unknown => {}
@@ -36,7 +42,7 @@ impl Drop for Held {
 }
 
 impl Held {
-    /// The same value, whose proof, problem or trees are shared.
+    /// The same value, whose proofs, problem or trees are shared.
     pub fn copy(&self, alloc: Global) -> Result<Held, AllocError>
         ensures { IfOk result (λ copy. copy ≡ self.now) }
     {
@@ -46,6 +52,7 @@ impl Held {
             Held::Unheld => Ok(Held::Unheld),
             Held::Unknown => Ok(Held::Unknown),
             Held::Proof(proof) => Ok(Held::Proof(proof.keep()?)),
+            Held::Pair(first, second) => Ok(Held::Pair(first.keep()?, second.keep()?)),
             Held::Problem(problem) => Ok(Held::Problem(problem.copy()?)),
             Held::Expansion(trees) => Ok(Held::Expansion(trees.copy(alloc)?)),
         }

@@ -7,7 +7,7 @@ mod concluding;
 mod expanding;
 mod given;
 mod held;
-pub mod laws;
+mod interpolating;
 mod proofs;
 mod readings;
 mod refuting;

@@ -1,22 +1,21 @@
 //! What operations come to that make proofs of steps or of other proofs.
-ghost use Rattle.std.specs.Prelude.{◌≡◌, ◌<◌, [], ◌∷◌};
+ghost use Rattle.std.specs.Prelude.{◌≡◌, ◌<◌, [], ◌∷◌, true};
 ghost use Rattle.std.specs.FinMap as fin;
 ghost use Rattle.std.specs.List.{All};
 ghost use mathlib.Core.List.{IsPrefix};
 ghost use Rattle.substitution.specs.Image.{IsFormedMap};
 ghost use Rattle.lk_rules.specs.Rules.{IsFormedRule};
 ghost use Rattle.proof_trees.specs.Substitution.{sub};
-ghost use Rattle.elimination_laws.specs.Elimination.{elimination};
+ghost use Rattle.cut_laws.specs.Elimination.{elimination};
 ghost use Rattle.lk_check.specs.Admission.{admission};
 ghost use Rattle.proof_graph.specs.Graphs.{IsOf, history};
 ghost use Rattle.proof_subst.specs.Benches.{graph_of, pass_in, IsBenchPassOf};
 ghost use Rattle.cut_elim.specs.Desks.{bench_of, pass_in as bench_pass_in, IsDeskPassOf};
-ghost use Rattle.operations.specs.declared.answers.Refusal.{Refusal as Refused};
-ghost use Rattle.operations.specs.Answers.{refused, product, proof as proof_made};
-ghost use Rattle.operations.specs.Running.{step_shown as shown_step, admits, eliminates, run};
-ghost use Rattle.operations.specs.Means.{sense, Fits, Comes};
+ghost use Rattle.operation_laws.specs.Answers.{product, proof as proof_made};
+ghost use Rattle.operation_laws.specs.Running.{step_shown as shown_step, admits, eliminates, run};
+ghost use Rattle.operations.specs.Means.{sense, Fits, Comes, is_refusal};
 
-use crate::answers::{Failure, Made, Ran, Refusal};
+use crate::answers::{Made, Ran};
 use crate::given::proof_given;
 use crate::held::Held;
 use cut_contract::Steps as Contractions;
@@ -25,6 +24,7 @@ use job_lang::Op;
 use job_words::Utf8Text;
 use lk_check::{AdmitFault, StepCause, admit};
 use lk_rules::Step;
+use operation_laws::{Failure, Refusal};
 use proof_graph::ProofRef;
 use proof_subst::{Bench, BenchPass, substitute};
 use reply_lines::StepShown;
@@ -54,7 +54,7 @@ pub fn admit_steps<R: Wait>(
     requires pass { IsBenchPassOf bench.now pass.old }
     requires formed { All (λ s. IsFormedRule s.rule) list.now }
     ensures ran { Comes (graph_of bench.now) result (admits (admission list.now)) }
-    ensures unchanged { (r : Refused) → admits (admission list.now) ≡ refused r → history (pass_in pass.new) ≡ history (pass_in pass.old) }
+    ensures unchanged { is_refusal result ≡ true → history (pass_in pass.new) ≡ history (pass_in pass.old) }
     ensures grown { IsPrefix (history (pass_in pass.old)) (history (pass_in pass.new)) }
     ensures pass_stays { IsBenchPassOf bench.now pass.new }
 {
@@ -83,6 +83,7 @@ fn substituted<R: Wait>(
     requires of { IsOf (graph_of bench.now) proof.now }
     requires map { IsFormedMap (fin.get map.now) }
     ensures ran { Comes (graph_of bench.now) result (product (proof_made (sub proof.now.tree map.now))) }
+    ensures unchanged { is_refusal result ≡ true → history (pass_in pass.new) ≡ history (pass_in pass.old) }
     ensures grown { IsPrefix (history (pass_in pass.old)) (history (pass_in pass.new)) }
     ensures pass_stays { IsBenchPassOf bench.now pass.new }
 {
@@ -107,8 +108,7 @@ pub fn substitute_in<R: Wait>(
     requires fits { Fits (graph_of bench.now) value.now }
     requires map { IsFormedMap (fin.get map.now) }
     ensures ran { Comes (graph_of bench.now) result (run (Op.Subst of.now map.now) (sense value.now ∷ [])) }
-    ensures unchanged { (r : Refused) → run (Op.Subst of.now map.now) (sense value.now ∷ []) ≡ refused r
-        → history (pass_in pass.new) ≡ history (pass_in pass.old) }
+    ensures unchanged { is_refusal result ≡ true → history (pass_in pass.new) ≡ history (pass_in pass.old) }
     ensures grown { IsPrefix (history (pass_in pass.old)) (history (pass_in pass.new)) }
     ensures pass_stays { IsBenchPassOf bench.now pass.new }
 {
@@ -135,6 +135,7 @@ fn eliminate_counted<R: Wait, L: Ledger>(
     requires parts { ledger.parts ≡ L.parts }
     requires one_part { 0 < ledger.parts }
     ensures ran { Comes (graph_of (bench_of desk.now)) result (eliminates (elimination proof.now.tree budget)) }
+    ensures unchanged { is_refusal result ≡ true → history (pass_in (bench_pass_in pass.new)) ≡ history (pass_in (bench_pass_in pass.old)) }
     ensures grown { IsPrefix (history (pass_in (bench_pass_in pass.old))) (history (pass_in (bench_pass_in pass.new))) }
     ensures pass_stays { IsDeskPassOf desk.now pass.new }
 {
@@ -160,8 +161,7 @@ pub fn eliminate_in<R: Wait>(
     requires pass { IsDeskPassOf desk.now pass.old }
     requires fits { Fits (graph_of (bench_of desk.now)) value.now }
     ensures ran { Comes (graph_of (bench_of desk.now)) result (run (Op.Cutelim of.now budget) (sense value.now ∷ [])) }
-    ensures unchanged { (r : Refused) → run (Op.Cutelim of.now budget) (sense value.now ∷ []) ≡ refused r
-        → history (pass_in (bench_pass_in pass.new)) ≡ history (pass_in (bench_pass_in pass.old)) }
+    ensures unchanged { is_refusal result ≡ true → history (pass_in (bench_pass_in pass.new)) ≡ history (pass_in (bench_pass_in pass.old)) }
     ensures grown { IsPrefix (history (pass_in (bench_pass_in pass.old))) (history (pass_in (bench_pass_in pass.new))) }
     ensures pass_stays { IsDeskPassOf desk.now pass.new }
 {

@@ -5,9 +5,9 @@ ghost use Rattle.exp_tree.specs.Writing.{flat_of};
 ghost use Rattle.proof_steps.specs.Places.{steps_of};
 ghost use Rattle.proof_graph.specs.declared.graph.Graph.{Graph as GraphMeaning};
 ghost use Rattle.proof_graph.specs.Graphs.{IsOf};
-ghost use Rattle.operations.specs.Answers.{lacking, product, steps as steps_made, nodes as nodes_made};
-ghost use Rattle.operations.specs.Given.{problem_given as problem_found};
-ghost use Rattle.operations.specs.Running.{over, sizes_of, compares, run};
+ghost use Rattle.operation_laws.specs.Answers.{lacking, product, steps as steps_made, nodes as nodes_made};
+ghost use Rattle.operation_laws.specs.Given.{problem_given as problem_found};
+ghost use Rattle.operation_laws.specs.Running.{over, sizes_of, compares, run};
 ghost use Rattle.operations.specs.Means.{sense, Fits, made_of, Comes};
 
 use crate::answers::{Absent, Made, Ran};

@@ -1,5 +1,5 @@
 //! What the import of a refutation comes to.
-ghost use Rattle.std.specs.Prelude.{◌≡◌, [], ◌∷◌};
+ghost use Rattle.std.specs.Prelude.{◌≡◌, [], ◌∷◌, true};
 ghost use Rattle.std.specs.List.{All, list_all};
 ghost use mathlib.Core.List.{IsPrefix};
 ghost use Rattle.refutations.specs.Clauses.{IsClauseOf};
@@ -7,16 +7,15 @@ ghost use Rattle.refutations.specs.Refutations.{refutation, AreFormedSteps};
 ghost use Rattle.tptp_problem.specs.ProblemClauses.{IsReadProblem};
 ghost use Rattle.proof_graph.specs.Graphs.{history};
 ghost use Rattle.proof_subst.specs.Benches.{graph_of, pass_in, IsBenchPassOf};
-ghost use Rattle.operations.specs.declared.answers.Refusal.{Refusal as Refused};
-ghost use Rattle.operations.specs.Answers.{refused};
-ghost use Rattle.operations.specs.Running.{has_closure, refutation_shown as shown_refutation, refuted, refutes, run};
-ghost use Rattle.operations.specs.Means.{sense, Fits, Comes};
+ghost use Rattle.operation_laws.specs.Running.{has_closure, refutation_shown as shown_refutation, refuted, refutes, run};
+ghost use Rattle.operations.specs.Means.{sense, Fits, Comes, is_refusal};
 
-use crate::answers::{Failure, Made, Ran};
+use crate::answers::{Made, Ran};
 use crate::given::problem_given;
 use crate::held::Held;
 use job_lang::Op;
 use job_words::Utf8Text;
+use operation_laws::Failure;
 use proof_subst::{Bench, BenchPass};
 use refutations::{Clause, ResCause, ResStep};
 use reply_lines::RefutationShown;
@@ -56,6 +55,7 @@ fn import_in<R: Wait>(
     requires clauses { All IsClauseOf clauses.now }
     requires steps { AreFormedSteps steps.now }
     ensures ran { Comes (graph_of bench.now) result (refuted (refutation clauses.now steps.now)) }
+    ensures unchanged { is_refusal result ≡ true → history (pass_in pass.new) ≡ history (pass_in pass.old) }
     ensures grown { IsPrefix (history (pass_in pass.old)) (history (pass_in pass.new)) }
     ensures pass_stays { IsBenchPassOf bench.now pass.new }
 {
@@ -83,6 +83,7 @@ fn import_problem<R: Wait>(
     requires problem { IsReadProblem problem.now }
     requires steps { AreFormedSteps steps.now }
     ensures ran { Comes (graph_of bench.now) result (refutes steps.now problem.now) }
+    ensures unchanged { is_refusal result ≡ true → history (pass_in pass.new) ≡ history (pass_in pass.old) }
     ensures grown { IsPrefix (history (pass_in pass.old)) (history (pass_in pass.new)) }
     ensures pass_stays { IsBenchPassOf bench.now pass.new }
 {
@@ -110,8 +111,7 @@ pub fn refute<R: Wait>(
     requires fits { Fits (graph_of bench.now) value.now }
     requires steps { AreFormedSteps steps.now }
     ensures ran { Comes (graph_of bench.now) result (run (Op.Resolution of.now steps.now) (sense value.now ∷ [])) }
-    ensures unchanged { (r : Refused) → run (Op.Resolution of.now steps.now) (sense value.now ∷ []) ≡ refused r
-        → history (pass_in pass.new) ≡ history (pass_in pass.old) }
+    ensures unchanged { is_refusal result ≡ true → history (pass_in pass.new) ≡ history (pass_in pass.old) }
     ensures grown { IsPrefix (history (pass_in pass.old)) (history (pass_in pass.new)) }
     ensures pass_stays { IsBenchPassOf bench.now pass.new }
 {

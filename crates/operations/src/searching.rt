@@ -1,5 +1,5 @@
 //! What the search for the proof of a sequent comes to.
-ghost use Rattle.std.specs.Prelude.{◌≡◌, find, option_copied, option_map, IfSome};
+ghost use Rattle.std.specs.Prelude.{◌≡◌, find, option_copied, option_map, IfSome, true};
 ghost use Rattle.std.specs.List.{All};
 ghost use mathlib.Core.List.{IsPrefix};
 ghost use Rattle.fol.specs.Formed.{IsFormed};
@@ -9,16 +9,16 @@ ghost use Rattle.proof_subst.specs.Benches.{graph_of, pass_in, IsBenchPassOf};
 ghost use Rattle.search_laws.specs.Truth.{has_quantifier as is_quantified, IsPropositional};
 ghost use Rattle.search_laws.specs.Search.{walk};
 ghost use Rattle.prop_search.specs.Deciding.{found};
-ghost use Rattle.operations.specs.declared.answers.Refusal.{Refusal as Refused};
-ghost use Rattle.operations.specs.declared.answers.Failure.TheVariants.{Quantified};
-ghost use Rattle.operations.specs.Answers.{refused, failed};
-ghost use Rattle.operations.specs.Running.{quantified_in as quantified_of, searched, searches};
-ghost use Rattle.operations.specs.Means.{Comes};
+ghost use Rattle.operation_laws.specs.declared.refusals.Failure.TheVariants.{Quantified};
+ghost use Rattle.operation_laws.specs.Answers.{failed};
+ghost use Rattle.operation_laws.specs.Running.{quantified_in as quantified_of, searched, searches};
+ghost use Rattle.operations.specs.Means.{Comes, is_refusal};
 
-use crate::answers::{Failure, Made, Ran};
+use crate::answers::{Made, Ran};
 use fol::Formula;
 use job_words::FormedFormula;
 use lk_rules::{Sequent, Side};
+use operation_laws::Failure;
 use proof_subst::{Bench, BenchPass};
 use prop_search::{SearchFault, has_quantifier, search};
 use std::alloc::Global;
@@ -79,6 +79,7 @@ fn search_for<R: Wait>(
     requires pass { IsBenchPassOf bench.now pass.old }
     requires propositional { IsPropositional sequent.now }
     ensures ran { Comes (graph_of bench.now) result (searched (found budget (walk sequent.now))) }
+    ensures unchanged { is_refusal result ≡ true → history (pass_in pass.new) ≡ history (pass_in pass.old) }
     ensures grown { IsPrefix (history (pass_in pass.old)) (history (pass_in pass.new)) }
     ensures pass_stays { IsBenchPassOf bench.now pass.new }
 {
@@ -92,7 +93,7 @@ fn search_for<R: Wait>(
 }
 
 /// The proof of a sequent without quantifiers that a search finds, within a budget of sequents that it visits.
-#[tactic(auto, using(crate::proofs::Searched::quantified_comes, crate::proofs::Searched::searches_comes, crate::proofs::Searched::never_refused))]
+#[tactic(auto, using(crate::proofs::Searched::quantified_comes, crate::proofs::Searched::searches_comes))]
 pub fn prove_sequent<R: Wait>(
     rt: &R,
     alloc: Global,
@@ -103,8 +104,7 @@ pub fn prove_sequent<R: Wait>(
 ) -> Ran
     requires pass { IsBenchPassOf bench.now pass.old }
     ensures ran { Comes (graph_of bench.now) result (searches (quantified_of sequent.now) sequent.now budget) }
-    ensures unchanged { (r : Refused) → searches (quantified_of sequent.now) sequent.now budget ≡ refused r
-        → history (pass_in pass.new) ≡ history (pass_in pass.old) }
+    ensures unchanged { is_refusal result ≡ true → history (pass_in pass.new) ≡ history (pass_in pass.old) }
     ensures grown { IsPrefix (history (pass_in pass.old)) (history (pass_in pass.new)) }
     ensures pass_stays { IsBenchPassOf bench.now pass.new }
 {

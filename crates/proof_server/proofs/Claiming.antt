@@ -12,11 +12,11 @@ use Rattle.job_lang.specs.declared.jobs.Op.{Op}
 use Rattle.job_lang.specs.Jobs.{reads_job}
 use Rattle.job_lang.specs.FormedOps.{IsFormedOp}
 use Rattle.reply_lines.specs.Replies.{is_ok_outcome}
-use Rattle.operations.specs.Values.{Value, IsSound}
-use Rattle.operations.specs.Answers.{Product, Answer, refused, failed, lacking, product, shown, shown_product, held, proofs_in}
-use Rattle.operations.specs.Given.{or_else, base_name, names_in}
-use Rattle.operations.specs.Running.{run}
-use Rattle.operations.specs.Claims.{Claims}
+use Rattle.operation_laws.specs.Values.{Value, IsSound}
+use Rattle.operation_laws.specs.Answers.{Product, Answer, refused, failed, lacking, product, shown, shown_product, held, proofs_in}
+use Rattle.operation_laws.specs.Given.{or_else, base_name, names_in}
+use Rattle.operation_laws.specs.Running.{run}
+use Rattle.operation_laws.specs.Claims.{Claims}
 use Rattle.proof_server.specs.Jobs.{Past, is_too_long}
 use Rattle.proof_server.specs.Answers.{too_long, unread, name_taken, Run, faulty, answered, Lookup, values_for, name_of, is_taken, run_read, run_line, outcome_in, value_in, named_value, held_of}
 use Rattle.proof_server.specs.Claimed.{IsClaimed, AreClaimed, HoldsSound}

@@ -7,8 +7,8 @@ use Rattle.reply_lines.specs.Replies.{line_of}
 use Rattle.reply_lines.specs.OneLine.{IsOneLine, is_want, reports_want}
 use Rattle.edge_io.specs.Lines.{is_newline, OneLine, AreLines}
 use Rattle.edge_io.proofs.LinesLemmas.{lines_nil, lines_more, whole_lines_at}
-use Rattle.operations.specs.Answers.{Answer, shown, with_lack}
-use Rattle.operations.specs.Answers as answers
+use Rattle.operation_laws.specs.Answers.{Answer, shown, with_lack}
+use Rattle.operation_laws.specs.Answers as answers
 use Rattle.proof_server.specs.Jobs.{Past, in_order}
 use Rattle.proof_server.specs.Answers.{too_long, unread, name_taken, Run, faulty, answered, run_line, held_of, outcome_in, may_lack, IsLawful}
 use Rattle.proof_server.specs.Replying.{reply_of, reply_line}

@@ -8,8 +8,8 @@ use Rattle.std.proofs.lemmas.Map.Text.{is_eq-slice_cmp}
 use Rattle.std.proofs.lemmas.Slice.Eq.{bytes_eq-Decides}
 use Rattle.fol.specs.Order.{text_cmp}
 use Rattle.proof_graph.specs.declared.graph.Graph.{Graph}
-use Rattle.operations.specs.Values.{Value}
-use Rattle.operations.specs.Given.{or_else}
+use Rattle.operation_laws.specs.Values.{Value}
+use Rattle.operation_laws.specs.Given.{or_else}
 use Rattle.operations.specs.Means.{sense, Fits}
 use Rattle.operations.specs.declared.held.Held.{Held}
 use Rattle.proof_server.specs.Jobs.{Past}

@@ -2,8 +2,8 @@
 use Rattle.std.proofs.Common.{◌≡◌, ℕ, ◌<◌, false, List, ◌∷◌, length, refl, sym, ap, ◌∙◌, subst}
 use Rattle.std.specs.Prelude.{Option, Some, None, option_map}
 use Rattle.reply_lines.specs.declared.replies.Outcome.TheVariants.{LineTooLong}
-use Rattle.operations.specs.Values.{Value}
-use Rattle.operations.specs.Given.{or_else}
+use Rattle.operation_laws.specs.Values.{Value}
+use Rattle.operation_laws.specs.Given.{or_else}
 use Rattle.proof_server.specs.Jobs.{Past, max_line}
 use Rattle.proof_server.specs.Answers.{Run, name_of, named_value, run_line, held_of, may_lack, outcome_in, value_in}
 use Rattle.proof_server.specs.Means.{IsStore}

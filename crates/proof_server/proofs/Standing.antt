@@ -6,8 +6,8 @@ use Rattle.std.specs.List.{All}
 use Rattle.std.proofs.lemmas.List.Elements.{All-map}
 use Rattle.proof_graph.specs.declared.graph.Graph.{Graph}
 use Rattle.job_lang.specs.declared.jobs.Op.{Op}
-use Rattle.operations.specs.Values.{Value}
-use Rattle.operations.specs.Given.{base_name, names_in}
+use Rattle.operation_laws.specs.Values.{Value}
+use Rattle.operation_laws.specs.Given.{base_name, names_in}
 use Rattle.operations.specs.Means.{sense, Fits}
 use Rattle.operations.specs.declared.held.Held.{Held}
 use Rattle.operations.specs.declared.held.Held.TheVariants.{Unknown}

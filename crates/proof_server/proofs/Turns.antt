@@ -6,7 +6,7 @@ use Rattle.std.proofs.lemmas.Bool.Decides.{nat_tests}
 use Rattle.proof_server.specs.Jobs.{Past, IsKept, max_line, in_order, is_job, jobs}
 use Rattle.proof_server.specs.Replying.{reply_line, is_ok_reply}
 use Rattle.proof_server.specs.Session.{out, all_ok, IsPartOfReply, IsPartOfNext}
-use Rattle.operations.specs.Answers.{refused, failed, lacking, product}
+use Rattle.operation_laws.specs.Answers.{refused, failed, lacking, product}
 use Rattle.proof_server.specs.Answers.{Run, faulty, answered as answered_by, IsLawful, may_lack, run_line, held_of}
 use Rattle.proof_server.specs.Means.{IsStore}
 use Rattle.proof_server.specs.Shown.{job_of}

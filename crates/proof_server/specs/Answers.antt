@@ -12,11 +12,11 @@ use Rattle.job_words.specs.declared.causes.JobCause.{JobCause}
 use Rattle.job_lang.specs.Jobs.{reads_job}
 use Rattle.reply_lines.specs.declared.replies.Outcome.{Outcome}
 use Rattle.reply_lines.specs.declared.replies.Outcome.TheVariants as outcomes
-use Rattle.operations.specs.Values.{Value, refused}
-use Rattle.operations.specs.Answers.{Answer, shown, held, with_lack}
-use Rattle.operations.specs.Answers as answers
-use Rattle.operations.specs.Given.{or_else, base_name, names_in}
-use Rattle.operations.specs.Running.{run}
+use Rattle.operation_laws.specs.Values.{Value, refused}
+use Rattle.operation_laws.specs.Answers.{Answer, shown, held, with_lack}
+use Rattle.operation_laws.specs.Answers as answers
+use Rattle.operation_laws.specs.Given.{or_else, base_name, names_in}
+use Rattle.operation_laws.specs.Running.{run}
 use Rattle.proof_server.specs.Jobs.{Past, is_too_long}
 
 -- The line is too long, or isn't a job, or an earlier line has the job's name.

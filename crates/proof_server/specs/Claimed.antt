@@ -7,9 +7,9 @@ use Rattle.proof_trees.specs.Trees.{IsValid}
 use Rattle.job_lang.specs.declared.jobs.Op.{Op}
 use Rattle.job_lang.specs.Jobs.{reads_job}
 use Rattle.reply_lines.specs.Replies.{is_ok_outcome}
-use Rattle.operations.specs.Values.{Value, IsSound}
-use Rattle.operations.specs.Answers.{Product, product, proofs_in, shown_product}
-use Rattle.operations.specs.Claims.{Claims}
+use Rattle.operation_laws.specs.Values.{Value, IsSound}
+use Rattle.operation_laws.specs.Answers.{Product, product, proofs_in, shown_product}
+use Rattle.operation_laws.specs.Claims.{Claims}
 use Rattle.proof_server.specs.Jobs.{Past}
 use Rattle.proof_server.specs.Answers.{Lookup, values_for, answered, run_line, held_of, outcome_of}
 

@@ -8,7 +8,7 @@ ghost use Rattle.proof_server.specs.Replying.{reply_line};
 ghost use Rattle.proof_server.specs.Session.{out, flags_of, memory_flags, IsPartOfNext, Replies};
 
 use job_lang::laws::formed_readings;
-use operations::laws::{claims, replies as answers_shown};
+use operation_laws::laws::{claims, replies as answers_shown};
 use reply_lines::laws::lines;
 
 /// Each value that a name stands for is sound: a proof is valid, and a problem is such as is read. What each job makes is what its

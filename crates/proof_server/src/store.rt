@@ -2,9 +2,9 @@
 ghost use Rattle.std.specs.Prelude.{◌≡◌, [], List, IfOk, map};
 ghost use Rattle.proof_graph.specs.declared.graph.Graph.{Graph};
 ghost use Rattle.job_lang.specs.FormedOps.{IsFormedOp};
-ghost use Rattle.operations.specs.Answers.{Answer};
-ghost use Rattle.operations.specs.Given.{names_in, base_name as base_of};
-ghost use Rattle.operations.specs.Running.{run as run_of};
+ghost use Rattle.operation_laws.specs.Answers.{Answer};
+ghost use Rattle.operation_laws.specs.Given.{names_in, base_name as base_of};
+ghost use Rattle.operation_laws.specs.Running.{run as run_of};
 ghost use Rattle.operations.specs.Means.{Fits, IsAnswerOf};
 ghost use Rattle.proof_server.specs.Jobs.{Past};
 ghost use Rattle.proof_server.specs.Answers.{JobFault, faulty, answered, shown_fault, values_for, held_of};

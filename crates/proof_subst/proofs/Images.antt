@@ -15,7 +15,7 @@ use Rattle.proof_trees.proofs.Substituted.{concl-sub, sub_valid}
 use Rattle.arena_cells.specs.Items.{Item, tree}
 use Rattle.arena_cells.specs.Standing.{Extends, IsDistinct, HasTree, tree_at}
 use Rattle.arena_cells.proofs.Staying.{is_tree}
-use Rattle.arena_graph.specs.FormedEnds.{IsFormedSequent, HasFormedEnd}
+use Rattle.proof_trees.specs.Conclusions.{IsFormedSequent, HasFormedEnd}
 use Rattle.arena_graph.proofs.FormedImages.{formed_image_sequent}
 
 -- the tree stands at n before, and the image at i

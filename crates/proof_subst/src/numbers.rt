@@ -4,7 +4,7 @@ ghost use mathlib.Core.List.{IsPrefix};
 ghost use Rattle.proof_trees.specs.Trees.{IsValid};
 ghost use Rattle.proof_graph.specs.Graphs.{IsOf, history};
 ghost use Rattle.arena_cells.specs.Standing.{HasTree, tree_at, IsTreeAt};
-ghost use Rattle.arena_graph.specs.FormedEnds.{HasFormedEnd};
+ghost use Rattle.proof_trees.specs.Conclusions.{HasFormedEnd};
 ghost use Rattle.proof_subst.specs.Benches.{graph_of, pass_in, arena_in, IsBenchPassOf};
 
 use crate::bench::{Bench, BenchPass};

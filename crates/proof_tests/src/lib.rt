@@ -5,6 +5,8 @@
 #[cfg(test)]
 mod contractions;
 #[cfg(test)]
+mod definitions;
+#[cfg(test)]
 mod inferences;
 #[cfg(test)]
 mod messages;

@@ -59,7 +59,8 @@ fn formula_text(letter: char) -> &'static str {
     }
 }
 
-fn formula(alloc: Global, text: &str) -> Result<Formula, Fail>
+/// The formula of a short text.
+pub fn formula(alloc: Global, text: &str) -> Result<Formula, Fail>
     ensures { IfOk result IsFormed }
 {
     if text.len() > LONGEST {

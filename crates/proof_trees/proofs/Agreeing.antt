@@ -17,7 +17,7 @@ use Rattle.substitution.proofs.Booleans.{and_both}
 use Rattle.substitution.proofs.ImageLaws.{agree, agree_term, image-empty, image-empty_term, same_var}
 use Rattle.lk_rules.specs.declared.sequent.Sequent.{Sequent}
 use Rattle.lk_rules.specs.declared.rule.Rule.{Rule}
-use Rattle.lk_rules.specs.declared.rule.Rule.TheVariants.{Ax, TopR, BotL, NegL, NegR, AndL, AndR, OrL, OrR, ImpL, ImpR, AllL, AllR, ExL, ExR, Cut, Weak}
+use Rattle.lk_rules.specs.declared.rule.Rule.TheVariants.{Ax, TopR, BotL, NegL, NegR, AndL, AndR, OrL, OrR, ImpL, ImpR, AllL, AllR, ExL, ExR, DefL, DefR, Cut, Weak}
 use Rattle.lk_rules.specs.Formulas.{FormulaSet, image_set}
 use Rattle.lk_rules.specs.Sequents.{is_free_in_sequent, image_sequent}
 use Rattle.lk_rules.specs.Rules.{eigen_free}
@@ -70,6 +70,8 @@ module _ (m n : Map) (e : Sequent) where
   agree_rule (AllR a y) same = λ i. AllR (agree_named a (λ v. false) same i) (renamed y e)
   agree_rule (ExL a y) same = λ i. ExL (agree_named a (λ v. false) same i) (renamed y e)
   agree_rule (ExR a t) same = λ i. ExR (agree_named a (λ v. is_free_in_term v t) same i) (agree_chosen a t same i)
+  agree_rule (DefL a) same = ap DefL (agree_named a (λ v. false) same)
+  agree_rule (DefR a) same = ap DefR (agree_named a (λ v. false) same)
   agree_rule (Cut a) same = ap Cut (agree_named a (λ v. false) same)
   agree_rule Weak same = refl
 
@@ -175,6 +177,8 @@ module _ (m : Map) (s : Sequent) where
   kept_rule (AllR a y) out same = λ i. AllR (kept_named a (λ v. false) same i) (kept_eigenvariable y s out i)
   kept_rule (ExL a y) out same = λ i. ExL (kept_named a (λ v. false) same i) (kept_eigenvariable y s out i)
   kept_rule (ExR a t) out same = λ i. ExR (kept_named a (λ v. is_free_in_term v t) same i) (kept_chosen a t same i)
+  kept_rule (DefL a) out same = ap DefL (kept_named a (λ v. false) same)
+  kept_rule (DefR a) out same = ap DefR (kept_named a (λ v. false) same)
   kept_rule (Cut a) out same = ap Cut (kept_named a (λ v. false) same)
   kept_rule Weak out same = refl
 

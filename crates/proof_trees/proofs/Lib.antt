@@ -8,3 +8,5 @@ pub mod Substituted
 pub mod Verdicts
 pub mod Agreeing
 pub mod Shapes
+pub mod FormedConclusions
+pub mod WithoutBodies

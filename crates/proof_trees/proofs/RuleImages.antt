@@ -1,10 +1,10 @@
 -- The parts of a rule under a map: premises, shape, main and auxiliary formulas, eigenvariable.
-use Rattle.std.proofs.Common.{◌≡◌, ℕ, zero, suc, Bool, true, false, ◌||◌, if◌then◌else◌, List, [], ◌∷◌, map, unwrap_or, refl, sym, ap, ◌∙◌}
+use Rattle.std.proofs.Common.{◌≡◌, ℕ, zero, suc, Bool, true, false, ◌||◌, if◌then◌else◌, List, [], ◌∷◌, map, Option, Some, None, option_map, option_to_list, unwrap_or, is_some, refl, sym, ap, ◌∙◌}
 use Rattle.std.specs.FinMap as fin
 use Rattle.std.specs.List.{list_any}
 use Rattle.fol.specs.declared.symbols.Var.{Var}
-use Rattle.fol.specs.Syntax.{Term, free, Formula, not, and, or, imp, all, ex}
-use Rattle.fol.specs.Formed.{is_formed, is_formed_var, IsFormedVar}
+use Rattle.fol.specs.Syntax.{Term, free, pred, undefined, defined, Formula, atom, not, and, or, imp, all, ex}
+use Rattle.fol.specs.Formed.{is_formed, IsFormed, is_formed_var, IsFormedVar}
 use Rattle.finite.specs.Finite as set
 use Rattle.finite.proofs.Finite.{has-listing}
 use Rattle.free_variables.specs.Occurrence.{is_free_in}
@@ -14,14 +14,16 @@ use Rattle.substitution.specs.Closed.{IsClosedMap}
 use Rattle.substitution.specs.Image.{image, image_term, IsFormedMap}
 use Rattle.substitution.specs.Instance.{inst}
 use Rattle.substitution.specs.Maps.{Map}
+use Rattle.substitution.specs.Unfolding.{unf}
 use Rattle.substitution.proofs.Booleans.{and_left, and_right, and_both}
 use Rattle.substitution.proofs.ImageFormed.{formed-image, formed-image_term}
 use Rattle.substitution.proofs.ImageLaws.{image-inst_at, own_binding, away, formed_insert, closed_insert}
+use Rattle.substitution.proofs.Unfoldings.{unf-image}
 use Rattle.lk_rules.specs.declared.sequent.Sequent.{Sequent}
 use Rattle.lk_rules.specs.declared.sequent.Side.{Side}
 use Rattle.lk_rules.specs.declared.sequent.Side.TheVariants.{Left, Right}
 use Rattle.lk_rules.specs.declared.rule.Rule.{Rule}
-use Rattle.lk_rules.specs.declared.rule.Rule.TheVariants.{Ax, TopR, BotL, NegL, NegR, AndL, AndR, OrL, OrR, ImpL, ImpR, AllL, AllR, ExL, ExR, Cut, Weak}
+use Rattle.lk_rules.specs.declared.rule.Rule.TheVariants.{Ax, TopR, BotL, NegL, NegR, AndL, AndR, OrL, OrR, ImpL, ImpR, AllL, AllR, ExL, ExR, DefL, DefR, Cut, Weak}
 use Rattle.lk_rules.specs.Sequents.{is_free_in_sequent, vars_sequent, image_sequent}
 use Rattle.lk_rules.specs.Rules.{IsFormedRule, needs, has_shape, main, aux, eigen_free}
 use Rattle.lk_rules.proofs.SequentVariables.{sequent_var_members}
@@ -30,6 +32,12 @@ use Rattle.proof_trees.specs.Substitution.{renamed, image_rule, premise_map}
 pub needs-image : (m : Map) (r : Rule) (e : Sequent) → needs (image_rule m r e) ≡ needs r
 needs-image m (Ax a) e = refl
 needs-image m r e = refl
+
+-- an image has an unfolding exactly where the atom has one
+unfolds-image : (m : Map) (a : Formula) → is_some (unf (image (fin.get m) a)) ≡ is_some (unf a)
+unfolds-image m (atom (pred s undefined) ts) = refl
+unfolds-image m (atom (pred s (defined b)) ts) = refl
+unfolds-image m a = refl
 
 pub shape-image : (m : Map) (r : Rule) (e : Sequent) → has_shape (image_rule m r e) ≡ has_shape r
 shape-image m (NegL (not a)) e = refl
@@ -44,6 +52,8 @@ shape-image m (AllL (all b) t) e = refl
 shape-image m (AllR (all b) y) e = refl
 shape-image m (ExL (ex b) y) e = refl
 shape-image m (ExR (ex b) t) e = refl
+shape-image m (DefL a) e = unfolds-image m a
+shape-image m (DefR a) e = unfolds-image m a
 shape-image m r e = refl
 
 pub main-image : (m : Map) (r : Rule) (e : Sequent) (side : Side) → main (image_rule m r e) side ≡ map (image (fin.get m)) (main r side)
@@ -93,6 +103,8 @@ formed_rule-image m (AllL a t) e f h = and_both _ _ (formed-image (fin.get m) a 
 formed_rule-image m (AllR a y) e f h = and_both _ _ (formed-image (fin.get m) a 0 f (and_left _ _ h)) (renamed_formed y e (and_right (is_formed a) _ h))
 formed_rule-image m (ExL a y) e f h = and_both _ _ (formed-image (fin.get m) a 0 f (and_left _ _ h)) (renamed_formed y e (and_right (is_formed a) _ h))
 formed_rule-image m (ExR a t) e f h = and_both _ _ (formed-image (fin.get m) a 0 f (and_left _ _ h)) (formed-image_term (fin.get m) t 0 f (and_right (is_formed a) _ h))
+formed_rule-image m (DefL a) e f h = formed-image (fin.get m) a 0 f h
+formed_rule-image m (DefR a) e f h = formed-image (fin.get m) a 0 f h
 formed_rule-image m (Cut a) e f h = formed-image (fin.get m) a 0 f h
 formed_rule-image m Weak e f h = refl
 
@@ -120,27 +132,36 @@ renamed_instance m closed b y z out =
     let variable : image_term (fin.get n) (free y) ≡ free z = ap (λ o. unwrap_or o (free y)) (own_binding m y (free z)) in
     ap (λ f. f ∷ []) (sym (image-inst_at (fin.get n) (closed_insert m y (free z) closed refl) (free y) b 0 ∙ λ i. inst (body i) (variable i)))
 
-pub aux-image : (m : Map) (r : Rule) (e : Sequent) (i : ℕ) (side : Side) → IsClosedMap (fin.get m) → is_eigen_in_main r ≡ false
+images_of_none_or_one : (f : Formula → Formula) (o : Option Formula) → option_to_list (option_map f o) ≡ map f (option_to_list o)
+images_of_none_or_one f None = refl
+images_of_none_or_one f (Some g) = refl
+
+unfolding-image : (m : Map) (a : Formula) → IsFormed a → option_to_list (unf (image (fin.get m) a)) ≡ map (image (fin.get m)) (option_to_list (unf a))
+unfolding-image m a h = ap option_to_list (unf-image (fin.get m) a 0 h) ∙ images_of_none_or_one (image (fin.get m)) (unf a)
+
+pub aux-image : (m : Map) (r : Rule) (e : Sequent) (i : ℕ) (side : Side) → IsClosedMap (fin.get m) → IsFormedRule r → is_eigen_in_main r ≡ false
     → aux (image_rule m r e) i side ≡ map (image (fin.get (premise_map m r e))) (aux r i side)
-aux-image m (NegL (not a)) e zero Right c out = refl
-aux-image m (NegR (not a)) e zero Left c out = refl
-aux-image m (AndL (and a b)) e zero Left c out = refl
-aux-image m (AndR (and a b)) e zero Right c out = refl
-aux-image m (AndR (and a b)) e (suc zero) Right c out = refl
-aux-image m (OrL (or a b)) e zero Left c out = refl
-aux-image m (OrL (or a b)) e (suc zero) Left c out = refl
-aux-image m (OrR (or a b)) e zero Right c out = refl
-aux-image m (ImpL (imp a b)) e zero Right c out = refl
-aux-image m (ImpL (imp a b)) e (suc zero) Left c out = refl
-aux-image m (ImpR (imp a b)) e zero Left c out = refl
-aux-image m (ImpR (imp a b)) e zero Right c out = refl
-aux-image m (AllL (all b) t) e zero Left c out = instance-image m c b t
-aux-image m (AllR (all b) y) e zero Right c out = renamed_instance m c b y (renamed y e) out
-aux-image m (ExL (ex b) y) e zero Left c out = renamed_instance m c b y (renamed y e) out
-aux-image m (ExR (ex b) t) e zero Right c out = instance-image m c b t
-aux-image m (Cut a) e zero Right c out = refl
-aux-image m (Cut a) e (suc zero) Left c out = refl
-aux-image m r e i side c out = refl
+aux-image m (NegL (not a)) e zero Right c h out = refl
+aux-image m (NegR (not a)) e zero Left c h out = refl
+aux-image m (AndL (and a b)) e zero Left c h out = refl
+aux-image m (AndR (and a b)) e zero Right c h out = refl
+aux-image m (AndR (and a b)) e (suc zero) Right c h out = refl
+aux-image m (OrL (or a b)) e zero Left c h out = refl
+aux-image m (OrL (or a b)) e (suc zero) Left c h out = refl
+aux-image m (OrR (or a b)) e zero Right c h out = refl
+aux-image m (ImpL (imp a b)) e zero Right c h out = refl
+aux-image m (ImpL (imp a b)) e (suc zero) Left c h out = refl
+aux-image m (ImpR (imp a b)) e zero Left c h out = refl
+aux-image m (ImpR (imp a b)) e zero Right c h out = refl
+aux-image m (AllL (all b) t) e zero Left c h out = instance-image m c b t
+aux-image m (AllR (all b) y) e zero Right c h out = renamed_instance m c b y (renamed y e) out
+aux-image m (ExL (ex b) y) e zero Left c h out = renamed_instance m c b y (renamed y e) out
+aux-image m (ExR (ex b) t) e zero Right c h out = instance-image m c b t
+aux-image m (DefL a) e zero Left c h out = unfolding-image m a h
+aux-image m (DefR a) e zero Right c h out = unfolding-image m a h
+aux-image m (Cut a) e zero Right c h out = refl
+aux-image m (Cut a) e (suc zero) Left c h out = refl
+aux-image m r e i side c h out = refl
 
 -- a conclusion in which the eigenvariable isn't free has one image under both maps
 

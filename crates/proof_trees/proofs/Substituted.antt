@@ -35,7 +35,7 @@ inference-image : (m : Map) (r : Rule) (s : Sequent) (ts : Trees) → IsFormedMa
 inference-image m r s ts formed h =
     let e : Sequent = image_sequent (fin.get m) s in
     let n : Map = premise_map m r e in
-    let row = row-image m r s (count ts) (first_end ts) (second_end ts) (closed_map_of (fin.get m) formed) (row_of_verdict r s (count ts) (first_end ts) (second_end ts) h.right) in
+    let row = row-image m r s (count ts) (first_end ts) (second_end ts) (closed_map_of (fin.get m) formed) h.formed (row_of_verdict r s (count ts) (first_end ts) (second_end ts) h.right) in
     record {
       right =
           (λ i. verdict_of (image_rule m r e) e (count-sub ts n i) (first_end-sub ts n i) (second_end-sub ts n i))

@@ -1,5 +1,6 @@
 pub mod Trees
 pub mod Shapes
+pub mod Conclusions
 pub mod Occurrence
 pub mod FreeVariables
 pub mod Substitution

@@ -13,7 +13,7 @@ use Rattle.substitution.specs.Image.{image, image_term}
 use Rattle.substitution.specs.Maps.{Map}
 use Rattle.lk_rules.specs.declared.sequent.Sequent.{Sequent}
 use Rattle.lk_rules.specs.declared.rule.Rule.{Rule}
-use Rattle.lk_rules.specs.declared.rule.Rule.TheVariants.{Ax, TopR, BotL, NegL, NegR, AndL, AndR, OrL, OrR, ImpL, ImpR, AllL, AllR, ExL, ExR, Cut, Weak}
+use Rattle.lk_rules.specs.declared.rule.Rule.TheVariants.{Ax, TopR, BotL, NegL, NegR, AndL, AndR, OrL, OrR, ImpL, ImpR, AllL, AllR, ExL, ExR, DefL, DefR, Cut, Weak}
 use Rattle.lk_rules.specs.Sequents.{is_free_in_sequent, vars_sequent, image_sequent}
 use Rattle.proof_trees.specs.Trees.{Tree, node, Trees, none, more}
 
@@ -38,6 +38,8 @@ image_rule m (AllL a t) e = AllL (image (fin.get m) a) (image_term (fin.get m) t
 image_rule m (AllR a y) e = AllR (image (fin.get m) a) (renamed y e)
 image_rule m (ExL a y) e = ExL (image (fin.get m) a) (renamed y e)
 image_rule m (ExR a t) e = ExR (image (fin.get m) a) (image_term (fin.get m) t)
+image_rule m (DefL a) e = DefL (image (fin.get m) a)
+image_rule m (DefR a) e = DefR (image (fin.get m) a)
 image_rule m (Cut a) e = Cut (image (fin.get m) a)
 image_rule m Weak e = Weak
 

@@ -12,12 +12,13 @@ ghost use Rattle.lk_rules.specs.declared.sequent.Side.{Side as Place};
 ghost use Rattle.lk_rules.specs.declared.rule.Rule.{Rule as Inference};
 ghost use Rattle.lk_rules.specs.declared.sequent.Sequent.{Sequent as Conclusion};
 ghost use Rattle.lk_rules.specs.Sequents.{side_of, is_free_in_sequent, image_sequent, IsSubsequent};
-ghost use Rattle.lk_rules.specs.Rules.{IsFormedRule, needs, has_shape, main, aux, eigen_free, verdict_of, Row};
-ghost use Rattle.proof_trees.specs.Trees.{Tree as Proof, concl, IsValid, is_cut, cut_free as is_cut_free, size as size_of, cuts as cuts_of, quants as quants_of, ArePremises, IsSmaller};
+ghost use Rattle.lk_rules.specs.Rules.{IsFormedRule, is_unfolding_rule, needs, has_shape, main, aux, eigen_free, verdict_of, Row};
+ghost use Rattle.proof_trees.specs.Trees.{Tree as Proof, concl, IsValid, IsCutFree, is_cut, cut_free as is_cut_free, size as size_of, cuts as cuts_of, quants as quants_of, ArePremises, IsSmaller};
 ghost use Rattle.proof_trees.specs.Shapes.{height, is_alike};
 ghost use Rattle.proof_trees.specs.FreeVariables.{is_free_in_tree};
 ghost use Rattle.proof_trees.specs.Substitution.{image_rule, premise_map, sub};
-ghost use Rattle.proof_trees.specs.Occurrence.{is_chosen, is_free_in_rule, is_pred_in_rule, is_pred_in_sequent};
+ghost use Rattle.proof_trees.specs.Occurrence.{is_chosen, is_free_in_rule, is_pred_in_rule, is_pred_in_sequent, has_body_in_sequent, IsPlainNode};
+ghost use Rattle.proof_trees.specs.Conclusions.{EachNode, IsFormedSequent, HasFormedEnd};
 
 /// A right inference stays right with a larger conclusion, if its eigenvariable isn't free there.
 pub fn larger_conclusion()
@@ -37,25 +38,35 @@ pub fn faultless_inferences()
 /// What is free in a premise is free in the conclusion or in what the rule names. Without a cut it is free in the conclusion, stands in
 /// the rule's term or is the eigenvariable.
 pub fn free_in_premises()
-    ensures any_rule { (v : Variable) (r : Inference) (s : Conclusion) (n : ℕ) (first second : Option Conclusion) → Row r s n first second → ArePremises first second (λ x. is_free_in_sequent v x ≡ true → (is_free_in_sequent v s || is_free_in_rule v r) ≡ true) }
-    ensures without_cut { (v : Variable) (r : Inference) (s : Conclusion) (n : ℕ) (first second : Option Conclusion) → Row r s n first second → is_cut r ≡ false → ArePremises first second (λ x. is_free_in_sequent v x ≡ true → (is_free_in_sequent v s || is_chosen v r) ≡ true) }
+    ensures any_rule { (v : Variable) (r : Inference) (s : Conclusion) (n : ℕ) (first second : Option Conclusion) → IsFormedRule r → Row r s n first second → ArePremises first second (λ x. is_free_in_sequent v x ≡ true → (is_free_in_sequent v s || is_free_in_rule v r) ≡ true) }
+    ensures without_cut { (v : Variable) (r : Inference) (s : Conclusion) (n : ℕ) (first second : Option Conclusion) → IsFormedRule r → Row r s n first second → is_cut r ≡ false → ArePremises first second (λ x. is_free_in_sequent v x ≡ true → (is_free_in_sequent v s || is_chosen v r) ≡ true) }
 {}
 
-/// A predicate symbol of a premise is one of the conclusion or of the rule's formula, and without a cut one of the conclusion.
+/// A predicate symbol of a premise is one of the conclusion or of the rule's formula, and without a cut one of the conclusion, if the
+/// rule unfolds no atom. One with a body is there wherever the rule isn't a cut, whatever it unfolds.
 pub fn predicates_in_premises()
-    ensures any_rule { (q : Pred) (r : Inference) (s : Conclusion) (n : ℕ) (first second : Option Conclusion) → Row r s n first second → ArePremises first second (λ x. is_pred_in_sequent q x ≡ true → (is_pred_in_sequent q s || is_pred_in_rule q r) ≡ true) }
-    ensures without_cut { (q : Pred) (r : Inference) (s : Conclusion) (n : ℕ) (first second : Option Conclusion) → Row r s n first second → is_cut r ≡ false → ArePremises first second (λ x. is_pred_in_sequent q x ≡ true → is_pred_in_sequent q s ≡ true) }
+    ensures any_rule { (q : Pred) (r : Inference) (s : Conclusion) (n : ℕ) (first second : Option Conclusion) → is_unfolding_rule r ≡ false → Row r s n first second → ArePremises first second (λ x. is_pred_in_sequent q x ≡ true → (is_pred_in_sequent q s || is_pred_in_rule q r) ≡ true) }
+    ensures without_cut { (q : Pred) (r : Inference) (s : Conclusion) (n : ℕ) (first second : Option Conclusion) → is_unfolding_rule r ≡ false → Row r s n first second → is_cut r ≡ false → ArePremises first second (λ x. is_pred_in_sequent q x ≡ true → is_pred_in_sequent q s ≡ true) }
+    ensures bodies { (r : Inference) (s : Conclusion) (n : ℕ) (first second : Option Conclusion) → Row r s n first second → is_cut r ≡ false → ArePremises first second (λ x. has_body_in_sequent x ≡ true → has_body_in_sequent s ≡ true) }
+    ensures unfolded { (r : Inference) (s : Conclusion) (n : ℕ) (first second : Option Conclusion) → Row r s n first second → is_cut r ≡ false → is_unfolding_rule r ≡ true → has_body_in_sequent s ≡ true }
+{}
+
+/// In a valid tree whose end sequent is well formed all conclusions are. In a valid tree without cuts whose end sequent has no predicate
+/// symbol with a body no conclusion has one, and no rule unfolds an atom.
+pub fn conclusions_in_trees()
+    ensures formed { (t : Proof) → IsValid t → HasFormedEnd t → EachNode (λ r s. IsFormedSequent s) t }
+    ensures without_bodies { (t : Proof) → IsValid t → IsCutFree t → has_body_in_sequent (concl t) ≡ false → EachNode IsPlainNode t }
 {}
 
 /// The image of a right inference under a map is right, by the rule under the map, with the premises under the map in which the
 /// eigenvariable has its new name. Its parts: as many premises, the same connective, main formulas and auxiliary formulas that are the
 /// images of the old ones, and a new eigenvariable that isn't free in the new conclusion.
 pub fn image_of_inference()
-    ensures row { (m : Map) (r : Inference) (s : Conclusion) (n : ℕ) (first second : Option Conclusion) → IsClosedMap (fin.get m) → Row r s n first second → let e = image_sequent (fin.get m) s in let g = fin.get (premise_map m r e) in Row (image_rule m r e) e n (option_map (image_sequent g) first) (option_map (image_sequent g) second) }
+    ensures row { (m : Map) (r : Inference) (s : Conclusion) (n : ℕ) (first second : Option Conclusion) → IsClosedMap (fin.get m) → IsFormedRule r → Row r s n first second → let e = image_sequent (fin.get m) s in let g = fin.get (premise_map m r e) in Row (image_rule m r e) e n (option_map (image_sequent g) first) (option_map (image_sequent g) second) }
     ensures premises { (m : Map) (r : Inference) (e : Conclusion) → needs (image_rule m r e) ≡ needs r }
     ensures shape { (m : Map) (r : Inference) (e : Conclusion) → has_shape (image_rule m r e) ≡ has_shape r }
     ensures main_formulas { (m : Map) (r : Inference) (e : Conclusion) (side : Place) → main (image_rule m r e) side ≡ map (image (fin.get m)) (main r side) }
-    ensures auxiliary_formulas { (m : Map) (r : Inference) (s e : Conclusion) (i : ℕ) (side : Place) → IsClosedMap (fin.get m) → ((p : Place) → All (λ f. set.has (side_of s p) f ≡ true) (main r p)) → eigen_free r s ≡ false → aux (image_rule m r e) i side ≡ map (image (fin.get (premise_map m r e))) (aux r i side) }
+    ensures auxiliary_formulas { (m : Map) (r : Inference) (s e : Conclusion) (i : ℕ) (side : Place) → IsClosedMap (fin.get m) → IsFormedRule r → ((p : Place) → All (λ f. set.has (side_of s p) f ≡ true) (main r p)) → eigen_free r s ≡ false → aux (image_rule m r e) i side ≡ map (image (fin.get (premise_map m r e))) (aux r i side) }
     ensures eigenvariable { (m : Map) (r : Inference) (e : Conclusion) → eigen_free (image_rule m r e) e ≡ false }
     ensures formed { (m : Map) (r : Inference) (e : Conclusion) → IsFormedMap (fin.get m) → IsFormedRule r → IsFormedRule (image_rule m r e) × IsFormedMap (fin.get (premise_map m r e)) }
 {}

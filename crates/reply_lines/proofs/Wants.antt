@@ -24,6 +24,7 @@ text_tells (outcomes.Steps list) name n = refl
 text_tells (outcomes.Measure cuts nodes quants size) name n = refl
 text_tells (outcomes.Expansion summary) name n = refl
 text_tells (outcomes.Nodes flat) name n = refl
+text_tells (outcomes.Interpolant first f second) name n = refl
 text_tells outcomes.LineTooLong name n = refl
 text_tells (outcomes.Reading causes.Json) name n = refl
 text_tells (outcomes.Reading (causes.Field field)) name n = refl
@@ -48,6 +49,9 @@ text_tells (outcomes.Root i cause) name n = refl
 text_tells (outcomes.EigenTwice var) name n = refl
 text_tells (outcomes.EigenFree var) name n = refl
 text_tells (outcomes.Cycle vars) name n = refl
+text_tells (outcomes.Cut step) name n = refl
+text_tells (outcomes.Defined f side) name n = refl
+text_tells (outcomes.Partition f side) name n = refl
 text_tells outcomes.Budget name n = refl
 text_tells outcomes.Memory name n = refl
 

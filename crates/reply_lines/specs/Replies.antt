@@ -34,7 +34,7 @@ use Rattle.reply_lines.specs.declared.replies.StepShown.TheVariants.{Reference, 
 use Rattle.reply_lines.specs.declared.replies.RefutationShown.{RefutationShown}
 use Rattle.reply_lines.specs.declared.replies.RefutationShown.TheVariants as refutations
 use Rattle.reply_lines.specs.declared.replies.Outcome.{Outcome}
-use Rattle.reply_lines.specs.declared.replies.Outcome.TheVariants.{Proof, Reduced, Entries, Proves, Steps, Measure, Expansion, Nodes, LineTooLong, Reading, NameTaken, UnknownName, Kind, Empty, Step as Faulty, Refutation, Quantified, Falsified, Node, Root, EigenTwice, EigenFree, Cycle, Budget, Memory}
+use Rattle.reply_lines.specs.declared.replies.Outcome.TheVariants.{Proof, Reduced, Entries, Proves, Steps, Measure, Expansion, Nodes, Interpolant, LineTooLong, Reading, NameTaken, UnknownName, Kind, Empty, Step as Faulty, Refutation, Quantified, Falsified, Node, Root, EigenTwice, EigenFree, Cycle, Cut, Defined, Partition, Budget, Memory}
 use Rattle.reply_lines.specs.declared.replies.Reply.{Reply}
 use Rattle.job_words.specs.RuleKinds.{kind_of, kind_name}
 use Rattle.job_words.specs.declared.node_kinds.NodeKind.{NodeKind}
@@ -165,6 +165,11 @@ abbrev pub nodes_data : FlatExp → Data
 nodes_data flat = object (member (codes "left") (numbers_data flat.left) (member (codes "nodes") (node_list flat.nodes)
     (member (codes "right") (numbers_data flat.right) no_members)))
 
+-- an interpolant, and in short the proof of the first part with it on the right and that of the second part with it on the left
+abbrev pub interpolant_data : Summary → Formula → Summary → Data
+interpolant_data first f second = object (member (codes "first") (summary_data first) (member (codes "formula") (string (canonical f))
+    (member (codes "second") (summary_data second) no_members)))
+
 -- an error that says no more than its kind
 abbrev pub plain : List ℕ → Data
 plain kind = object (member (codes "kind") (string kind) no_members)
@@ -245,10 +250,14 @@ abbrev pub side_name : Side → List ℕ
 side_name Left = codes "left"
 side_name Right = codes "right"
 
--- a formula of a sequent that may not stand there
-abbrev pub quantified_data : Formula → Side → Data
-quantified_data f side = object (member (codes "formula") (string (canonical f)) (member (codes "kind") (string (codes "quantified"))
+-- a formula of a sequent that may not stand there, and its side
+abbrev pub side_fault : List ℕ → Formula → Side → Data
+side_fault kind f side = object (member (codes "formula") (string (canonical f)) (member (codes "kind") (string kind)
     (member (codes "side") (string (side_name side)) no_members)))
+
+-- the first cut of a proof, by the number of its step
+abbrev pub cut_data : ℕ → Data
+cut_data step = object (member (codes "kind") (string (codes "cut")) (member (codes "step") (count_data step) no_members))
 
 -- the atoms that are true where a sequent is false
 abbrev pub falsified_data : FormulaSet → Data
@@ -302,6 +311,7 @@ answer_data (Steps steps) = Ok (steps_data steps)
 answer_data (Measure cuts nodes quants size) = Ok (measure_data cuts nodes quants size)
 answer_data (Expansion summary) = Ok (expansion_data summary)
 answer_data (Nodes flat) = Ok (nodes_data flat)
+answer_data (Interpolant first f second) = Ok (interpolant_data first f second)
 answer_data LineTooLong = Err (plain (codes "line_too_long"))
 answer_data (Reading cause) = Err (reading_data cause)
 answer_data NameTaken = Err (plain (codes "name_taken"))
@@ -310,13 +320,16 @@ answer_data (Kind name) = Err (named (codes "kind") name)
 answer_data Empty = Err (plain (codes "empty"))
 answer_data (Faulty step cause) = Err (step_data step cause)
 answer_data (Refutation step cause) = Err (refutation_data step cause)
-answer_data (Quantified f side) = Err (quantified_data f side)
+answer_data (Quantified f side) = Err (side_fault (codes "quantified") f side)
 answer_data (Falsified atoms) = Err (falsified_data atoms)
 answer_data (Node node cause) = Err (place_fault (node_cause cause) (codes "node") node)
 answer_data (Root root cause) = Err (place_fault (root_cause cause) (codes "root") root)
 answer_data (EigenTwice var) = Err (variable_fault (codes "eigen_twice") var)
 answer_data (EigenFree var) = Err (variable_fault (codes "eigen_free") var)
 answer_data (Cycle vars) = Err (cycle_data vars)
+answer_data (Cut step) = Err (cut_data step)
+answer_data (Defined f side) = Err (side_fault (codes "defined") f side)
+answer_data (Partition f side) = Err (side_fault (codes "partition") f side)
 answer_data Budget = Err (plain (codes "budget"))
 answer_data Memory = Err (plain (codes "memory"))
 

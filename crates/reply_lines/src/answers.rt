@@ -1,17 +1,19 @@
 //! What came of a job: the object of an Ok reply, or that of an error.
 ghost use Rattle.std.specs.Prelude.{◌≡◌, [], ◌∷◌};
-ghost use Rattle.reply_lines.specs.Replies.{summary_data, reduced_data, entries_data, proves_data, measure_data, named as named_data, plain as plain_data, field_data, text_kind as kind_text, problem_kind as problem_kind_text, formula_data, tptp_data, reading_data, premise_fault as premise_fault_data, step_data, refutation_cause as refutation_cause_text, refutation_data, answer_data};
+ghost use Rattle.fol.specs.Formed.{IsFormed};
+ghost use Rattle.reply_lines.specs.Replies.{summary_data, reduced_data, interpolant_data, cut_data, entries_data, proves_data, measure_data, named as named_data, plain as plain_data, field_data, text_kind as kind_text, problem_kind as problem_kind_text, formula_data, tptp_data, reading_data, premise_fault as premise_fault_data, step_data, refutation_cause as refutation_cause_text, refutation_data, answer_data};
 ghost use Rattle.reply_lines.specs.Tokens.{data_tokens, Adds, said, fault_data};
 ghost use Rattle.reply_lines.specs.declared.replies.StepShown.TheVariants.{Rule};
 
 use crate::expansions::{put_expansion, put_nodes};
 use crate::json_text::JsonText;
-use crate::members::{put_number, put_side, put_text};
+use crate::members::{put_formula, put_number, put_side, put_text};
 use crate::replies::{Outcome, RefutationShown, StepShown, Summary};
 use crate::steps::put_steps;
 use crate::tree_faults::{
-    put_cycle, put_falsified, put_node_fault, put_quantified, put_root_fault, put_variable_fault,
+    put_cycle, put_falsified, put_node_fault, put_root_fault, put_side_fault, put_variable_fault,
 };
+use fol::Formula;
 use job_words::JobCause;
 use lk_rules::{RuleFault, Sequent};
 use std::alloc::Global;
@@ -45,6 +47,27 @@ fn put_reduced(
     put_number(out, "quants", summary.quants);
     put_number(out, "reductions", reductions);
     put_side(out, alloc, texts, "right", &summary.end.right);
+    out.end_object();
+}
+
+fn put_interpolant(
+    out: &mut JsonText,
+    alloc: Global,
+    texts: &mut CanonicalTexts,
+    first: &Summary,
+    formula: &Formula,
+    second: &Summary,
+)
+    requires { IsFormed formula.now }
+    ensures { Adds out.old out.new (data_tokens (interpolant_data first.now formula.now second.now)) }
+{
+    out.begin_object();
+    out.key("first");
+    put_summary(out, alloc, texts, first);
+    out.key("formula");
+    put_formula(out, alloc, texts, formula);
+    out.key("second");
+    put_summary(out, alloc, texts, second);
     out.end_object();
 }
 
@@ -231,6 +254,15 @@ fn put_refutation_fault(out: &mut JsonText, step: u64, cause: RefutationShown)
     put_fault(out, refutation_cause(cause), "refutation", step);
 }
 
+fn put_cut(out: &mut JsonText, step: u64)
+    ensures { Adds out.old out.new (data_tokens (cut_data step)) }
+{
+    out.begin_object();
+    put_text(out, "kind", "cut");
+    put_number(out, "step", step);
+    out.end_object();
+}
+
 /// What came of a job, be it the object of an Ok reply or of an error.
 pub fn put_answer(out: &mut JsonText, alloc: Global, texts: &mut CanonicalTexts, outcome: &Outcome)
     ensures { Adds out.old out.new (data_tokens (said (answer_data outcome.now))) }
@@ -251,6 +283,11 @@ pub fn put_answer(out: &mut JsonText, alloc: Global, texts: &mut CanonicalTexts,
         } => put_measure(out, *cuts, *nodes, *quants, *size),
         Outcome::Expansion(summary) => put_expansion(out, alloc, texts, summary),
         Outcome::Nodes(flat) => put_nodes(out, alloc, texts, flat),
+        Outcome::Interpolant {
+            first,
+            formula,
+            second,
+        } => put_interpolant(out, alloc, texts, first, formula.get(), second),
         Outcome::LineTooLong => put_plain(out, "line_too_long"),
         Outcome::Reading(cause) => put_reading(out, cause),
         Outcome::NameTaken => put_plain(out, "name_taken"),
@@ -260,7 +297,7 @@ pub fn put_answer(out: &mut JsonText, alloc: Global, texts: &mut CanonicalTexts,
         Outcome::Step { step, cause } => put_step_fault(out, *step, *cause),
         Outcome::Refutation { step, cause } => put_refutation_fault(out, *step, *cause),
         Outcome::Quantified { formula, side } => {
-            put_quantified(out, alloc, texts, formula.get(), *side)
+            put_side_fault(out, alloc, texts, "quantified", formula.get(), *side)
         }
         Outcome::Falsified(atoms) => put_falsified(out, alloc, texts, atoms),
         Outcome::Node { node, cause } => put_node_fault(out, *node, *cause),
@@ -268,6 +305,13 @@ pub fn put_answer(out: &mut JsonText, alloc: Global, texts: &mut CanonicalTexts,
         Outcome::EigenTwice(var) => put_variable_fault(out, alloc, "eigen_twice", var),
         Outcome::EigenFree(var) => put_variable_fault(out, alloc, "eigen_free", var),
         Outcome::Cycle(vars) => put_cycle(out, alloc, vars.as_slice()),
+        Outcome::Cut(step) => put_cut(out, *step),
+        Outcome::Defined { formula, side } => {
+            put_side_fault(out, alloc, texts, "defined", formula.get(), *side)
+        }
+        Outcome::Partition { formula, side } => {
+            put_side_fault(out, alloc, texts, "partition", formula.get(), *side)
+        }
         Outcome::Budget => put_plain(out, "budget"),
         Outcome::Memory => put_plain(out, "memory"),
     }

@@ -68,6 +68,12 @@ pub enum Outcome {
     Expansion(ExpSummary),
     /// The trees of an expansion proof as a flat list.
     Nodes(FlatExp),
+    /// The job is a pair of proofs: of the first part with the interpolant on the right, and of the second part with it on the left.
+    Interpolant {
+        first: Summary,
+        formula: FormedFormula,
+        second: Summary,
+    },
     /// The line has more bytes than a job may have.
     LineTooLong,
     /// The line isn't a job.
@@ -113,6 +119,18 @@ pub enum Outcome {
     EigenFree(FormedVar),
     /// Variables of strong quantifiers each of which has to be there before the next, and the last before the first.
     Cycle(FormedVars),
+    /// The first cut of a proof that may have none, by its place among the canonical steps, counted from 0.
+    Cut(u64),
+    /// The first formula of a sequent that has a predicate symbol with a definition, where none may have one, and its side.
+    Defined {
+        formula: FormedFormula,
+        side: Side,
+    },
+    /// The least formula that stands on this side either of a sequent or of its two parts, but not of both.
+    Partition {
+        formula: FormedFormula,
+        side: Side,
+    },
     /// The work takes more than the budget allows.
     Budget,
     /// Memory ran out while the job was run.
@@ -130,7 +148,18 @@ impl Drop for Outcome {
             Outcome::Steps(steps) => drop(steps),
             Outcome::Expansion(summary) => drop(summary),
             Outcome::Nodes(flat) => drop(flat),
-            Outcome::Quantified { formula, side: _ } => drop(formula),
+            Outcome::Interpolant {
+                first,
+                formula,
+                second,
+            } => {
+                drop(first);
+                drop(formula);
+                drop(second);
+            }
+            Outcome::Quantified { formula, side: _ }
+            | Outcome::Defined { formula, side: _ }
+            | Outcome::Partition { formula, side: _ } => drop(formula),
             Outcome::Falsified(atoms) => drop(atoms),
             Outcome::EigenTwice(var) | Outcome::EigenFree(var) => drop(var),
             Outcome::Cycle(vars) => drop(vars),
@@ -147,6 +176,7 @@ impl Drop for Outcome {
             | Outcome::Refutation { step: _, cause: _ }
             | Outcome::Node { node: _, cause: _ }
             | Outcome::Root { root: _, cause: _ }
+            | Outcome::Cut(_)
             | Outcome::LineTooLong
             | Outcome::NameTaken
             | Outcome::Empty
@@ -173,6 +203,7 @@ impl Outcome {
                 | Outcome::Measure { .. }
                 | Outcome::Expansion(_)
                 | Outcome::Nodes(_)
+                | Outcome::Interpolant { .. }
         )
     }
 }

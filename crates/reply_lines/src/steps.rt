@@ -135,6 +135,8 @@ fn put_step(out: &mut JsonText, alloc: Global, texts: &mut CanonicalTexts, step:
         | Rule::OrR(main)
         | Rule::ImpL(main)
         | Rule::ImpR(main)
+        | Rule::DefL(main)
+        | Rule::DefR(main)
         | Rule::Cut(main) => put_with_main(out, alloc, texts, end, premises, rule, main),
         Rule::AllL(main, term) | Rule::ExR(main, term) => {
             put_with_term(out, alloc, texts, end, premises, rule, main, term)

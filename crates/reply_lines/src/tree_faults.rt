@@ -3,7 +3,7 @@ ghost use Rattle.std.specs.Prelude.{◌≡◌, [], ◌∷◌, codes};
 ghost use Rattle.std.specs.List.{All};
 ghost use Rattle.fol.specs.Formed.{IsFormed, IsFormedVar};
 ghost use Rattle.json.specs.Token.{key as key_token, string as string_token};
-ghost use Rattle.reply_lines.specs.Replies.{side_name as side_text, quantified_data, falsified_data, place_fault, node_cause as node_cause_text, root_cause as root_cause_text, variable_fault, variables_data, cycle_data};
+ghost use Rattle.reply_lines.specs.Replies.{side_name as side_text, side_fault, falsified_data, place_fault, node_cause as node_cause_text, root_cause as root_cause_text, variable_fault, variables_data, cycle_data};
 ghost use Rattle.reply_lines.specs.Tokens.{data_tokens, Adds};
 
 use crate::json_text::JsonText;
@@ -31,21 +31,22 @@ fn put_side_name(out: &mut JsonText, side: Side)
     put_text(out, "side", side_name(side));
 }
 
-/// A formula with a quantifier in a sequent that may have none.
-pub fn put_quantified(
+/// A formula that may not stand on this side of a sequent.
+pub fn put_side_fault(
     out: &mut JsonText,
     alloc: Global,
     texts: &mut CanonicalTexts,
+    kind: &str,
     formula: &Formula,
     side: Side,
 )
     requires { IsFormed formula.now }
-    ensures { Adds out.old out.new (data_tokens (quantified_data formula.now side)) }
+    ensures { Adds out.old out.new (data_tokens (side_fault kind.now formula.now side)) }
 {
     out.begin_object();
     out.key("formula");
     put_formula(out, alloc, texts, formula);
-    put_text(out, "kind", "quantified");
+    put_text(out, "kind", kind);
     put_side_name(out, side);
     out.end_object();
 }

@@ -16,7 +16,7 @@ use Rattle.arena_cells.specs.Items.{Item}
 use Rattle.arena_cells.specs.Standing.{Extends}
 use Rattle.arena_cells.proofs.Staying.{formula_there, formulas_stay}
 use Rattle.arena.proofs.SetLaws.{has-list}
-use Rattle.arena_graph.specs.FormedEnds.{IsFormedSequent}
+use Rattle.proof_trees.specs.Conclusions.{IsFormedSequent}
 use Rattle.refutations.specs.declared.clause.Clause.{Clause}
 use Rattle.refutations.specs.Clauses.{closure_of, closures}
 use Rattle.resolution_import.specs.declared.closing.Closed.{Closed}

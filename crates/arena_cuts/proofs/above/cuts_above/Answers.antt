@@ -1,7 +1,7 @@
 -- The second cut has the parts that stood before.
 use Rattle.std.proofs.Common.{sym, ap, subst, ◌∙◌}
 use Rattle.proof_trees.specs.Trees.{none, more}
-use Rattle.contraction_laws.specs.Contraction.{with_aux}
+use Rattle.cut_laws.specs.Contraction.{with_aux}
 use Rattle.arena_cells.specs.declared.key.Parts.{Parts}
 use Rattle.arena_cells.specs.Standing.{sequent_at, formula_at, tree_at}
 use Rattle.arena_cells.specs.Meaning.{rule_at, trees_at, HasPremises}

@@ -2,7 +2,7 @@
 use Rattle.std.proofs.Common.{sym, ap, ◌∙◌}
 use Rattle.lk_rules.specs.declared.sequent.Side.TheVariants as side
 use Rattle.lk_rules.specs.Sequents.{adds_to}
-use Rattle.contraction_laws.specs.Contraction.{cut, by_case}
+use Rattle.cut_laws.specs.Contraction.{cut, by_case}
 use Rattle.arena_cells.specs.Standing.{sequent_at, formula_at, tree_at}
 use Rattle.arena_cuts.specs.Passes.{above_at, split_at}
 use Rattle.arena_cuts.proofs.Stable.{tree_made}

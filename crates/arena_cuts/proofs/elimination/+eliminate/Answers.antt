@@ -3,9 +3,9 @@ use Rattle.std.proofs.Common.{rules, arith, ◌≡◌, ◌+◌, ◌-◌, ◌*◌
 use Rattle.fol.specs.Syntax.{Formula}
 use Rattle.lk_rules.specs.declared.sequent.Sequent.{Sequent}
 use Rattle.proof_trees.specs.Trees.{Tree, node, none, more, rule_of, concl, below, is_cut, IsValid, AllValid}
-use Rattle.contraction_laws.specs.Contraction.{cut, con}
-use Rattle.elimination_laws.specs.Budgets.{contracted, work, work_all}
-use Rattle.elimination_laws.proofs.ValidCuts.{cut_valid_left, cut_valid_right}
+use Rattle.cut_laws.specs.Contraction.{cut, con}
+use Rattle.cut_laws.specs.Budgets.{contracted, work, work_all}
+use Rattle.cut_laws.proofs.ValidCuts.{cut_valid_left, cut_valid_right}
 use Rattle.arena_cells.specs.declared.key.Parts.{Parts}
 use Rattle.arena_cells.specs.Standing.{sequent_at, formula_at, tree_at, IsTreeAt}
 use Rattle.arena_cells.specs.Meaning.{trees_at, HasPremises}

@@ -1,7 +1,7 @@
 -- The work within the budget falls.
 use Rattle.std.proofs.Common.{◌+◌, ◌*◌, ◌-◌}
-use Rattle.contraction_laws.specs.Contraction.{con}
-use Rattle.elimination_laws.specs.Budgets.{work, work_all}
+use Rattle.cut_laws.specs.Contraction.{con}
+use Rattle.cut_laws.specs.Budgets.{work, work_all}
 use Rattle.arena_cells.specs.Standing.{sequent_at, formula_at, tree_at}
 use Rattle.arena_cells.specs.Meaning.{trees_at}
 use Rattle.arena_cuts.specs.CutNumbers.{cut_at}

@@ -1,7 +1,7 @@
 -- The upper cut has the formula in its conclusion, and both have the parts that stood before.
 use Rattle.std.proofs.Common.{ap, ◌∙◌}
 use Rattle.lk_rules.specs.Sequents.{adds_to}
-use Rattle.contraction_laws.specs.Contraction.{cut}
+use Rattle.cut_laws.specs.Contraction.{cut}
 use Rattle.arena_cells.specs.Standing.{Extends, sequent_at, formula_at}
 use Rattle.arena_cells.proofs.Staying.{is_sequent, is_tree, sequent_stays, formula_stays, tree_stays, sequent_there, formula_there, tree_there}
 use Rattle.arena_cells.proofs.Facts as facts

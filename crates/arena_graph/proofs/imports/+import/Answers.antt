@@ -3,7 +3,8 @@ use Rattle.std.proofs.Common.{◌≤◌, length, ap, ◌∙◌, arith}
 use Rattle.std.proofs.lemmas.List.{length-map}
 use Rattle.proof_graph.specs.Shown.{nodes_all}
 use Rattle.proof_graph.specs.References.{Reference}
-use Rattle.arena_graph.proofs.Trees.{nodes_root, few_premises}
+use Rattle.proof_trees.proofs.Shapes.{few_premises}
+use Rattle.arena_graph.proofs.Trees.{nodes_root}
 use Rattle.arena_graph.proofs.Larger.{numbers_stay}
 use Rattle.arena_graph.proofs.imports.+import.Goals as goal
 

@@ -8,7 +8,7 @@ use Rattle.arena_cells.specs.Items.{tree}
 use Rattle.arena_cells.specs.Meaning.{trees_at}
 use Rattle.arena_cells.specs.Standing.{HasTree}
 use Rattle.arena_cells.proofs.Reading.{if_ok}
-use Rattle.arena_graph.specs.FormedEnds.{IsFormedSequent}
+use Rattle.proof_trees.specs.Conclusions.{IsFormedSequent}
 use Rattle.arena_graph.proofs.Trees.{root_tree}
 use Rattle.arena_graph.proofs.imports.import_over.Goals as goal
 

@@ -2,7 +2,7 @@
 use Rattle.std.proofs.Common.{◌≡◌, ℕ, true, false, sym, ap, ◌∙◌}
 use Rattle.std.specs.Prelude.{Some}
 use Rattle.proof_trees.specs.Trees.{Tree, rule_of, is_cut}
-use Rattle.contraction_laws.specs.Contraction.{cut}
+use Rattle.cut_laws.specs.Contraction.{cut}
 use Rattle.arena_cells.specs.Items.{tree}
 use Rattle.arena_cells.specs.Standing.{HasTree, sequent_at, formula_at, tree_at}
 use Rattle.arena_cells.proofs.Staying.{is_sequent}

@@ -7,7 +7,7 @@ pub returns-clause-first : goal.returns-clause-first
 returns-clause-first c = fits_first
 
 pub returns-clause-premise : goal.returns-clause-premise
-returns-clause-premise c r s e i m d v no_cut main out within closed fits = fits_inner m closed d s v fits r i e no_cut main out within
+returns-clause-premise c r s e i m d v no_cut no_unfolding main out within closed fits = fits_inner m closed d s v fits r i e no_cut no_unfolding main out within
 
 pub returns-clause-closed : goal.returns-clause-closed
 returns-clause-closed c r m v closed = closed_inner m closed v r

@@ -30,3 +30,7 @@ eliminate_in-requires-clause-fits g c = c.first-in-Cutelim.ensures.fits (graph_o
 pub refute-requires-clause-fits : goal.refute-requires-clause-fits
 refute-requires-clause-fits g c =
     fits_as _ _ c.args.given.now c.first-in-Resolution.result.now (ap graph_of c.bench-bench.ensures) c.requires.fits c.first-in-Resolution.ensures.fits
+
+pub interpolate_in-requires-clause-fits : goal.interpolate_in-requires-clause-fits
+interpolate_in-requires-clause-fits g c =
+    fits_as _ _ c.args.given.now c.first-in-Interpolate.result.now (ap graph_of c.bench-bench.ensures) c.requires.fits c.first-in-Interpolate.ensures.fits

@@ -1,7 +1,7 @@
 -- The end sequent has the closures, which are well formed.
 use Rattle.std.proofs.Common.{sym, subst}
 use Rattle.lk_rules.specs.declared.sequent.Sequent.{Sequent}
-use Rattle.arena_graph.specs.FormedEnds.{IsFormedSequent}
+use Rattle.proof_trees.specs.Conclusions.{IsFormedSequent}
 use Rattle.resolution_import.proofs.Closings.{closures_formed}
 use Rattle.resolution_import.proofs.importing.import.Goals as goal
 

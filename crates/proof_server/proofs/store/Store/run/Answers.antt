@@ -1,8 +1,8 @@
 use Rattle.std.proofs.Common.{List, length, ap, ◌∙◌, subst}
 use Rattle.std.proofs.lemmas.List.{length-map}
-use Rattle.operations.specs.Given.{base_name, names_in}
+use Rattle.operation_laws.specs.Given.{base_name, names_in}
 use Rattle.operations.specs.Means.{IsAnswerOf}
-use Rattle.operations.specs.Running.{run}
+use Rattle.operation_laws.specs.Running.{run}
 use Rattle.operations.specs.declared.held.Held.{Held}
 use Rattle.proof_server.specs.Answers.{values_for, held_of}
 use Rattle.proof_server.specs.Means.{value_named, graph_in}

@@ -1,6 +1,6 @@
 -- The values of the first names have been found.
 use Rattle.std.proofs.Common.{◌≡◌, ◌-◌, ◌≤◌, length, map, take, vec_len}
-use Rattle.operations.specs.Given.{base_name, names_in}
+use Rattle.operation_laws.specs.Given.{base_name, names_in}
 use Rattle.proof_server.specs.Means.{value_named}
 use Rattle.proof_server.proofs.store.Store.values.Given as goal
 

@@ -1,0 +1,10 @@
+pub mod Staying
+pub mod LastInferences
+pub mod LeafLaws
+pub mod Quantified
+pub mod Joined
+pub mod MainFormula
+pub mod Steps
+pub mod Roots
+pub mod UpperParts
+pub mod Descents

@@ -1,0 +1,4 @@
+pub mod Keys
+pub mod Endings
+pub mod Partitions
+pub mod Closing

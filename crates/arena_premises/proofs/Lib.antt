@@ -1,0 +1,2 @@
+pub mod AuxiliaryLaws
+pub mod Renamed

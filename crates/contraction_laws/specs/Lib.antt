@@ -1,2 +1,0 @@
-pub mod Contraction
-pub mod LowerCuts

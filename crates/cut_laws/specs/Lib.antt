@@ -1,0 +1,4 @@
+pub mod Contraction
+pub mod LowerCuts
+pub mod Elimination
+pub mod Budgets

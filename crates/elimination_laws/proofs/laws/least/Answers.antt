@@ -1,6 +1,0 @@
--- The law is a lemma.
-use Rattle.elimination_laws.proofs.Reached.{least_reached}
-use Rattle.elimination_laws.proofs.laws.least.Goals as goal
-
-pub returns : goal.returns
-returns c = least_reached

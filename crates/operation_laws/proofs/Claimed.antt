@@ -1,0 +1,76 @@
+-- Each operation makes what it claims.
+use Rattle.std.proofs.Common.{◌≡◌, ℕ, List, [], ◌∷◌, length, Option, sym, subst, arith}
+use Rattle.std.specs.Prelude.{IfSome}
+use Rattle.std.specs.List.{All}
+use Rattle.proof_trees.specs.Trees.{Tree}
+use Rattle.exp_tree.specs.Writing.{flat_of}
+use Rattle.proof_steps.specs.Places.{steps_of}
+use Rattle.tptp_problem.specs.declared.problems.Problem.{Problem}
+use Rattle.job_lang.specs.declared.jobs.Op.{Op}
+use Rattle.job_lang.specs.declared.jobs.Op.TheVariants as ops
+use Rattle.job_lang.specs.FormedOps.{IsFormedOp}
+use Rattle.operation_laws.specs.Values.{Value, IsSound}
+use Rattle.operation_laws.specs.Answers.{Product, problem, steps, nodes, product}
+use Rattle.operation_laws.specs.Given.{names_in, Found, found, ToShow, of_proof, of_expansion, shown_given, proof_given, problem_given, first_of, second_of}
+use Rattle.operation_laws.specs.Running.{lists, run}
+use Rattle.operation_laws.specs.Claims.{IsFoundAnd, GivenProof, GivenProblem, GivenBoth, IsListOf, Lists, Claims}
+use Rattle.operation_laws.proofs.Making.{over_made, over_both_made, lk_made, subst_made, cutelim_made, resolution_made, tautology_made, ReadsRightly, ChecksRightly, expansion_made, first_sound}
+use Rattle.operation_laws.proofs.Interpolated.{InterpolatesRightly, interpolation_made}
+
+-- what is given, by what the fields are given
+found_and : {A : Type 0} (f : Found A) (a : A) (P : A → Type 0) → f ≡ found a → P a → IsFoundAnd f P
+found_and f a P is h = subst (λ g. IsFoundAnd g P) (sym is) h
+
+given_proof : (of : List ℕ) (vs : List (Option Value)) (t : Tree) (P : Tree → Type 0) → length vs ≡ 1 → proof_given of (first_of vs) ≡ found t → P t → GivenProof of vs P
+given_proof of [] t P one is h = absurd (omega arith)
+given_proof of (v ∷ []) t P one is h = found_and (proof_given of v) t P is h
+given_proof of (v ∷ w ∷ vs) t P one is h = absurd (omega arith)
+
+given_problem : (goal : List ℕ) (vs : List (Option Value)) (p : Problem) (P : Problem → Type 0) → length vs ≡ 1 → problem_given goal (first_of vs) ≡ found p → P p
+    → GivenProblem goal vs P
+given_problem goal [] p P one is h = absurd (omega arith)
+given_problem goal (v ∷ []) p P one is h = found_and (problem_given goal v) p P is h
+given_problem goal (v ∷ w ∷ vs) p P one is h = absurd (omega arith)
+
+given_both : (of goal : List ℕ) (vs : List (Option Value)) (t : Tree) (p : Problem) (P : Tree → Problem → Type 0) → length vs ≡ 2 → proof_given of (first_of vs) ≡ found t
+    → problem_given goal (second_of vs) ≡ found p → P t p → GivenBoth of goal vs P
+given_both of goal [] t p P two is there h = absurd (omega arith)
+given_both of goal (v ∷ []) t p P two is there h = absurd (omega arith)
+given_both of goal (v ∷ w ∷ []) t p P two is there h =
+    found_and (proof_given of v) t (λ u. IsFoundAnd (problem_given goal w) (P u)) is (found_and (problem_given goal w) p (P t) there h)
+given_both of goal (v ∷ w ∷ x ∷ vs) t p P two is there h = absurd (omega arith)
+
+same : (this made : Product) → product this ≡ product made → made ≡ this
+same this made is = cc
+
+-- what is shown
+listed : (s : ToShow) (made : Product) → lists s ≡ product made → IsListOf made s
+listed (of_proof t) made done = same (steps (steps_of t)) made done
+listed (of_expansion x) made done = same (nodes (flat_of x)) made done
+
+given_shown : (of : List ℕ) (vs : List (Option Value)) (s : ToShow) (made : Product) → length vs ≡ 1 → shown_given of (first_of vs) ≡ found s → lists s ≡ product made → Lists of vs made
+given_shown of [] s made one is done = absurd (omega arith)
+given_shown of (v ∷ []) s made one is done = found_and (shown_given of v) s (IsListOf made) is (listed s made done)
+given_shown of (v ∷ w ∷ vs) s made one is done = absurd (omega arith)
+
+pub claimed : ReadsRightly → ChecksRightly → InterpolatesRightly → (op : Op) (vs : List (Option Value)) (made : Product) → IsFormedOp op → length vs ≡ length (names_in op)
+    → All (λ v. IfSome v IsSound) vs → run op vs ≡ product made → Claims op vs made
+claimed reads_right checks_right interpolates_right (ops.Lk list) vs made formed count sound is = lk_made list made formed is
+claimed reads_right checks_right interpolates_right (ops.Problem p) vs made formed count sound is = same (problem p) made is
+claimed reads_right checks_right interpolates_right (ops.Proves of goal) vs made formed count sound is =
+    let both = over_both_made (proof_given of (first_of vs)) (problem_given goal (second_of vs)) _ made is in
+    given_both of goal vs both.0 both.1 _ count both.2 both.3 (same _ made both.4)
+claimed reads_right checks_right interpolates_right (ops.Show of) vs made formed count sound is =
+    let one = over_made (shown_given of (first_of vs)) lists made is in given_shown of vs one.0 made count one.1 one.2
+claimed reads_right checks_right interpolates_right (ops.Measure of) vs made formed count sound is =
+    let one = over_made (proof_given of (first_of vs)) _ made is in given_proof of vs one.0 _ count one.1 (same _ made one.2)
+claimed reads_right checks_right interpolates_right (ops.Subst of m) vs made formed count sound is =
+    let one = subst_made of m (first_of vs) made formed (first_sound vs sound) is in given_proof of vs one.0 _ count one.1 one.2
+claimed reads_right checks_right interpolates_right (ops.Cutelim of n) vs made formed count sound is =
+    let one = cutelim_made of n (first_of vs) made (first_sound vs sound) is in given_proof of vs one.0 _ count one.1 one.2
+claimed reads_right checks_right interpolates_right (ops.Resolution of list) vs made formed count sound is =
+    let one = resolution_made of list (first_of vs) made formed (first_sound vs sound) is in given_problem of vs one.0 _ count one.1 one.2
+claimed reads_right checks_right interpolates_right (ops.Tautology s n) vs made formed count sound is = tautology_made s n made formed is
+claimed reads_right checks_right interpolates_right (ops.Expansion flat n) vs made formed count sound is = expansion_made reads_right checks_right flat n made is
+claimed reads_right checks_right interpolates_right (ops.Interpolate of one two n) vs made formed count sound is =
+    let pair = interpolation_made interpolates_right of one two n (first_of vs) made formed (first_sound vs sound) is in given_proof of vs pair.0 _ count pair.1 pair.2

@@ -1,0 +1,141 @@
+-- What an operation comes to.
+--     Product      what it makes, where it is done
+--     Answer      a refusal that is found before any work, a failure that is found by work, want of memory, or a product
+--     shown, held      what is replied to the job, and what the job holds
+--     proofs_in      the proofs in a product
+--     with_lack      the same where it is known whether memory ran out
+use Rattle.std.specs.Prelude.{◌≡◌, ℕ, ◌-◌, ◌^◌, min, length, Bool, true, false, List, [], ◌∷◌}
+use Rattle.fol.specs.Syntax.{Formula}
+use Rattle.lk_rules.specs.declared.rule.Step.{Step}
+use Rattle.proof_trees.specs.Trees.{Tree, concl, cuts, quants}
+use Rattle.expansion_laws.specs.Dependency.{Expansion, strongs_of}
+use Rattle.expansion_laws.specs.Proofs.{shallow_sequent}
+use Rattle.exp_tree.specs.Instances.{instances_of}
+use Rattle.exp_tree.specs.declared.flat.FlatExp.{FlatExp}
+use Rattle.tptp_problem.specs.declared.problems.Problem.{Problem}
+use Rattle.reply_lines.specs.declared.replies.Outcome.{Outcome}
+use Rattle.reply_lines.specs.declared.replies.Outcome.TheVariants as outcomes
+use Rattle.reply_lines.specs.declared.replies.Summary.{Summary}
+use Rattle.reply_lines.specs.declared.replies.ExpSummary.{ExpSummary}
+use Rattle.operation_laws.specs.declared.refusals.Refusal.{Refusal}
+use Rattle.operation_laws.specs.declared.refusals.Refusal.TheVariants.{UnknownName, Kind, Empty, Step as Faulty}
+use Rattle.operation_laws.specs.declared.refusals.Failure.{Failure}
+use Rattle.operation_laws.specs.declared.refusals.Failure.TheVariants.{Budget, Refutation, Quantified, Falsified, Node, Root, EigenTwice, EigenFree, Cycle, Cut, Defined, Partition}
+use Rattle.operation_laws.specs.Values.{Value}
+use Rattle.operation_laws.specs.Values as values
+
+-- a proof, a proof that was met after a number of replacements, a problem, whether a proof proves a problem, the steps of a proof, the
+-- numbers of its cuts, of its nodes that differ, of its quantifier rules and of all its nodes, expansion trees, trees as a flat list, or an
+-- interpolant with its two proofs, that of the first part first
+pub data Product : Type 0 where
+  proof : Tree → Product
+  reduced : Tree → ℕ → Product
+  problem : Problem → Product
+  proves : Bool → Product
+  steps : List Step → Product
+  sizes : ℕ → ℕ → ℕ → ℕ → Product
+  expansion : Expansion → Product
+  nodes : FlatExp → Product
+  interpolant : Formula → Tree → Tree → Product
+
+pub data Answer : Type 0 where
+  refused : Refusal → Answer
+  failed : Failure → Answer
+  lacking : Answer
+  product : Product → Answer
+
+-- counts end at the largest number of 64 bits
+abbrev pub capped : ℕ → ℕ
+capped n = min n (2 ^ 64 - 1)
+
+-- a proof in short
+abbrev pub summary_of : Tree → Summary
+summary_of t = record { cuts = capped (cuts t); end = concl t; quants = capped (quants t) }
+
+-- expansion trees in short
+abbrev pub exp_summary_of : Expansion → ExpSummary
+exp_summary_of x = record { end = shallow_sequent x; instances = capped (instances_of x); strong = capped (length (strongs_of x)) }
+
+abbrev pub shown_refusal : Refusal → Outcome
+shown_refusal (UnknownName text) = outcomes.UnknownName text
+shown_refusal (Kind text) = outcomes.Kind text
+shown_refusal Empty = outcomes.Empty
+shown_refusal (Faulty step cause) = outcomes.Step step cause
+
+abbrev pub shown_failure : Failure → Outcome
+shown_failure Budget = outcomes.Budget
+shown_failure (Refutation step cause) = outcomes.Refutation step cause
+shown_failure (Quantified f side) = outcomes.Quantified f side
+shown_failure (Falsified atoms) = outcomes.Falsified atoms
+shown_failure (Node i cause) = outcomes.Node i cause
+shown_failure (Root i cause) = outcomes.Root i cause
+shown_failure (EigenTwice v) = outcomes.EigenTwice v
+shown_failure (EigenFree v) = outcomes.EigenFree v
+shown_failure (Cycle vs) = outcomes.Cycle vs
+shown_failure (Cut step) = outcomes.Cut step
+shown_failure (Defined f side) = outcomes.Defined f side
+shown_failure (Partition f side) = outcomes.Partition f side
+
+abbrev pub shown_product : Product → Outcome
+shown_product (proof t) = outcomes.Proof (summary_of t)
+shown_product (reduced t n) = outcomes.Reduced (summary_of t) n
+shown_product (problem p) = outcomes.Entries (length p.entries) p.sequent
+shown_product (proves b) = outcomes.Proves b
+shown_product (steps list) = outcomes.Steps list
+shown_product (sizes cuts distinct quants size) = outcomes.Measure cuts distinct quants size
+shown_product (expansion x) = outcomes.Expansion (exp_summary_of x)
+shown_product (nodes flat) = outcomes.Nodes flat
+shown_product (interpolant f t u) = outcomes.Interpolant (summary_of t) f (summary_of u)
+
+-- what is replied
+abbrev pub shown : Answer → Outcome
+shown (refused r) = shown_refusal r
+shown (failed f) = shown_failure f
+shown lacking = outcomes.Memory
+shown (product p) = shown_product p
+
+abbrev pub held_product : Product → Value
+held_product (proof t) = values.proof t
+held_product (reduced t n) = values.proof t
+held_product (problem p) = values.problem p
+held_product (proves b) = values.nothing
+held_product (steps list) = values.nothing
+held_product (sizes cuts distinct quants size) = values.nothing
+held_product (expansion x) = values.expansion x
+held_product (nodes flat) = values.nothing
+held_product (interpolant f t u) = values.pair t u
+
+-- what the job holds
+abbrev pub held : Answer → Value
+held (refused r) = values.refused
+held (failed f) = values.refused
+held lacking = values.lacking
+held (product p) = held_product p
+
+-- the proofs in a product
+abbrev pub proofs_in : Product → List Tree
+proofs_in (proof t) = t ∷ []
+proofs_in (reduced t n) = t ∷ []
+proofs_in (problem p) = []
+proofs_in (proves b) = []
+proofs_in (steps list) = []
+proofs_in (sizes cuts distinct quants size) = []
+proofs_in (expansion x) = []
+proofs_in (nodes flat) = []
+proofs_in (interpolant f t u) = t ∷ u ∷ []
+
+-- Where memory ran out a failure or a product gives way to want of it; a refusal needs none.
+abbrev pub with_lack : Bool → Answer → Answer
+with_lack lacked (refused r) = refused r
+with_lack lacked lacking = lacking
+with_lack true (failed f) = lacking
+with_lack true (product p) = lacking
+with_lack false (failed f) = failed f
+with_lack false (product p) = product p
+
+-- an answer may lack memory or not: a refusal never does, and want of memory does
+abbrev pub may_lack : Bool → Answer → Type 0
+may_lack lacked (refused r) = lacked ≡ false
+may_lack lacked (failed f) = Unit {0}
+may_lack lacked lacking = lacked ≡ true
+may_lack lacked (product p) = Unit {0}

@@ -1,0 +1,133 @@
+-- What each operation claims of what it makes.
+--     IsProofOf, IsCutFreeProofOf      a valid proof of a sequent, and one without cuts
+--     IsFoundAnd      something holds of what a field is given
+--     GivenProof, GivenProblem, GivenBoth      something holds of what the operation is given
+--     Lists      the product is how a given value is shown
+--     AProof, AReducedProof, AnExpansion, AnInterpolant      something holds of what the operation makes
+--     Claims      one line an operation
+use Rattle.std.specs.Prelude.{◌≡◌, ℕ, ◌≤◌, true, List, [], ◌∷◌, Option}
+use Rattle.std.specs.FinMap as fin
+use Rattle.fol.specs.declared.symbols.Var.{Var}
+use Rattle.fol.specs.Syntax.{Pred, Formula}
+use Rattle.free_variables.specs.Occurrence.{is_free_in, is_pred_in}
+use Rattle.lk_rules.specs.declared.sequent.Sequent.{Sequent}
+use Rattle.lk_rules.specs.declared.sequent.Side.TheVariants.{Left, Right}
+use Rattle.lk_rules.specs.Sequents.{is_subsequent, image_sequent, adds_to, union_sequent, is_free_in_sequent}
+use Rattle.proof_trees.specs.Trees.{Tree, concl, IsValid, IsCutFree}
+use Rattle.proof_trees.specs.Occurrence.{is_pred_in_sequent}
+use Rattle.cut_laws.specs.Elimination.{Reaches}
+use Rattle.refutations.specs.Clauses.{closures}
+use Rattle.expansion_laws.specs.Dependency.{Expansion}
+use Rattle.expansion_laws.specs.Proofs.{shallow_sequent, IsExpansionProof}
+use Rattle.exp_tree.specs.declared.flat.FlatExp.{FlatExp}
+use Rattle.exp_tree.specs.Roots.{expansion_over}
+use Rattle.exp_tree.specs.Writing.{flat_of}
+use Rattle.lk_check.specs.Checking.{last_end}
+use Rattle.proof_steps.specs.Places.{steps_of}
+use Rattle.tptp_problem.specs.declared.problems.Problem.{Problem}
+use Rattle.tptp_problem.specs.ProblemClauses.{clauses_of}
+use Rattle.job_lang.specs.declared.jobs.Op.{Op}
+use Rattle.job_lang.specs.declared.jobs.Op.TheVariants as ops
+use Rattle.operation_laws.specs.Values.{Value}
+use Rattle.operation_laws.specs.Answers.{Product, proof, reduced, problem, proves, steps, expansion, nodes, interpolant}
+use Rattle.operation_laws.specs.Given.{Found, missing, wanting, found, proof_given, problem_given, ToShow, of_proof, of_expansion, shown_given}
+use Rattle.operation_laws.specs.Running.{sizes_of}
+
+-- the tree is a valid proof of the sequent
+pub record IsProofOf (t : Tree) (s : Sequent) : Type 0 where
+  pub valid : IsValid t
+  pub ends : concl t ≡ s
+
+-- a field is given what it takes, of which this holds
+abbrev pub IsFoundAnd : {A : Type 0} → Found A → (A → Type 0) → Type 0
+IsFoundAnd (missing r) holds = ⊥
+IsFoundAnd wanting holds = ⊥
+IsFoundAnd (found a) holds = holds a
+
+-- the operation is given one value, in which its name stands for a proof, of which this holds
+abbrev pub GivenProof : List ℕ → List (Option Value) → (Tree → Type 0) → Type 0
+GivenProof of (v ∷ []) holds = IsFoundAnd (proof_given of v) holds
+GivenProof of vs holds = ⊥
+
+-- it is given one value, a problem, of which this holds
+abbrev pub GivenProblem : List ℕ → List (Option Value) → (Problem → Type 0) → Type 0
+GivenProblem goal (v ∷ []) holds = IsFoundAnd (problem_given goal v) holds
+GivenProblem goal vs holds = ⊥
+
+-- it is given two values, a proof by its name and a problem, of which this holds
+abbrev pub GivenBoth : List ℕ → List ℕ → List (Option Value) → (Tree → Problem → Type 0) → Type 0
+GivenBoth of goal (v ∷ w ∷ []) holds = IsFoundAnd (proof_given of v) (λ t. IsFoundAnd (problem_given goal w) (holds t))
+GivenBoth of goal vs holds = ⊥
+
+-- the product has the canonical steps of a proof, or the flat list of expansion trees
+abbrev pub IsListOf : Product → ToShow → Type 0
+IsListOf made (of_proof t) = made ≡ steps (steps_of t)
+IsListOf made (of_expansion x) = made ≡ nodes (flat_of x)
+
+-- the operation is given one value, in which its name stands for what the product is a list of
+abbrev pub Lists : List ℕ → List (Option Value) → Product → Type 0
+Lists of (v ∷ []) made = IsFoundAnd (shown_given of v) (IsListOf made)
+Lists of vs made = ⊥
+
+-- the product is a proof of which this holds
+abbrev pub AProof : Product → (Tree → Type 0) → Type 0
+AProof (proof t) holds = holds t
+AProof p holds = ⊥
+
+-- it is a proof that was met after a number of replacements, of which this holds
+abbrev pub AReducedProof : Product → (Tree → ℕ → Type 0) → Type 0
+AReducedProof (reduced t n) holds = holds t n
+AReducedProof p holds = ⊥
+
+-- it is expansion trees of which this holds
+abbrev pub AnExpansion : Product → (Expansion → Type 0) → Type 0
+AnExpansion (expansion x) holds = holds x
+AnExpansion p holds = ⊥
+
+-- it is an interpolant with two proofs, of which this holds
+abbrev pub AnInterpolant : Product → (Formula → Tree → Tree → Type 0) → Type 0
+AnInterpolant (interpolant f t u) holds = holds f t u
+AnInterpolant p holds = ⊥
+
+-- the tree is a proof without cuts of the same sequent as t, reached from t in just k replacements, which are at most n
+pub record IsEliminated (t : Tree) (n : ℕ) (u : Tree) (k : ℕ) : Type 0 where
+  pub right : IsProofOf u (concl t)
+  pub cut_free : IsCutFree u
+  pub reached : Reaches t k u
+  pub within : k ≤ n
+
+-- the tree is a valid proof without cuts of the sequent
+pub record IsCutFreeProofOf (t : Tree) (s : Sequent) : Type 0 where
+  pub right : IsProofOf t s
+  pub cut_free : IsCutFree t
+
+-- the trees are those of the roots of a flat list, and an expansion proof of the sequent of their formulas
+pub record IsExpansionOf (flat : FlatExp) (x : Expansion) : Type 0 where
+  pub trees : x ≡ expansion_over flat
+  pub right : IsExpansionProof x (shallow_sequent x)
+
+-- The two parts make up the end sequent of the tree t. Without cuts u proves the first part with the formula on the right, and v the second
+-- part with it on the left. Each predicate symbol and each free variable of the formula is one of both parts.
+pub record IsInterpolated (t : Tree) (one two : Sequent) (f : Formula) (u v : Tree) : Type 0 where
+  pub parts : union_sequent one two ≡ concl t
+  pub first : IsCutFreeProofOf u (adds_to one Right f)
+  pub second : IsCutFreeProofOf v (adds_to two Left f)
+  pub predicates : (q : Pred) → is_pred_in q f ≡ true → (is_pred_in_sequent q one ≡ true) × (is_pred_in_sequent q two ≡ true)
+  pub variables : (x : Var) → is_free_in x f ≡ true → (is_free_in_sequent x one ≡ true) × (is_free_in_sequent x two ≡ true)
+
+-- What an operation claims of its product: of `lk` a valid proof of the last step's sequent, of `subst` one of the image of the given
+-- proof's sequent, of `cutelim` one without cuts of that sequent itself, reached within the budget, of `resolution` one of the
+-- closures of the problem's clauses, on the left, of `tautology` one without cuts of the sequent itself, of `expansion` an
+-- expansion proof, and of `interpolate` an interpolant of two parts of the given proof's sequent, with its two proofs.
+abbrev pub Claims : Op → List (Option Value) → Product → Type 0
+Claims (ops.Lk list) vs made = AProof made (λ t. IsProofOf t (last_end list))
+Claims (ops.Problem p) vs made = made ≡ problem p
+Claims (ops.Proves of goal) vs made = GivenBoth of goal vs (λ t p. made ≡ proves (is_subsequent (concl t) p.sequent))
+Claims (ops.Show of) vs made = Lists of vs made
+Claims (ops.Measure of) vs made = GivenProof of vs (λ t. made ≡ sizes_of t)
+Claims (ops.Subst of m) vs made = GivenProof of vs (λ t. AProof made (λ u. IsProofOf u (image_sequent (fin.get m) (concl t))))
+Claims (ops.Cutelim of n) vs made = GivenProof of vs (λ t. AReducedProof made (λ u k. IsEliminated t n u k))
+Claims (ops.Resolution of list) vs made = GivenProblem of vs (λ p. AProof made (λ t. IsProofOf t (closures (clauses_of p.entries))))
+Claims (ops.Tautology s n) vs made = AProof made (λ t. IsCutFreeProofOf t s)
+Claims (ops.Expansion flat n) vs made = AnExpansion made (IsExpansionOf flat)
+Claims (ops.Interpolate of one two n) vs made = GivenProof of vs (λ t. AnInterpolant made (IsInterpolated t one two))

@@ -1,0 +1,5 @@
+pub mod Values
+pub mod Answers
+pub mod Given
+pub mod Running
+pub mod Claims

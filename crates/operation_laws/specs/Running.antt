@@ -1,0 +1,179 @@
+-- What each operation comes to, over the values that its names of jobs stand for.
+use Rattle.std.specs.Prelude.{ℕ, ◌^◌, nat_lt, length, Bool, if◌then◌else◌, List, find, Option, Some, None, option_map, Result, Ok, Err}
+use Rattle.std.specs.List.{list_all}
+use Rattle.fol.specs.Syntax.{Formula}
+use Rattle.fol.specs.Formed.{is_formed}
+use Rattle.finite.specs.Finite as set
+use Rattle.lk_rules.specs.Formulas.{FormulaSet}
+use Rattle.lk_rules.specs.declared.sequent.Sequent.{Sequent}
+use Rattle.lk_rules.specs.declared.sequent.Side.{Side}
+use Rattle.lk_rules.specs.declared.sequent.Side.TheVariants.{Left, Right}
+use Rattle.lk_rules.specs.Sequents.{is_subsequent}
+use Rattle.proof_trees.specs.Trees.{Tree, concl, size, cuts, quants}
+use Rattle.proof_trees.specs.Substitution.{sub}
+use Rattle.cut_laws.specs.Elimination.{elimination}
+use Rattle.refutations.specs.declared.clause.Clause.{Clause}
+use Rattle.refutations.specs.declared.step.ResStep.{ResStep}
+use Rattle.refutations.specs.declared.step.ResCause.{ResCause}
+use Rattle.refutations.specs.declared.step.ResCause.TheVariants as refutation_causes
+use Rattle.refutations.specs.Refutations.{refutation}
+use Rattle.search_laws.specs.Truth.{has_quantifier}
+use Rattle.search_laws.specs.Search.{walk}
+use Rattle.prop_search.specs.declared.fault.SearchFault.{SearchFault}
+use Rattle.prop_search.specs.declared.fault.SearchFault.TheVariants as search
+use Rattle.prop_search.specs.Deciding.{found as found_within}
+use Rattle.expansion_laws.specs.Dependency.{Expansion}
+use Rattle.exp_tree.specs.declared.flat.NodesFault.{NodesFault}
+use Rattle.exp_tree.specs.declared.flat.NodesFault.TheVariants as reading_faults
+use Rattle.exp_tree.specs.FlatReading.{reading}
+use Rattle.exp_tree.specs.Writing.{flat_of}
+use Rattle.exp_check.specs.declared.fault.ExpFault.{ExpFault}
+use Rattle.exp_check.specs.declared.fault.ExpFault.TheVariants as checks
+use Rattle.exp_check.specs.Checking.{checking}
+use Rattle.interp_laws.specs.Interpolation.{Interpolation}
+use Rattle.lk_interp.specs.declared.fault.InterpFault.{InterpFault}
+use Rattle.lk_interp.specs.declared.fault.InterpFault.TheVariants as interpolation
+use Rattle.lk_interp.specs.Interpolating.{interpolating}
+use Rattle.lk_check.specs.declared.checking.StepCause.{StepCause}
+use Rattle.lk_check.specs.declared.checking.StepCause.TheVariants as causes
+use Rattle.lk_check.specs.declared.admission.AdmitFault.{AdmitFault}
+use Rattle.lk_check.specs.declared.admission.AdmitFault.TheVariants as admission
+use Rattle.lk_check.specs.Admission.{admission as admission_of}
+use Rattle.proof_steps.specs.Places.{steps_of}
+use Rattle.tptp_problem.specs.declared.problems.Problem.{Problem}
+use Rattle.tptp_problem.specs.ProblemClauses.{clauses_of}
+use Rattle.job_lang.specs.declared.jobs.Op.{Op}
+use Rattle.job_lang.specs.declared.jobs.Op.TheVariants as ops
+use Rattle.reply_lines.specs.declared.replies.StepShown.{StepShown}
+use Rattle.reply_lines.specs.declared.replies.StepShown.TheVariants.{Reference, Rule}
+use Rattle.reply_lines.specs.declared.replies.RefutationShown.{RefutationShown}
+use Rattle.reply_lines.specs.declared.replies.RefutationShown.TheVariants as refutation_shows
+use Rattle.operation_laws.specs.declared.refusals.Refusal.TheVariants.{Empty, Step}
+use Rattle.operation_laws.specs.declared.refusals.Failure.TheVariants.{Budget, Refutation, Quantified, Falsified, Node, Root, EigenTwice, EigenFree, Cycle, Cut, Defined, Partition}
+use Rattle.operation_laws.specs.Values.{Value}
+use Rattle.operation_laws.specs.Answers.{Product, proof, reduced, problem, proves, steps, sizes, expansion, nodes, interpolant, Answer, refused, failed, lacking, product, capped}
+use Rattle.operation_laws.specs.Given.{or_else, Found, missing, wanting, found, proof_given, problem_given, ToShow, of_proof, of_expansion, shown_given, first_of, second_of}
+
+-- what is done with what a field is given
+abbrev pub over : {A : Type 0} → Found A → (A → Answer) → Answer
+over (missing r) k = refused r
+over wanting k = lacking
+over (found a) k = k a
+
+-- What is done with what two fields are given: the first that is refused is refused, and want of memory comes after both.
+abbrev pub over_both : {A B : Type 0} → Found A → Found B → (A → B → Answer) → Answer
+over_both (missing r) second k = refused r
+over_both wanting second k = over second (λ b. lacking)
+over_both (found a) second k = over second (k a)
+
+abbrev pub step_shown : StepCause → StepShown
+step_shown causes.Reference = Reference
+step_shown (causes.Rule f) = Rule f
+
+-- a list of steps: the proof of its last step
+abbrev pub admits : Result Tree AdmitFault → Answer
+admits (Ok t) = product (proof t)
+admits (Err admission.Empty) = refused Empty
+admits (Err (admission.Step i cause)) = refused (Step i (step_shown cause))
+admits (Err admission.Memory) = lacking
+
+-- whether a proof proves a problem: its end sequent is a subsequent of the problem's
+abbrev pub compares : Tree → Problem → Answer
+compares t p = product (proves (is_subsequent (concl t) p.sequent))
+
+-- the sizes of a proof
+abbrev pub sizes_of : Tree → Product
+sizes_of t = sizes (capped (cuts t)) (length (steps_of t)) (capped (quants t)) (capped (size t))
+
+-- an elimination of cuts that found no end within its budget has worked, so it may lack memory
+abbrev pub eliminates : Option (Tree × ℕ) → Answer
+eliminates None = failed Budget
+eliminates (Some p) = product (reduced p.0 p.1)
+
+-- A clause with fewer variables has a closure, each of whose indices fits 32 bits. A line is too short for a clause with more.
+abbrev pub has_closure : Clause → Bool
+has_closure c = nat_lt (length c.vars) (2 ^ 32)
+
+abbrev pub refutation_shown : ResCause → RefutationShown
+refutation_shown refutation_causes.Reference = refutation_shows.Reference
+refutation_shown refutation_causes.AtomMissing = refutation_shows.AtomMissing
+refutation_shown refutation_causes.NotEmpty = refutation_shows.NotEmpty
+
+-- a faulty step of a refutation is found by work
+abbrev pub refuted : Result Tree (ℕ × ResCause) → Answer
+refuted (Ok t) = product (proof t)
+refuted (Err (i, cause)) = failed (Refutation i (refutation_shown cause))
+
+-- the steps as a refutation of the clauses of a problem
+abbrev pub refutes_clauses : List Clause → List ResStep → Answer
+refutes_clauses cs list = if list_all has_closure cs then refuted (refutation cs list) else lacking
+
+abbrev pub refutes : List ResStep → Problem → Answer
+refutes list p = refutes_clauses (clauses_of p.entries) list
+
+-- the first formula of a side that has a quantifier
+abbrev pub quantified_on : Side → FormulaSet → Option (Formula × Side)
+quantified_on side fs = option_map (λ f. (f, side)) (find has_quantifier (set.listing fs))
+
+-- the first formula of a sequent that has a quantifier, the left side before the right one
+abbrev pub quantified_in : Sequent → Option (Formula × Side)
+quantified_in s = or_else (quantified_on Left s.left) (quantified_on Right s.right)
+
+-- what a search comes to within its budget
+abbrev pub searched : Result Tree SearchFault → Answer
+searched (Ok t) = product (proof t)
+searched (Err (search.Falsified atoms)) = failed (Falsified atoms)
+searched (Err search.Budget) = failed Budget
+searched (Err search.Memory) = lacking
+
+-- a sequent with no formula that has a quantifier: the proof that a search finds within a budget
+abbrev pub searches : Option (Formula × Side) → Sequent → ℕ → Answer
+searches (Some q) s n = failed (Quantified q.0 q.1)
+searches None s n = searched (found_within n (walk s))
+
+-- the check of expansion trees
+abbrev pub checked : Result Expansion ExpFault → Answer
+checked (Ok x) = product (expansion x)
+checked (Err (checks.EigenTwice v)) = failed (EigenTwice v)
+checked (Err (checks.EigenFree v)) = failed (EigenFree v)
+checked (Err (checks.Cycle vs)) = failed (Cycle vs)
+checked (Err (checks.Falsified atoms)) = failed (Falsified atoms)
+checked (Err checks.Budget) = failed Budget
+checked (Err checks.Memory) = lacking
+
+-- the check of the expansion trees that are read of a flat list
+abbrev pub reads : Result Expansion NodesFault → ℕ → Answer
+reads (Ok x) n = checked (checking x n)
+reads (Err (reading_faults.Node i cause)) n = failed (Node i cause)
+reads (Err (reading_faults.Root i cause)) n = failed (Root i cause)
+reads (Err reading_faults.Budget) n = failed Budget
+reads (Err reading_faults.Memory) n = lacking
+
+-- An interpolation, or why there is none, which is found by work. An interpolant is well formed unless 2^32 or more quantifiers stand inside
+-- one another in it, which no index would count and no memory holds.
+abbrev pub interpolated : Result Interpolation InterpFault → Answer
+interpolated (Ok i) = if is_formed i.formula then product (interpolant i.formula i.first i.second) else lacking
+interpolated (Err (interpolation.Cut step)) = failed (Cut step)
+interpolated (Err (interpolation.Defined f side)) = failed (Defined f side)
+interpolated (Err (interpolation.Partition f side)) = failed (Partition f side)
+interpolated (Err interpolation.Budget) = failed Budget
+interpolated (Err interpolation.Memory) = lacking
+
+-- a proof as its canonical steps, and expansion trees as their flat list
+abbrev pub lists : ToShow → Answer
+lists (of_proof t) = product (steps (steps_of t))
+lists (of_expansion x) = product (nodes (flat_of x))
+
+-- an operation over the values that its names stand for, one for each, in their order
+abbrev pub run : Op → List (Option Value) → Answer
+run (ops.Lk list) vs = admits (admission_of list)
+run (ops.Problem p) vs = product (problem p)
+run (ops.Proves of goal) vs = over_both (proof_given of (first_of vs)) (problem_given goal (second_of vs)) compares
+run (ops.Show of) vs = over (shown_given of (first_of vs)) lists
+run (ops.Measure of) vs = over (proof_given of (first_of vs)) (λ t. product (sizes_of t))
+run (ops.Subst of m) vs = over (proof_given of (first_of vs)) (λ t. product (proof (sub t m)))
+run (ops.Cutelim of n) vs = over (proof_given of (first_of vs)) (λ t. eliminates (elimination t n))
+run (ops.Resolution of list) vs = over (problem_given of (first_of vs)) (refutes list)
+run (ops.Tautology s n) vs = searches (quantified_in s) s n
+run (ops.Expansion flat n) vs = reads (reading flat n) n
+run (ops.Interpolate of one two n) vs = over (proof_given of (first_of vs)) (λ t. interpolated (interpolating t one two n))

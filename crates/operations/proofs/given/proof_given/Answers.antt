@@ -1,0 +1,14 @@
+-- One proof of a pair fits the graph as both do, and is what the name stands for.
+use Rattle.std.proofs.Common.{Option, sym, ap, ◌∙◌, subst}
+use Rattle.proof_trees.specs.Trees.{Tree}
+use Rattle.operation_laws.specs.Given.{or_kind, proof_given}
+use Rattle.operations.specs.declared.held.Held.{Held}
+use Rattle.operations.specs.Means.{sense, Fits}
+use Rattle.operations.proofs.given.proof_given.Goals as goal
+
+pub returns-in-Some-clause-fits : goal.returns-in-Some-clause-fits
+returns-in-Some-clause-fits c = λ g fits. let both = subst (λ (v : Held). Fits g v) c.in-Pair.is fits in c.in-Some.ensures.fits g both.0 both.1
+
+pub returns-in-Some-clause-found : goal.returns-in-Some-clause-found
+returns-in-Some-clause-found c =
+    ap (λ (v : Held). proof_given c.args.text.now (sense v)) c.in-Pair.is ∙ ap (λ (o : Option Tree). or_kind c.args.text.now o) (sym c.in-Some.ensures.value)

@@ -1,0 +1,7 @@
+use Rattle.reply_lines.proofs.Adding.{adds_then}
+use Rattle.reply_lines.proofs.answers.put_interpolant.Goals as goal
+
+pub returns : goal.returns
+returns c =
+    adds_then c.begin_object.ensures (adds_then c.key.ensures (adds_then c.put_summary.ensures (adds_then c.key-2.ensures (adds_then c.put_formula.ensures
+    (adds_then c.key-3.ensures (adds_then c.put_summary-2.ensures c.end_object.ensures))))))
