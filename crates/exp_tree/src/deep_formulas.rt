@@ -11,7 +11,8 @@ use fol::Formula;
 use lk_rules::Side;
 use std::alloc::{AllocError, Global};
 
-fn other(side: Side) -> Side
+/// The other side.
+pub fn other(side: Side) -> Side
     ensures { result ≡ turn side }
 {
     match side {

@@ -23,12 +23,14 @@ mod writing;
 
 pub use checked::CheckedExp;
 pub use counts::count_instances;
-pub use deep_formulas::deep;
+pub use deep_formulas::{deep, other};
 pub use expansion::{Exp, ExpRoot, Inst};
 pub use flat::{ExpNode, FlatExp, NodeCause, NodesFault, RootCause};
 pub use flat_insts::FlatInsts;
 pub use nodes::ExpNodes;
 pub use reading_lists::read_nodes;
-pub use sequent_formulas::{deep_sequent, shallow_sequent, strong_vars};
+pub use sequent_formulas::{
+    deep_sequent, push_strongs, push_strongs_in, shallow_sequent, strong_vars,
+};
 pub use sequents::{ExpSequent, Exps};
 pub use writing::write_nodes;

@@ -61,9 +61,10 @@ pub fn deep_sequent(alloc: Global, exps: &ExpSequent) -> Result<Sequent, AllocEr
     Ok(Sequent { left, right })
 }
 
-// Appends the variables of the strong quantifiers of a tree. After an error some of them may stand there.
+/// Appends the variables of the strong quantifiers of a tree, one for each that the unfolded tree has. After an error some of them may
+/// stand there.
 #[cycle(strongs)]
-fn push_strongs(list: &mut Vec<Var>, exp: &Exp) -> Result<(), AllocError>
+pub fn push_strongs(list: &mut Vec<Var>, exp: &Exp) -> Result<(), AllocError>
     ensures { IfOk result (λ _. list.new.items ≡ list.old.items ++ strongs exp.now) }
 {
     match exp.root() {
@@ -81,9 +82,9 @@ fn push_strongs(list: &mut Vec<Var>, exp: &Exp) -> Result<(), AllocError>
     }
 }
 
-// Those of the trees of instances.
+/// Appends those of the trees of instances.
 #[cycle(strongs)]
-fn push_strongs_in(list: &mut Vec<Var>, instances: &[Inst]) -> Result<(), AllocError>
+pub fn push_strongs_in(list: &mut Vec<Var>, instances: &[Inst]) -> Result<(), AllocError>
     ensures { IfOk result (λ _. list.new.items ≡ list.old.items ++ strongs_in (insts_of instances.now)) }
 {
     for instance in instances {

@@ -1,0 +1,30 @@
+-- What building comes to within a budget.
+--     sizes      how many inferences some proofs have
+--     building      the proof, where it has at most so many
+--     Builds      the code answers just that, unless memory runs out
+use Rattle.std.specs.Prelude.{◌≡◌, ℕ, nat_lt, true, if◌then◌else◌, Option, Some, None, Result, Ok, Err}
+use Rattle.proof_trees.specs.Trees.{Tree, Trees, size, count_rules_all}
+use Rattle.proof_graph.specs.References.{Reference}
+use Rattle.expansion_laws.specs.Dependency.{Expansion}
+use Rattle.building_laws.specs.Lists.{start}
+use Rattle.building_laws.specs.Building.{build}
+use Rattle.exp_to_lk.specs.declared.fault.BuildFault.{BuildFault}
+use Rattle.exp_to_lk.specs.declared.fault.BuildFault.TheVariants.{Budget, Memory}
+
+abbrev pub sizes : Trees → ℕ
+sizes = count_rules_all (λ r. true)
+
+-- a proof, where it has at most n inferences
+abbrev pub within_budget : ℕ → Option Tree → Result Tree BuildFault
+within_budget n None = Err Budget
+within_budget n (Some t) = if nat_lt n (size t) then Err Budget else Ok t
+
+-- The proof of the trees for a sequent that is built, where it has at most n inferences. Each expansion proof has one.
+abbrev pub building : Expansion → ℕ → Result Tree BuildFault
+building x n = within_budget n (build (start x))
+
+-- the answer is a reference to the proof, or that the budget is too small
+abbrev pub Builds : Result Reference BuildFault → Result Tree BuildFault → Type 0
+Builds (Ok r) wanted = wanted ≡ Ok r.tree
+Builds (Err Budget) wanted = wanted ≡ Err Budget
+Builds (Err Memory) wanted = Unit {0}

@@ -1,0 +1,15 @@
+//! Proofs from expansion proofs, after Miller (1987).
+#![tactic(auto)]
+
+mod building;
+mod dividing;
+mod exporting;
+mod fault;
+mod instances;
+mod leaves;
+mod lists;
+mod placed;
+mod steps;
+
+pub use exporting::build;
+pub use fault::BuildFault;
