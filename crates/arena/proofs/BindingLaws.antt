@@ -1,10 +1,9 @@
 -- Maps from variables to terms, with one more binding and with fewer.
-use Rattle.std.proofs.Common.{◌≡◌, ℕ, Bool, true, false, ◌&&◌, ◌||◌, not, cond, List, [], ◌∷◌, map, length, Option, Some, None, IsTrue, ◌↔◌, nat_eq, refl, sym, ap, ◌∙◌, subst, arith}
+use Rattle.std.proofs.Common.{◌≡◌, ℕ, Bool, true, false, ◌&&◌, ◌||◌, not, cond, List, [], ◌∷◌, map, length, Option, Some, None, ◌↔◌, refl, sym, ap, ◌∙◌, subst, arith}
 use Rattle.std.specs.List.{All, list_any}
 use Rattle.std.specs.Option.{option_map, unwrap_or}
 use Rattle.std.specs.Ordering.{nat_cmp, eq_by_cmp}
 use Rattle.std.specs.FinMap as fin
-use Rattle.std.proofs.lemmas.Bool.Decides.{nat_tests}
 use Rattle.std.proofs.lemmas.Cmp.{nat_cmp_total}
 use Rattle.std.proofs.lemmas.List.Elements.{All-head, All-tail}
 use Rattle.fol.specs.declared.symbols.Var.{Var}
@@ -18,7 +17,7 @@ use Rattle.substitution.specs.Maps.{Map as Substitution}
 use Rattle.substitution.specs.Restriction.{is_moved, restricted}
 use Rattle.arena_cells.specs.declared.key.Key.TheVariants.{Map}
 use Rattle.arena_cells.specs.Items.{Item}
-use Rattle.arena_cells.specs.Standing.{IsDistinct, variable_at, term_at, map_at, IsVariableAt, IsTermAt}
+use Rattle.arena_cells.specs.Standing.{IsDistinct, variable_at, term_at, map_at, variables_at, IsVariableAt, IsTermAt}
 use Rattle.arena_cells.specs.Meaning.{bindings, vars_of, AreRisingVariables, AreBindings, IsKeyAt}
 use Rattle.arena_cells.proofs.Staying.{is_term, is_map, variable_term}
 use Rattle.arena_cells.proofs.Sets.{has-set_of, same_test, found_by_number}
@@ -27,7 +26,7 @@ use Rattle.arena_cells.proofs.OneKey.{one_variable, one_term}
 use Rattle.arena.specs.Pairs.{number_in, keys_with, values_with, keys_kept, values_kept}
 use Rattle.arena.specs.Bindings.{is_kept}
 use Rattle.arena.proofs.SetLaws.{itself, list_any-map, same_any, same_here, one_passes, passes, among}
-use Rattle.arena.proofs.PairLaws.{number_with, keys_with_rise, keys_with_all, values_with_all, with_lengths, keys_with_members, kept_by, number_kept, keys_kept_rise, keys_kept_all, values_kept_all, kept_lengths, number_all, kept_among}
+use Rattle.arena.proofs.PairLaws.{number_with, keys_with_rise, keys_with_all, values_with_all, with_lengths, keys_with_members, kept_by, number_kept, keys_kept_rise, keys_kept_all, values_kept_all, kept_lengths, all_kept, number_all, kept_among}
 
 no_value : (vs : List Var) (ts : List Term) (q : Var) → list_any (eq_by_cmp var_cmp q) vs ≡ false → value_in vs ts q ≡ None
 no_value [] ts q h = refl
@@ -207,9 +206,24 @@ nothing_listed : (a : List Item) (vs ts : List ℕ) → length vs ≡ 0 → bind
 nothing_listed a [] ts e = refl
 nothing_listed a (v ∷ vs) ts e = absurd (omega arith)
 
--- a map has no binding where its lists are empty
-pub without_binding : (a : List Item) (n : ℕ) (vs ts : List ℕ) → IsKeyAt a n (Map vs ts) → (r : Bool) → r ≡ nat_eq (length vs) 0 → IsTrue r ↔ (map_at a n ≡ fin.empty)
-without_binding a n vs ts k r e = (
-  λ here. is_map a n _ k.stands ∙ nothing_listed a vs ts (let zero_length : nat_eq (length vs) 0 ≡ true = sym e ∙ here in grind (arith, nat_tests)),
-  λ empty. e ∙ (let none : length vs ≡ 0 = nothing_first a vs ts k.parts.lengths (sym (is_map a n _ k.stands) ∙ empty) in ap (λ (m : ℕ). nat_eq m 0) none),
-)
+-- a map has no binding exactly where its lists are empty
+pub without_binding : (a : List Item) (vs ts : List ℕ) → length vs ≡ length ts → (length vs ≡ 0) ↔ (bindings (map (variable_at a) vs) (map (term_at a) ts) ≡ fin.empty)
+without_binding a vs ts same = (nothing_listed a vs ts, nothing_first a vs ts same)
+
+-- the part of a map that changes variables of a set, by the number of its bindings
+module _ (a : List Item) (distinct : IsDistinct a) (n q : ℕ) (vs ts ss : List ℕ) (key : IsKeyAt a n (Map vs ts)) (s : AreRisingVariables a ss) (shown : variables_at a q ≡ vars_of a ss) where
+  abbrev changed : ℕ
+  changed = length (keys_kept (is_kept ss) vs ts)
+
+  part_shown : bindings (map (variable_at a) (keys_kept (is_kept ss) vs ts)) (map (term_at a) (values_kept (is_kept ss) vs ts)) ≡ restricted (map_at a n) (variables_at a q)
+  part_shown = restricted_shown a distinct vs ts ss key.parts s ∙ λ i. restricted (sym (is_map a n _ key.stands) i) (sym shown i)
+
+  pub none_changed : (k : ℕ) → k ≡ changed → (k ≡ 0) ↔ (restricted (map_at a n) (variables_at a q) ≡ fin.empty)
+  none_changed k e =
+      let listed = without_binding a (keys_kept (is_kept ss) vs ts) (values_kept (is_kept ss) vs ts) (kept_lengths (is_kept ss) vs ts) in
+      (λ none. sym part_shown ∙ listed.0 (sym e ∙ none), λ empty. e ∙ listed.1 (part_shown ∙ empty))
+
+  pub all_changed : (k : ℕ) → k ≡ changed → k ≡ length vs → restricted (map_at a n) (variables_at a q) ≡ map_at a n
+  all_changed k e all =
+      let kept = all_kept (is_kept ss) vs ts key.parts.lengths (sym e ∙ all) in
+      sym part_shown ∙ (λ i. bindings (map (variable_at a) (kept.0 i)) (map (term_at a) (kept.1 i))) ∙ sym (is_map a n _ key.stands)

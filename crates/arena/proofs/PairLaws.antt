@@ -1,11 +1,12 @@
 -- Maps between numbers, with one more pair and with fewer.
-use Rattle.std.proofs.Common.{◌≡◌, ℕ, suc, ◌+◌, ◌<◌, Bool, true, false, ◌||◌, cond, List, [], ◌∷◌, ◌++◌, length, take, drop, get_or, Option, Some, None, Result, Ok, Err, nat_eq, refl, sym, ap, ◌∙◌, subst, arith}
+use Rattle.std.proofs.Common.{◌≡◌, ℕ, suc, ◌+◌, ◌<◌, ◌≤◌, Bool, true, false, ◌||◌, cond, List, [], ◌∷◌, ◌++◌, length, take, drop, get_or, Option, Some, None, Result, Ok, Err, nat_eq, refl, sym, ap, ◌∙◌, subst, arith}
+use Rattle.std.specs.Int.{from_bool}
 use Rattle.std.specs.declared.cmp.Ordering.TheVariants.{Less, Equal, Greater}
 use Rattle.std.specs.List.{All, list_any, insert}
 use Rattle.std.specs.Ordering.{nat_cmp, eq_by_cmp, is_eq, is_lt}
 use Rattle.std.specs.Cmp.{Equal-is}
 use Rattle.std.proofs.lemmas.Bool.Decides.{nat_tests}
-use Rattle.std.proofs.lemmas.List.{take_more, length-take}
+use Rattle.std.proofs.lemmas.List.{take_more, length-take, length-append}
 use Rattle.std.proofs.lemmas.Cmp.{nat_cmp_total}
 use Rattle.std.proofs.lemmas.List.Elements.{All-head, All-tail, All-set, All-append, All-cons, All-take, All-drop}
 use Rattle.std.specs.FinMap as fin
@@ -191,6 +192,31 @@ kept_lengths p (k ∷ ks) (v ∷ vs) =
       | false ↦ kept_lengths p ks vs
     ]
 
+-- how many pairs are kept
+few_kept : (p : ℕ → ℕ → Bool) (ks vs : List ℕ) → length (keys_kept p ks vs) ≤ length ks
+few_kept p [] vs = omega arith
+few_kept p (k ∷ ks) [] = omega arith
+few_kept p (k ∷ ks) (v ∷ vs) =
+    let rest : length (keys_kept p ks vs) ≤ length ks = few_kept p ks vs in
+    elim (p k v) as (λ b. length (cond b (k ∷ keys_kept p ks vs) (keys_kept p ks vs)) ≤ suc (length ks)) [
+      | true ↦ omega arith
+      | false ↦ omega arith
+    ]
+
+-- where as many are kept as there are, all are
+pub all_kept : (p : ℕ → ℕ → Bool) (ks vs : List ℕ) → length ks ≡ length vs → length (keys_kept p ks vs) ≡ length ks → (keys_kept p ks vs ≡ ks) × (values_kept p ks vs ≡ vs)
+all_kept p [] [] same h = (refl, refl)
+all_kept p [] (v ∷ vs) same h = absurd (omega arith)
+all_kept p (k ∷ ks) [] same h = absurd (omega arith)
+all_kept p (k ∷ ks) (v ∷ vs) same h =
+    elim (p k v) as (λ b. length (cond b (k ∷ keys_kept p ks vs) (keys_kept p ks vs)) ≡ suc (length ks)
+    → (cond b (k ∷ keys_kept p ks vs) (keys_kept p ks vs) ≡ k ∷ ks) × (cond b (v ∷ values_kept p ks vs) (values_kept p ks vs) ≡ v ∷ vs)) [
+      | true ↦ λ e.
+          let rest = all_kept p ks vs (omega arith) (omega arith) in
+          (ap (λ (xs : List ℕ). k ∷ xs) rest.0, ap (λ (xs : List ℕ). v ∷ xs) rest.1)
+      | false ↦ λ e. let fewer = few_kept p ks vs in absurd (omega arith)
+    ] h
+
 -- a value that is found is one of the values
 pub number_all : (P : ℕ → Type 0) (ks vs : List ℕ) (n v : ℕ) → All P vs → number_in ks vs n ≡ Some v → P v
 number_all P [] vs n v h e = absurd (cc)
@@ -259,6 +285,18 @@ pub keys_kept_more : (p : ℕ → ℕ → Bool) (ks vs : List ℕ) (i : ℕ) →
 keys_kept_more p ks vs i h within =
     let other : i < length vs = omega arith in
     (λ j. keys_kept p (take_more ks i 0 within j) (take_more vs i 0 other j)) ∙ keys_kept-push p (take i ks) (take i vs) (get_or ks i 0) (get_or vs i 0) (taken_lengths ks vs i h)
+
+longer : (b : Bool) (xs : List ℕ) (x : ℕ) → length (cond b (xs ++ x ∷ []) xs) ≡ length xs + from_bool b
+longer true xs x = omega (arith, length-append xs (x ∷ []))
+longer false xs x = omega arith
+
+pub at_most_one : (b : Bool) → from_bool b ≤ 1
+at_most_one true = omega arith
+at_most_one false = omega arith
+
+pub count_more : (p : ℕ → ℕ → Bool) (ks vs : List ℕ) (i : ℕ) → length ks ≡ length vs → i < length ks
+    → length (keys_kept p (take (i + 1) ks) (take (i + 1) vs)) ≡ length (keys_kept p (take i ks) (take i vs)) + from_bool (p (get_or ks i 0) (get_or vs i 0))
+count_more p ks vs i h within = ap length (keys_kept_more p ks vs i h within) ∙ longer (p (get_or ks i 0) (get_or vs i 0)) (keys_kept p (take i ks) (take i vs)) (get_or ks i 0)
 
 pub values_kept_more : (p : ℕ → ℕ → Bool) (ks vs : List ℕ) (i : ℕ) → length ks ≡ length vs → i < length ks
     → values_kept p (take (i + 1) ks) (take (i + 1) vs) ≡ cond (p (get_or ks i 0) (get_or vs i 0)) (values_kept p (take i ks) (take i vs) ++ get_or vs i 0 ∷ []) (values_kept p (take i ks) (take i vs))

@@ -1,5 +1,7 @@
 -- Sets of formulas by the lists that show them.
-use Rattle.std.proofs.Common.{◌≡◌, ℕ, ◌+◌, ◌<◌, true, ◌||◌, List, [], ◌∷◌, ◌++◌, map, take, length, get_or, append-nil, append_assoc, refl, sym, ap, ◌∙◌}
+use Rattle.std.proofs.Common.{◌≡◌, ℕ, ◌+◌, ◌<◌, Bool, true, false, ◌||◌, List, [], ◌∷◌, ◌++◌, map, take, length, get_or, append-nil, append_assoc, refl, sym, ap, ◌∙◌}
+use Rattle.std.specs.Prelude.{Some}
+use Rattle.std.specs.FinMap as fin
 use Rattle.std.specs.List.{All, list_all, list_any}
 use Rattle.std.specs.Ordering.{eq_by_cmp}
 use Rattle.std.proofs.lemmas.List.{map-append, take_more}
@@ -7,7 +9,7 @@ use Rattle.std.proofs.lemmas.List.Elements.{All-weaker, All-push}
 use Rattle.std.proofs.lemmas.List.Folds.{list_any-append}
 use Rattle.std.proofs.lemmas.List.Sums.{AllPass-from_list_all}
 use Rattle.fol.specs.declared.symbols.Var.{Var}
-use Rattle.fol.specs.Syntax.{Formula}
+use Rattle.fol.specs.Syntax.{free, Formula}
 use Rattle.fol.specs.Order.{var_cmp, formula_cmp}
 use Rattle.fol.specs.OrderLaws.{var_total, formula_total}
 use Rattle.fol.proofs.OrderTies.{var_ties, formula_ties}
@@ -17,15 +19,22 @@ use Rattle.finite.proofs.Finite.{has-listing, same_members, all_among}
 use Rattle.free_variables.specs.Union.{union_of}
 use Rattle.free_variables.specs.Occurrence.{is_free_in, var_list, vars_formula}
 use Rattle.free_variables.proofs.OccurrenceLaws.{is_free-var_list}
-use Rattle.lk_rules.specs.Formulas.{FormulaSet, var_lists}
+use Rattle.substitution.specs.Image.{image_term}
+use Rattle.substitution.specs.Maps.{Map}
+use Rattle.substitution.specs.Restriction.{restricted}
+use Rattle.substitution.proofs.ImageLaws.{image-empty_term}
+use Rattle.substitution.proofs.Restricting.{restricted_agrees}
+use Rattle.lk_rules.specs.Formulas.{FormulaSet, image_set, var_lists}
 use Rattle.lk_rules.proofs.Listings.{alike}
 use Rattle.lk_rules.specs.declared.sequent.Sequent.{Sequent}
 use Rattle.lk_rules.specs.Sequents.{vars_sequent}
+use Rattle.proof_trees.proofs.Agreeing.{kept_sequent}
 use Rattle.arena.specs.Tasks.{vars_side}
-use Rattle.arena_cells.specs.Items.{Item}
-use Rattle.arena_cells.specs.Standing.{Extends, HasFormula, formula_at, IsFormulaAt}
-use Rattle.arena_cells.proofs.Staying.{is_formula, formulas_stay, formula_there}
+use Rattle.arena_cells.specs.Items.{Item, side}
+use Rattle.arena_cells.specs.Standing.{Extends, HasFormula, HasSide, HasVariables, formula_at, side_at, map_at, variables_at, IsFormulaAt, IsSideAt, IsMapAt}
+use Rattle.arena_cells.proofs.Staying.{is_formula, are_variables, formulas_stay, formula_there}
 use Rattle.arena_cells.proofs.Facts as facts
+use Rattle.arena.proofs.Results.{map_stays}
 use Rattle.arena.proofs.SetLaws.{has-list, same_sets, list_any-map, any_listing, set_append}
 
 -- one more formula stands at its number
@@ -56,6 +65,23 @@ pub vars_shown : (fs : List Formula) → set.adds_each (set.empty {R = var_cmp})
 vars_shown fs = same_sets var_total var_ties _ _ (λ v.
     free_in_one v fs ∙ sym (any_listing formula_total formula_ties (is_free_in v) fs)
     ∙ sym (free_in_one v (set.listing (set.adds_each (set.empty {R = formula_cmp}) fs))))
+
+or_itself : (b : Bool) → (b || b) ≡ true → b ≡ true
+or_itself true h = refl
+or_itself false h = h
+
+-- a set of whose free variables a map changes none is its own image
+pub fixed_side : (m : Map) (s : FormulaSet) → restricted m (vars_side s) ≡ fin.empty → image_set (fin.get m) s ≡ s
+fixed_side m s nothing = ap (λ (e : Sequent). e.left) (kept_sequent (fin.get m) (record { left = s; right = s }) (λ v h.
+    let there : set.has (vars_side s) v ≡ true = has-list var_total var_ties (var_lists (set.listing s)) v ∙ free_in_one v (set.listing s) ∙ or_itself (list_any (is_free_in v) (set.listing s)) h in
+    sym (restricted_agrees m (vars_side s) v there) ∙ ap (λ (k : Map). image_term (fin.get k) (free v)) nothing ∙ image-empty_term (free v)))
+
+-- as it stands in a larger arena, where the variables were found
+pub fixed_there : (a b : List Item) (m n k : ℕ) → Extends a b → IsMapAt a m → IsSideAt a n → HasVariables b k (vars_side (side_at a n)) → restricted (map_at b m) (variables_at b k) ≡ fin.empty
+    → HasSide b n (image_set (fin.get (map_at a m)) (side_at a n))
+fixed_there a b m n k grown map there vars nothing =
+    let same : restricted (map_at a m) (vars_side (side_at a n)) ≡ restricted (map_at b m) (variables_at b k) = λ i. restricted (sym (map_stays a b grown m map) i) (sym (are_variables b k _ vars) i) in
+    grown n _ there ∙ ap (λ (s : FormulaSet). Some (side s)) (sym (fixed_side (map_at a m) (side_at a n) (same ∙ nothing)))
 
 var_lists-push : (fs : List Formula) (f : Formula) → var_lists (fs ++ f ∷ []) ≡ var_lists fs ++ var_list f
 var_lists-push [] f = append-nil (var_list f)

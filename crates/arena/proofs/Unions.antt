@@ -5,7 +5,7 @@ use Rattle.fol.specs.Order.{var_cmp}
 use Rattle.fol.specs.OrderLaws.{var_total}
 use Rattle.fol.proofs.OrderTies.{var_ties}
 use Rattle.finite.specs.Finite as set
-use Rattle.finite.proofs.Finite.{has-empty, same_members}
+use Rattle.finite.proofs.Finite.{has-empty, same_members, members_of_subset}
 use Rattle.free_variables.specs.Sets.{VarSet}
 use Rattle.free_variables.specs.Union.{union_of}
 use Rattle.free_variables.specs.Occurrence.{vars_formula}
@@ -34,20 +34,31 @@ union_none s t e =
     same_members var_total var_ties _ _ (λ v.
     has-union var_total s t v ∙ ap (λ u. set.has s v || set.has u v) e ∙ ap (λ b. set.has s v || b) (has-empty var_cmp v) ∙ or_false (set.has s v))
 
-none_union : (s t : VarSet) → s ≡ set.empty → union_of s t ≡ t
-none_union s t e =
-    same_members var_total var_ties _ _ (λ v.
-    has-union var_total s t v ∙ ap (λ u. set.has u v || set.has t v) e ∙ ap (λ b. b || set.has t v) (has-empty var_cmp v))
+given_left : (b c : Bool) → (c ≡ true → b ≡ true) → (b || c) ≡ b
+given_left true c h = refl
+given_left false true h = sym (h refl)
+given_left false false h = refl
+
+given_right : (b c : Bool) → (b ≡ true → c ≡ true) → (b || c) ≡ c
+given_right true c h = sym (h refl)
+given_right false c h = refl
+
+-- the union of a set and one that is within it
+union_within : (s t : VarSet) → set.subset t s ≡ true → union_of s t ≡ s
+union_within s t h = same_members var_total var_ties _ _ (λ v. has-union var_total s t v ∙ given_left (set.has s v) (set.has t v) (members_of_subset var_total t s h v))
+
+within_union : (s t : VarSet) → set.subset s t ≡ true → union_of s t ≡ t
+within_union s t h = same_members var_total var_ties _ _ (λ v. has-union var_total s t v ∙ given_right (set.has s v) (set.has t v) (members_of_subset var_total s t h v))
 
 module _ (a : List Item) where
   pub kept_both : (m n : ℕ) → AreVariablesAt a m → m ≡ n → HasVariables a m (union_of (variables_at a m) (variables_at a n))
   kept_both m n h e = h ∙ ap (λ s. Some (variables s)) (sym (union_same (variables_at a m)) ∙ ap (λ (k : ℕ). union_of (variables_at a m) (variables_at a k)) e)
 
-  pub kept_first : (m n : ℕ) → AreVariablesAt a m → variables_at a n ≡ set.empty → HasVariables a m (union_of (variables_at a m) (variables_at a n))
-  kept_first m n h e = h ∙ ap (λ s. Some (variables s)) (sym (union_none _ _ e))
+  pub kept_first : (m n : ℕ) (b : Bool) → AreVariablesAt a m → b ≡ set.subset (variables_at a n) (variables_at a m) → b ≡ true → HasVariables a m (union_of (variables_at a m) (variables_at a n))
+  kept_first m n b h is holds = h ∙ ap (λ s. Some (variables s)) (sym (union_within _ _ (sym is ∙ holds)))
 
-  pub kept_second : (m n : ℕ) → AreVariablesAt a n → variables_at a m ≡ set.empty → HasVariables a n (union_of (variables_at a m) (variables_at a n))
-  kept_second m n h e = h ∙ ap (λ s. Some (variables s)) (sym (none_union _ _ e))
+  pub kept_second : (m n : ℕ) (b : Bool) → AreVariablesAt a n → b ≡ set.subset (variables_at a m) (variables_at a n) → b ≡ true → HasVariables a n (union_of (variables_at a m) (variables_at a n))
+  kept_second m n b h is holds = h ∙ ap (λ s. Some (variables s)) (sym (within_union _ _ (sym is ∙ holds)))
 
   -- a formula in which no variable is free adds none
   pub kept_shut : (m n : ℕ) → AreVariablesAt a m → IsFormulaAt a n → is_open_item (item_at a n) ≡ false → HasVariables a m (union_of (variables_at a m) (vars_formula (formula_at a n) set.empty))

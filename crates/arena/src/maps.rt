@@ -6,7 +6,7 @@ ghost use Rattle.substitution.specs.Restriction.{restricted};
 ghost use Rattle.arena_cells.specs.Standing.{Extends, HasMap, variable_at, term_at, variables_at, map_at, IsVariableAt, IsTermAt, AreVariablesAt, IsMapAt};
 
 use crate::arena::Arena;
-use crate::lists::{needed_pairs, with_pair};
+use crate::lists::{count_needed, needed_pairs, with_pair};
 use arena_cells::{Key, Numbers};
 use fol::{Term, Var};
 use std::alloc::{AllocError, Global};
@@ -67,14 +67,44 @@ impl Arena {
         self.with_binding(alloc, map, variable, term)
     }
 
+    // How many of the map's bindings change a variable of the set, and how many bindings there are.
+    fn count_changes(&self, map: u32, set: u32) -> (usize, usize)
+        requires map { IsMapAt self.now map }
+        requires set { AreVariablesAt self.now set }
+        ensures none { (result.0 ≡ 0) ↔ (restricted (map_at self.now map) (variables_at self.now set) ≡ fin.empty) }
+        ensures all { result.0 ≡ result.1 → restricted (map_at self.now map) (variables_at self.now set) ≡ map_at self.now map }
+    {
+        self.known();
+        let Key::Map(variables, terms) = self.key(map) else {
+            unreachable!()
+        };
+        let (keys, values) = (variables.as_slice(), terms.as_slice());
+        let changes = count_needed(keys, values, self.variable_numbers(set));
+        (changes, keys.len())
+    }
+
+    /// Whether the map changes no variable of the set. Then it changes nothing whose free variables are in the set.
+    pub fn fixes_all(&self, map: u32, set: u32) -> bool
+        requires map { IsMapAt self.now map }
+        requires set { AreVariablesAt self.now set }
+        ensures { IsTrue result ↔ (restricted (map_at self.now map) (variables_at self.now set) ≡ fin.empty) }
+    {
+        let (changes, _) = self.count_changes(map, set);
+        changes == 0
+    }
+
     /// The map's bindings of the variables of a set, but for those that send a variable to itself. It does the same to all formulas whose
-    /// free variables are in the set.
+    /// free variables are in the set. A map all of whose bindings are such keeps its number, and no list is made.
     pub fn restrict(&mut self, alloc: Global, map: u32, set: u32) -> Result<u32, AllocError>
         requires map { IsMapAt self.old map }
         requires set { AreVariablesAt self.old set }
         ensures map { IfOk result (λ n. HasMap self.new n (restricted (map_at self.old map) (variables_at self.old set))) }
         ensures grown { Extends self.old self.new }
     {
+        let (changes, bindings) = self.count_changes(map, set);
+        if changes == bindings {
+            return Ok(map);
+        }
         self.known();
         let Key::Map(variables, terms) = self.key(map) else {
             unreachable!()
@@ -115,16 +145,5 @@ impl Arena {
         ensures grown { Extends self.old self.new }
     {
         self.import_bindings(alloc, map.as_slice())
-    }
-
-    /// Whether a map has no binding.
-    pub fn is_without_binding(&self, map: u32) -> bool
-        requires { IsMapAt self.now map }
-        ensures { IsTrue result ↔ (map_at self.now map ≡ fin.empty) }
-    {
-        match self.key(map) {
-            Key::Map(variables, _) => variables.as_slice().is_empty(),
-            _ => unreachable!(),
-        }
     }
 }

@@ -170,7 +170,8 @@ impl Arena {
         Ok(images)
     }
 
-    /// The image of a set of formulas under a map. Formulas that fall together become one.
+    /// The image of a set of formulas under a map. Formulas that fall together become one. A set of whose free variables the map changes none
+    /// keeps its number, and none of its formulas is looked at.
     pub fn image_of_side(&mut self, alloc: Global, map: u32, side: u32) -> Result<u32, AllocError>
         requires map { IsMapAt self.old map }
         requires side { IsSideAt self.old side }
@@ -180,6 +181,10 @@ impl Arena {
         let task = Task::Image(map, side);
         if let Some(number) = self.look_up(task) {
             return Ok(number);
+        }
+        let vars = self.side_vars(alloc, side)?;
+        if self.fixes_all(map, vars) {
+            return Ok(side);
         }
         let number = self.image_of_members(alloc, map, side)?;
         self.note(task, number)?;

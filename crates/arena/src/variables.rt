@@ -56,15 +56,17 @@ impl Arena {
         finite::search(self.variable_numbers(number), &variable).is_ok()
     }
 
-    // Whether the set has no variable.
-    fn is_without_variable(&self, number: u32) -> bool
-        requires { AreVariablesAt self.now number }
-        ensures { IsTrue result → variables_at self.now number ≡ set.empty }
+    // Whether each variable of the first set is in the second.
+    fn are_variables_within(&self, first: u32, second: u32) -> bool
+        requires first { AreVariablesAt self.now first }
+        requires second { AreVariablesAt self.now second }
+        ensures { result ≡ set.subset (variables_at self.now first) (variables_at self.now second) }
     {
-        self.variable_numbers(number).is_empty()
+        self.known();
+        finite::is_within(self.variable_numbers(first), self.variable_numbers(second))
     }
 
-    // That of two sets which has the variables of both, where one look shows it.
+    // That of two sets which has the variables of both, if one does.
     #[tactic(auto, using(crate::proofs::Unions::kept_both, crate::proofs::Unions::kept_first, crate::proofs::Unions::kept_second))]
     fn larger_variables(&self, first: u32, second: u32) -> Option<u32>
         requires first { AreVariablesAt self.now first }
@@ -74,16 +76,16 @@ impl Arena {
         if first == second {
             return Some(first);
         }
-        if self.is_without_variable(second) {
+        if self.are_variables_within(second, first) {
             return Some(first);
         }
-        if self.is_without_variable(first) {
+        if self.are_variables_within(first, second) {
             return Some(second);
         }
         None
     }
 
-    /// The variables of both sets. Where one set has none, or both are one set, it takes no walk.
+    /// The variables of both sets. Where one set has all of them, nothing is put; where both are one set, it takes no walk.
     pub fn union_variables(
         &mut self,
         alloc: Global,

@@ -15,13 +15,15 @@ use Rattle.interp_laws.specs.Interpolation.{Interpolation, part, quantified, clo
 use Rattle.arena_cells.specs.declared.key.RuleKey.TheVariants.{AllL, AllR, ExL, ExR}
 use Rattle.arena_cells.specs.declared.key.Parts.TheVariants.{One}
 use Rattle.arena_cells.specs.Items.{Item}
-use Rattle.arena_cells.specs.Standing.{Extends, HasFormula, HasVariable, formula_at, variable_at, term_at, sequent_at, IsVariableAt, IsSequentAt}
+use Rattle.arena_cells.specs.Standing.{Stands, Extends, HasFormula, HasVariable, formula_at, variable_at, term_at, sequent_at, IsFormulaAt, IsVariableAt, IsSequentAt}
+use Rattle.arena_cells.specs.Meaning.{meaning, HasParts}
 use Rattle.arena_cells.proofs.Staying.{is_formula, is_term, is_variable, variable_term, variable_stays, variable_there, sequent_stays, tree_stays, tree_there}
 use Rattle.arena_cells.proofs.Facts as facts
 use Rattle.arena_interp.specs.declared.interpolated.Interpolated.{Interpolated}
 use Rattle.arena_interp.specs.Closing.{closed_once, closed_outside}
-use Rattle.arena_interp.specs.Endings.{IsEndingAt, concluded}
-use Rattle.arena_interp.specs.Partitions.{IsInterpolatedAt, interpolation_at, part_number}
+use Rattle.arena_interp.specs.Endings.{IsEndingAt, concluded, concluded_on}
+use Rattle.arena_interp.specs.BySide.{quantifier_key, variable_rule, term_rule}
+use Rattle.arena_interp.specs.Partitions.{IsInterpolatedAt, interpolation_at, number_of, other_number, part_number}
 use Rattle.arena_interp.proofs.LastInferences.{larger}
 
 module _ (a b d : List Item) (grown : Extends a b) (more_grown : Extends b d) (one two v body f : ℕ) (made : Interpolated) (first : IsSequentAt a one) (second : IsSequentAt a two) (variable : IsVariableAt a v) (there : IsInterpolatedAt a made)
@@ -39,13 +41,13 @@ module _ (a b d : List Item) (grown : Extends a b) (more_grown : Extends b d) (o
     all_is : formula_at d f ≡ all (bind (formula_at a made.formula) (variable_at a v))
     all_is = is_formula d f _ universal ∙ ap all (is_formula b body _ bound)
 
-    pub all_first : IsEndingAt d (record { rule = AllR f v; premises = One made.first })
+    all_first : IsEndingAt d (record { rule = AllR f v; premises = One made.first })
     all_first = record { rule = (facts.formula_there d f _ universal, variable_later); premises = tree_there a d whole made.first there.first }
 
-    pub all_second : IsEndingAt d (record { rule = AllL f v; premises = One made.second })
+    all_second : IsEndingAt d (record { rule = AllL f v; premises = One made.second })
     all_second = record { rule = (facts.formula_there d f _ universal, variable_term d v variable_later); premises = tree_there a d whole made.second there.second }
 
-    pub all_quantified : concluded d (sequent_at d one) (sequent_at d two) (formula_at d f) (record { rule = AllR f v; premises = One made.first }) (record { rule = AllL f v; premises = One made.second })
+    all_quantified : concluded d (sequent_at d one) (sequent_at d two) (formula_at d f) (record { rule = AllR f v; premises = One made.first }) (record { rule = AllL f v; premises = One made.second })
         ≡ quantified Right (sequent_at a one) (sequent_at a two) (variable_at a v) (interpolation_at a made)
     all_quantified = λ i. record {
       formula = all_is i;
@@ -57,19 +59,42 @@ module _ (a b d : List Item) (grown : Extends a b) (more_grown : Extends b d) (o
     ex_is : formula_at d f ≡ ex (bind (formula_at a made.formula) (variable_at a v))
     ex_is = is_formula d f _ existential ∙ ap ex (is_formula b body _ bound)
 
-    pub ex_first : IsEndingAt d (record { rule = ExR f v; premises = One made.first })
+    ex_first : IsEndingAt d (record { rule = ExR f v; premises = One made.first })
     ex_first = record { rule = (facts.formula_there d f _ existential, variable_term d v variable_later); premises = tree_there a d whole made.first there.first }
 
-    pub ex_second : IsEndingAt d (record { rule = ExL f v; premises = One made.second })
+    ex_second : IsEndingAt d (record { rule = ExL f v; premises = One made.second })
     ex_second = record { rule = (facts.formula_there d f _ existential, variable_later); premises = tree_there a d whole made.second there.second }
 
-    pub ex_quantified : concluded d (sequent_at d one) (sequent_at d two) (formula_at d f) (record { rule = ExR f v; premises = One made.first }) (record { rule = ExL f v; premises = One made.second })
+    ex_quantified : concluded d (sequent_at d one) (sequent_at d two) (formula_at d f) (record { rule = ExR f v; premises = One made.first }) (record { rule = ExL f v; premises = One made.second })
         ≡ quantified Left (sequent_at a one) (sequent_at a two) (variable_at a v) (interpolation_at a made)
     ex_quantified = λ i. record {
       formula = ex_is i;
       first = node (rule.ExR (ex_is i) (term_is i)) (adds_to (sequent_stays a d whole one first i) Right (ex_is i)) (more (tree_stays a d whole made.first there.first i) none);
       second = node (rule.ExL (ex_is i) (variable_stays a d whole v variable i)) (adds_to (sequent_stays a d whole two second i) Left (ex_is i)) (more (tree_stays a d whole made.second there.second i) none);
     }
+
+  -- by sides
+  pub quantifier_there : (m : Side) → Stands d f (meaning b (quantifier_key m body)) → IsFormulaAt d f
+  quantifier_there Right h = facts.formula_there d f _ h
+  quantifier_there Left h = facts.formula_there d f _ h
+
+  pub own_ending : (m : Side) → Stands d f (meaning b (quantifier_key m body)) → IsEndingAt d (record { rule = variable_rule m f v; premises = One (number_of made m) })
+  own_ending Right h = all_first h
+  own_ending Left h = ex_second h
+
+  pub other_ending : (m : Side) → Stands d f (meaning b (quantifier_key m body)) → IsEndingAt d (record { rule = term_rule m f v; premises = One (other_number made m) })
+  other_ending Right h = all_second h
+  other_ending Left h = ex_first h
+
+  pub quantified_made : (m : Side) → Stands d f (meaning b (quantifier_key m body))
+      → concluded_on d m (sequent_at d one) (sequent_at d two) (formula_at d f) (record { rule = variable_rule m f v; premises = One (number_of made m) }) (record { rule = term_rule m f v; premises = One (other_number made m) })
+      ≡ quantified m (sequent_at a one) (sequent_at a two) (variable_at a v) (interpolation_at a made)
+  quantified_made Right h = all_quantified h
+  quantified_made Left h = ex_quantified h
+
+pub quantifier_parts : (a : List Item) (m : Side) (body : ℕ) → IsFormulaAt a body → HasParts a (quantifier_key m body)
+quantifier_parts a Right body h = h
+quantifier_parts a Left body h = h
 
 -- one variable after those of the rest of a list
 pub closed_step : (m : Side) (s t : Sequent) (x : Var) (xs : List Var) (i : Interpolation) → closed_once m s t x (closed_outside m s t xs i) ≡ closed_outside m s t (x ∷ xs) i

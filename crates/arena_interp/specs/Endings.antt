@@ -2,6 +2,7 @@
 --     IsEndingAt      the rule and the premises stand at the numbers
 --     ended      the proof of a sequent with a formula on that side too, by such an inference
 --     concluded      the interpolation with a formula whose proofs end so
+--     concluded_on      the same, by the inference of the proof in which the formula stands on a side, and the other one
 use Rattle.std.specs.Prelude.{List}
 use Rattle.fol.specs.Syntax.{Formula}
 use Rattle.lk_rules.specs.declared.sequent.Sequent.{Sequent}
@@ -23,3 +24,7 @@ ended a e s side f = node (rule_at a e.rule) (adds_to s side f) (trees_at a e.pr
 
 abbrev pub concluded : List Item → Sequent → Sequent → Formula → Ending → Ending → Interpolation
 concluded a one two f x y = record { formula = f; first = ended a x one Right f; second = ended a y two Left f }
+
+abbrev pub concluded_on : List Item → Side → Sequent → Sequent → Formula → Ending → Ending → Interpolation
+concluded_on a Right one two f own other = concluded a one two f own other
+concluded_on a Left one two f own other = concluded a one two f other own

@@ -4,6 +4,8 @@
 --     IsInterpolatedAt, interpolation_at      an interpolation stands at the numbers; which one it is
 --     HasInterpolation      a given one stands there
 --     number_of      the number of the proof in which the interpolant stands on that side
+--     other_number      that of the other proof
+--     with_number      the same with another proof on that side
 --     part_number      the number of the part of that name
 --     IsKnown, AreKnown      what a table says of the interpolations that were found
 use Rattle.std.specs.Prelude.{ℕ, List, IfSome}
@@ -44,6 +46,14 @@ pub record HasInterpolation (a : List Item) (i : Interpolation) (n : Interpolate
 abbrev pub number_of : Interpolated → Side → ℕ
 number_of n Right = n.first
 number_of n Left = n.second
+
+abbrev pub other_number : Interpolated → Side → ℕ
+other_number n Right = n.second
+other_number n Left = n.first
+
+abbrev pub with_number : Interpolated → Side → ℕ → Interpolated
+with_number n Right p = record n { first = p }
+with_number n Left p = record n { second = p }
 
 -- the number of the part of that name
 abbrev pub part_number : ℕ → ℕ → Side → ℕ

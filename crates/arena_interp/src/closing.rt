@@ -1,77 +1,19 @@
 //! Quantifiers that are put around an interpolant.
-ghost use Rattle.std.specs.Prelude.{◌≡◌, IfOk};
+ghost use Rattle.std.specs.Prelude.{IfOk};
 ghost use Rattle.finite.specs.Finite as set;
 ghost use Rattle.free_variables.specs.Occurrence.{vars_formula};
-ghost use Rattle.lk_rules.specs.declared.sequent.Side.TheVariants.{Left, Right};
 ghost use Rattle.interp_laws.specs.Interpolation.{quantified};
 ghost use Rattle.arena_cells.specs.Standing.{Extends, formula_at, variable_at, sequent_at, IsFormulaAt, IsVariableAt, IsSequentAt};
 ghost use Rattle.arena_interp.specs.Closing.{closed_once, closed_outside};
-ghost use Rattle.arena_interp.specs.Partitions.{IsInterpolatedAt, interpolation_at, HasInterpolation, part_number};
+ghost use Rattle.arena_interp.specs.Partitions.{IsInterpolatedAt, interpolation_at, HasInterpolation};
 
-use crate::endings::{Ending, conclude};
+use crate::by_side::{part_at, quantifier, quantifier_rules};
+use crate::endings::{Ending, conclude_on};
 use crate::interpolated::Interpolated;
-use arena::{Arena, Key, Parts, RuleKey};
+use arena::{Arena, Parts};
 use fol::Var;
 use lk_rules::Side;
 use std::alloc::{AllocError, Global};
-
-// Universally, for the first part.
-fn for_all(
-    arena: &mut Arena,
-    alloc: Global,
-    one: u32,
-    two: u32,
-    variable: u32,
-    made: Interpolated,
-) -> Result<Interpolated, AllocError>
-    requires one { IsSequentAt arena.old one }
-    requires two { IsSequentAt arena.old two }
-    requires variable { IsVariableAt arena.old variable }
-    requires made { IsInterpolatedAt arena.old made }
-    ensures made { IfOk result (HasInterpolation arena.new (quantified Right (sequent_at arena.old one) (sequent_at arena.old two) (variable_at arena.old variable) (interpolation_at arena.old made))) }
-    ensures grown { Extends arena.old arena.new }
-{
-    let body = arena.bind(alloc, made.formula, variable)?;
-    let formula = arena.put(alloc, Key::All(body))?;
-    let first = Ending {
-        rule: RuleKey::AllR(formula, variable),
-        premises: Parts::One(made.first),
-    };
-    let second = Ending {
-        rule: RuleKey::AllL(formula, variable),
-        premises: Parts::One(made.second),
-    };
-    conclude(arena, alloc, one, two, formula, first, second)
-}
-
-// Existentially, for the second part.
-fn for_some(
-    arena: &mut Arena,
-    alloc: Global,
-    one: u32,
-    two: u32,
-    variable: u32,
-    made: Interpolated,
-) -> Result<Interpolated, AllocError>
-    requires one { IsSequentAt arena.old one }
-    requires two { IsSequentAt arena.old two }
-    requires variable { IsVariableAt arena.old variable }
-    requires made { IsInterpolatedAt arena.old made }
-    ensures made { IfOk result (HasInterpolation arena.new (quantified Left (sequent_at arena.old one) (sequent_at arena.old two) (variable_at arena.old variable) (interpolation_at arena.old made))) }
-    ensures grown { Extends arena.old arena.new }
-{
-    let body = arena.bind(alloc, made.formula, variable)?;
-    let formula = arena.put(alloc, Key::Ex(body))?;
-    let first = Ending {
-        rule: RuleKey::ExR(formula, variable),
-        premises: Parts::One(made.first),
-    };
-    let second = Ending {
-        rule: RuleKey::ExL(formula, variable),
-        premises: Parts::One(made.second),
-    };
-    conclude(arena, alloc, one, two, formula, first, second)
-}
 
 // The interpolant with the variable quantified for that part.
 fn quantify(
@@ -90,20 +32,18 @@ fn quantify(
     ensures made { IfOk result (HasInterpolation arena.new (quantified side (sequent_at arena.old one) (sequent_at arena.old two) (variable_at arena.old variable) (interpolation_at arena.old made))) }
     ensures grown { Extends arena.old arena.new }
 {
-    match side {
-        Side::Right => for_all(arena, alloc, one, two, variable, made),
-        Side::Left => for_some(arena, alloc, one, two, variable, made),
-    }
-}
-
-// The number of the part of that name.
-fn part_at(side: Side, one: u32, two: u32) -> u32
-    ensures { result ≡ part_number one two side }
-{
-    match side {
-        Side::Right => one,
-        Side::Left => two,
-    }
+    let body = arena.bind(alloc, made.formula, variable)?;
+    let formula = arena.put(alloc, quantifier(side, body))?;
+    let (rule, other_rule) = quantifier_rules(side, formula, variable);
+    let own = Ending {
+        rule,
+        premises: Parts::One(made.proof(side)),
+    };
+    let other = Ending {
+        rule: other_rule,
+        premises: Parts::One(made.other_proof(side)),
+    };
+    conclude_on(arena, alloc, side, one, two, formula, own, other)
 }
 
 // The interpolant with the variable quantified, unless it is free in its part.

@@ -1,7 +1,7 @@
 //! The last inferences of the two proofs of an interpolation.
 ghost use Rattle.std.specs.Prelude.{IfOk};
 ghost use Rattle.arena_cells.specs.Standing.{Extends, HasTree, formula_at, sequent_at, IsFormulaAt, IsSequentAt};
-ghost use Rattle.arena_interp.specs.Endings.{IsEndingAt, ended, concluded};
+ghost use Rattle.arena_interp.specs.Endings.{IsEndingAt, ended, concluded, concluded_on};
 ghost use Rattle.arena_interp.specs.Partitions.{HasInterpolation};
 
 use crate::interpolated::Interpolated;
@@ -61,4 +61,29 @@ pub(crate) fn conclude(
         first,
         second,
     })
+}
+
+/// The same by sides: the first of these last inferences is that of the proof in which the interpolant stands on that side.
+pub(crate) fn conclude_on(
+    arena: &mut Arena,
+    alloc: Global,
+    side: Side,
+    one: u32,
+    two: u32,
+    formula: u32,
+    own: Ending,
+    other: Ending,
+) -> Result<Interpolated, AllocError>
+    requires one { IsSequentAt arena.old one }
+    requires two { IsSequentAt arena.old two }
+    requires formula { IsFormulaAt arena.old formula }
+    requires own { IsEndingAt arena.old own }
+    requires other { IsEndingAt arena.old other }
+    ensures made { IfOk result (HasInterpolation arena.new (concluded_on arena.old side (sequent_at arena.old one) (sequent_at arena.old two) (formula_at arena.old formula) own other)) }
+    ensures grown { Extends arena.old arena.new }
+{
+    match side {
+        Side::Right => conclude(arena, alloc, one, two, formula, own, other),
+        Side::Left => conclude(arena, alloc, one, two, formula, other, own),
+    }
 }

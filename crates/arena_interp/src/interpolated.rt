@@ -1,6 +1,6 @@
 //! Interpolations by their numbers.
 ghost use Rattle.std.specs.Prelude.{◌≡◌};
-ghost use Rattle.arena_interp.specs.Partitions.{number_of};
+ghost use Rattle.arena_interp.specs.Partitions.{number_of, other_number, with_number};
 
 use lk_rules::Side;
 
@@ -20,6 +20,32 @@ impl Interpolated {
         match side {
             Side::Right => self.first,
             Side::Left => self.second,
+        }
+    }
+
+    /// The number of the other proof.
+    pub(crate) fn other_proof(self, side: Side) -> u32
+        ensures { result ≡ other_number self side }
+    {
+        match side {
+            Side::Right => self.second,
+            Side::Left => self.first,
+        }
+    }
+
+    /// The same with another proof in which the interpolant stands on that side.
+    pub(crate) fn with_proof(self, side: Side, proof: u32) -> Interpolated
+        ensures { result ≡ with_number self side proof }
+    {
+        match side {
+            Side::Right => Interpolated {
+                first: proof,
+                ..self
+            },
+            Side::Left => Interpolated {
+                second: proof,
+                ..self
+            },
         }
     }
 }

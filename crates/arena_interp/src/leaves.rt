@@ -10,65 +10,14 @@ ghost use Rattle.arena_cells.specs.Standing.{Extends, HasTree, formula_at, seque
 ghost use Rattle.arena_cells.specs.Meaning.{rule_at, HasRuleParts};
 ghost use Rattle.arena_interp.specs.Partitions.{HasInterpolation};
 
-use crate::endings::{Ending, conclude, infer_with};
+use crate::by_side::{constant, constant_rule};
+use crate::endings::{Ending, conclude, conclude_on, infer_with};
 use crate::interpolated::Interpolated;
 use arena::{Arena, Key, Parts, RuleKey};
 use lk_rules::Side;
 use std::alloc::{AllocError, Global};
 
-// By falsehood: the rule proves the first part.
-fn at_first(
-    arena: &mut Arena,
-    alloc: Global,
-    rule: RuleKey,
-    one: u32,
-    two: u32,
-) -> Result<Interpolated, AllocError>
-    requires rule { HasRuleParts arena.old rule }
-    requires one { IsSequentAt arena.old one }
-    requires two { IsSequentAt arena.old two }
-    ensures made { IfOk result (HasInterpolation arena.new (at_leaf Right (rule_at arena.old rule) (sequent_at arena.old one) (sequent_at arena.old two))) }
-    ensures grown { Extends arena.old arena.new }
-{
-    let formula = arena.put(alloc, Key::Bot)?;
-    let first = Ending {
-        rule,
-        premises: Parts::Zero,
-    };
-    let second = Ending {
-        rule: RuleKey::BotL,
-        premises: Parts::Zero,
-    };
-    conclude(arena, alloc, one, two, formula, first, second)
-}
-
-// By truth: the rule proves the second part.
-fn at_second(
-    arena: &mut Arena,
-    alloc: Global,
-    rule: RuleKey,
-    one: u32,
-    two: u32,
-) -> Result<Interpolated, AllocError>
-    requires rule { HasRuleParts arena.old rule }
-    requires one { IsSequentAt arena.old one }
-    requires two { IsSequentAt arena.old two }
-    ensures made { IfOk result (HasInterpolation arena.new (at_leaf Left (rule_at arena.old rule) (sequent_at arena.old one) (sequent_at arena.old two))) }
-    ensures grown { Extends arena.old arena.new }
-{
-    let formula = arena.put(alloc, Key::Top)?;
-    let first = Ending {
-        rule: RuleKey::TopR,
-        premises: Parts::Zero,
-    };
-    let second = Ending {
-        rule,
-        premises: Parts::Zero,
-    };
-    conclude(arena, alloc, one, two, formula, first, second)
-}
-
-/// The interpolation of an inference without premises whose main formula is of that part.
+/// The interpolation of an inference without premises whose main formula is of that part: by a constant that proves the other part.
 pub(crate) fn leaf(
     arena: &mut Arena,
     alloc: Global,
@@ -83,10 +32,16 @@ pub(crate) fn leaf(
     ensures made { IfOk result (HasInterpolation arena.new (at_leaf side (rule_at arena.old rule) (sequent_at arena.old one) (sequent_at arena.old two))) }
     ensures grown { Extends arena.old arena.new }
 {
-    match side {
-        Side::Right => at_first(arena, alloc, rule, one, two),
-        Side::Left => at_second(arena, alloc, rule, one, two),
-    }
+    let formula = arena.put(alloc, constant(side))?;
+    let own = Ending {
+        rule,
+        premises: Parts::Zero,
+    };
+    let other = Ending {
+        rule: constant_rule(side),
+        premises: Parts::Zero,
+    };
+    conclude_on(arena, alloc, side, one, two, formula, own, other)
 }
 
 // An axiom whose formula is on the left of the first part and on the right of the second: the formula itself.

@@ -1,6 +1,7 @@
 //! Interpolation of the proofs of an arena, after Maehara (1960). Each proof is worked on once for each two parts that it gets.
 #![tactic(auto)]
 
+mod by_side;
 mod closing;
 mod endings;
 mod interpolated;

@@ -1,12 +1,11 @@
 //! The interpolations of inferences with one premise.
 ghost use Rattle.std.specs.Prelude.{IfOk};
-ghost use Rattle.lk_rules.specs.declared.sequent.Sequent.{Sequent as Conclusion};
-ghost use Rattle.lk_rules.specs.declared.sequent.Side.TheVariants.{Left, Right};
 ghost use Rattle.interp_laws.specs.Interpolation.{inferred, over_one as interpolation_over_one};
 ghost use Rattle.arena_cells.specs.Standing.{Extends, sequent_at, IsSequentAt};
 ghost use Rattle.arena_cells.specs.Meaning.{rule_at, HasRuleParts};
 ghost use Rattle.arena_interp.specs.Partitions.{IsInterpolatedAt, interpolation_at, HasInterpolation};
 
+use crate::by_side::part_at;
 use crate::closing::close;
 use crate::endings::{Ending, infer_with};
 use crate::interpolated::Interpolated;
@@ -14,64 +13,6 @@ use arena::{Arena, Parts, RuleKey};
 use arena_proofs::rule_term;
 use lk_rules::Side;
 use std::alloc::{AllocError, Global};
-
-// The rule at the root of the proof of the first part.
-fn infer_first(
-    arena: &mut Arena,
-    alloc: Global,
-    rule: RuleKey,
-    one: u32,
-    made: Interpolated,
-) -> Result<Interpolated, AllocError>
-    requires rule { HasRuleParts arena.old rule }
-    requires one { IsSequentAt arena.old one }
-    requires made { IsInterpolatedAt arena.old made }
-    ensures made { (other : Conclusion) → IfOk result (HasInterpolation arena.new (inferred Right (rule_at arena.old rule) (sequent_at arena.old one) other (interpolation_at arena.old made))) }
-    ensures grown { Extends arena.old arena.new }
-{
-    let Interpolated {
-        formula,
-        first,
-        second,
-    } = made;
-    let premises = Parts::One(first);
-    let ending = Ending { rule, premises };
-    let first = infer_with(arena, alloc, one, Side::Right, formula, ending)?;
-    Ok(Interpolated {
-        formula,
-        first,
-        second,
-    })
-}
-
-// The rule at the root of the proof of the second part.
-fn infer_second(
-    arena: &mut Arena,
-    alloc: Global,
-    rule: RuleKey,
-    two: u32,
-    made: Interpolated,
-) -> Result<Interpolated, AllocError>
-    requires rule { HasRuleParts arena.old rule }
-    requires two { IsSequentAt arena.old two }
-    requires made { IsInterpolatedAt arena.old made }
-    ensures made { (other : Conclusion) → IfOk result (HasInterpolation arena.new (inferred Left (rule_at arena.old rule) other (sequent_at arena.old two) (interpolation_at arena.old made))) }
-    ensures grown { Extends arena.old arena.new }
-{
-    let Interpolated {
-        formula,
-        first,
-        second,
-    } = made;
-    let premises = Parts::One(second);
-    let ending = Ending { rule, premises };
-    let second = infer_with(arena, alloc, two, Side::Left, formula, ending)?;
-    Ok(Interpolated {
-        formula,
-        first,
-        second,
-    })
-}
 
 // The rule at the root of the proof of its part.
 fn infer(
@@ -90,10 +31,11 @@ fn infer(
     ensures made { IfOk result (HasInterpolation arena.new (inferred side (rule_at arena.old rule) (sequent_at arena.old one) (sequent_at arena.old two) (interpolation_at arena.old made))) }
     ensures grown { Extends arena.old arena.new }
 {
-    match side {
-        Side::Right => infer_first(arena, alloc, rule, one, made),
-        Side::Left => infer_second(arena, alloc, rule, two, made),
-    }
+    let part = part_at(side, one, two);
+    let premises = Parts::One(made.proof(side));
+    let ending = Ending { rule, premises };
+    let proof = infer_with(arena, alloc, part, side, made.formula, ending)?;
+    Ok(made.with_proof(side, proof))
 }
 
 /// The interpolation of an inference with one premise whose main formula is of that part, by that of the premise. Where the rule puts a

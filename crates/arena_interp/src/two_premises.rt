@@ -1,14 +1,14 @@
 //! The interpolations of inferences with two premises.
 ghost use Rattle.std.specs.Prelude.{IfOk};
-ghost use Rattle.fol.specs.Syntax.{or, and};
-ghost use Rattle.interp_laws.specs.Interpolation.{both_over, with_or, with_and, joined};
+ghost use Rattle.interp_laws.specs.Interpolation.{both_over, joined};
 ghost use Rattle.arena_cells.specs.Standing.{Extends, HasTree, sequent_at, formula_at, IsSequentAt, IsFormulaAt};
 ghost use Rattle.arena_cells.specs.Meaning.{rule_at, HasRuleParts};
 ghost use Rattle.arena_interp.specs.Partitions.{IsInterpolatedAt, interpolation_at, HasInterpolation};
 
-use crate::endings::{Ending, conclude, infer_with};
+use crate::by_side::{connective, connective_rules, part_at};
+use crate::endings::{Ending, conclude_on, infer_with};
 use crate::interpolated::Interpolated;
-use arena::{Arena, Key, Parts, RuleKey};
+use arena::{Arena, Parts, RuleKey};
 use lk_rules::Side;
 use std::alloc::{AllocError, Global};
 
@@ -41,69 +41,8 @@ fn infer_both(
     )
 }
 
-// By the disjunction: the rule is in the proof of the first part.
-fn either(
-    arena: &mut Arena,
-    alloc: Global,
-    rule: RuleKey,
-    one: u32,
-    two: u32,
-    left: Interpolated,
-    right: Interpolated,
-) -> Result<Interpolated, AllocError>
-    requires rule { HasRuleParts arena.old rule }
-    requires one { IsSequentAt arena.old one }
-    requires two { IsSequentAt arena.old two }
-    requires left { IsInterpolatedAt arena.old left }
-    requires right { IsInterpolatedAt arena.old right }
-    ensures made { IfOk result (HasInterpolation arena.new (with_or (or (formula_at arena.old left.formula) (formula_at arena.old right.formula)) (rule_at arena.old rule) (sequent_at arena.old one) (sequent_at arena.old two) (interpolation_at arena.old left) (interpolation_at arena.old right))) }
-    ensures grown { Extends arena.old arena.new }
-{
-    let above = infer_both(arena, alloc, Side::Right, rule, one, left, right)?;
-    let formula = arena.put(alloc, Key::Or(left.formula, right.formula))?;
-    let first = Ending {
-        rule: RuleKey::OrR(formula),
-        premises: Parts::One(above),
-    };
-    let second = Ending {
-        rule: RuleKey::OrL(formula),
-        premises: Parts::Two(left.second, right.second),
-    };
-    conclude(arena, alloc, one, two, formula, first, second)
-}
-
-// By the conjunction: the rule is in the proof of the second part.
-fn both(
-    arena: &mut Arena,
-    alloc: Global,
-    rule: RuleKey,
-    one: u32,
-    two: u32,
-    left: Interpolated,
-    right: Interpolated,
-) -> Result<Interpolated, AllocError>
-    requires rule { HasRuleParts arena.old rule }
-    requires one { IsSequentAt arena.old one }
-    requires two { IsSequentAt arena.old two }
-    requires left { IsInterpolatedAt arena.old left }
-    requires right { IsInterpolatedAt arena.old right }
-    ensures made { IfOk result (HasInterpolation arena.new (with_and (and (formula_at arena.old left.formula) (formula_at arena.old right.formula)) (rule_at arena.old rule) (sequent_at arena.old one) (sequent_at arena.old two) (interpolation_at arena.old left) (interpolation_at arena.old right))) }
-    ensures grown { Extends arena.old arena.new }
-{
-    let above = infer_both(arena, alloc, Side::Left, rule, two, left, right)?;
-    let formula = arena.put(alloc, Key::And(left.formula, right.formula))?;
-    let first = Ending {
-        rule: RuleKey::AndR(formula),
-        premises: Parts::Two(left.first, right.first),
-    };
-    let second = Ending {
-        rule: RuleKey::AndL(formula),
-        premises: Parts::One(above),
-    };
-    conclude(arena, alloc, one, two, formula, first, second)
-}
-
-/// The interpolation of an inference with two premises whose main formula is of that part, by those of the premises.
+/// The interpolation of an inference with two premises whose main formula is of that part, by those of the premises: the rule stands in the
+/// proof of its part, with both interpolants.
 pub(crate) fn join(
     arena: &mut Arena,
     alloc: Global,
@@ -122,8 +61,17 @@ pub(crate) fn join(
     ensures made { IfOk result (HasInterpolation arena.new (joined side (rule_at arena.old rule) (sequent_at arena.old one) (sequent_at arena.old two) (interpolation_at arena.old left) (interpolation_at arena.old right))) }
     ensures grown { Extends arena.old arena.new }
 {
-    match side {
-        Side::Right => either(arena, alloc, rule, one, two, left, right),
-        Side::Left => both(arena, alloc, rule, one, two, left, right),
-    }
+    let part = part_at(side, one, two);
+    let above = infer_both(arena, alloc, side, rule, part, left, right)?;
+    let formula = arena.put(alloc, connective(side, left.formula, right.formula))?;
+    let (rule, other_rule) = connective_rules(side, formula);
+    let own = Ending {
+        rule,
+        premises: Parts::One(above),
+    };
+    let other = Ending {
+        rule: other_rule,
+        premises: Parts::Two(left.other_proof(side), right.other_proof(side)),
+    };
+    conclude_on(arena, alloc, side, one, two, formula, own, other)
 }

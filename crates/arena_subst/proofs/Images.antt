@@ -19,19 +19,18 @@ use Rattle.arena.specs.TreeVariables.{vars_tree}
 use Rattle.arena.proofs.Results.{map_stays}
 use Rattle.arena_subst.proofs.Needed.{needed_part, nothing_needed}
 
--- from the variables of a tree and the part of the map that it needs
-module _ (a b c : List Item) (p m vs n : ℕ) (grown : Extends a b) (more : Extends b c) (there : IsTreeAt a p) (map : IsMapAt a m) (vars : HasVariables b vs (vars_tree (tree_at a p)))
-    (needed : HasMap c n (restricted (map_at b m) (variables_at b vs))) where
-  needed_is : map_at c n ≡ restricted (map_at a m) (vars_tree (tree_at a p))
-  needed_is = is_map c n _ needed ∙ λ i. restricted (map_stays a b grown m map i) (are_variables b vs _ vars i)
+-- from the variables of a tree
+module _ (a b : List Item) (p m vs : ℕ) (grown : Extends a b) (there : IsTreeAt a p) (map : IsMapAt a m) (vars : HasVariables b vs (vars_tree (tree_at a p))) where
+  part_is : restricted (map_at b m) (variables_at b vs) ≡ restricted (map_at a m) (vars_tree (tree_at a p))
+  part_is = λ i. restricted (map_stays a b grown m map i) (are_variables b vs _ vars i)
 
-  pub tree_kept : IsValid (tree_at a p) → map_at c n ≡ fin.empty → HasTree c p (sub (tree_at a p) (map_at a m))
-  tree_kept valid nothing =
-      more p _ (grown p _ there) ∙ ap (λ (t : Tree). Some (tree t)) (nothing_needed (tree_at a p) (map_at a m) valid (sym needed_is ∙ nothing))
+  pub tree_kept : IsValid (tree_at a p) → restricted (map_at b m) (variables_at b vs) ≡ fin.empty → HasTree b p (sub (tree_at a p) (map_at a m))
+  tree_kept valid nothing = grown p _ there ∙ ap (λ (t : Tree). Some (tree t)) (nothing_needed (tree_at a p) (map_at a m) valid (sym part_is ∙ nothing))
 
-  pub tree_needed : sub (tree_at c p) (map_at c n) ≡ sub (tree_at a p) (map_at a m)
-  tree_needed =
-      (λ i. sub ((tree_stays a c (λ k t h. more k t (grown k t h)) p there) i) (needed_is i)) ∙ needed_part (tree_at a p) (map_at a m)
+  -- and from the part of the map that it needs
+  pub tree_needed : (c : List Item) (n : ℕ) → Extends b c → HasMap c n (restricted (map_at b m) (variables_at b vs)) → sub (tree_at c p) (map_at c n) ≡ sub (tree_at a p) (map_at a m)
+  tree_needed c n more needed =
+      (λ i. sub ((tree_stays a c (λ k t h. more k t (grown k t h)) p there) i) ((is_map c n _ needed ∙ part_is) i)) ∙ needed_part (tree_at a p) (map_at a m)
 
 root_image : (t : Tree) (m : Map) → let e = image_sequent (fin.get m) (concl t) in node (image_rule m (rule_of t) e) e (sub_all (below t) (premise_map m (rule_of t) e)) ≡ sub t m
 root_image (node r s ts) m = refl

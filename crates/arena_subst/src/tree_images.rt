@@ -55,10 +55,10 @@ pub fn substitute_in(
     ensures grown { Extends arena.old arena.new }
 {
     let vars = tree_vars(arena, alloc, proof)?;
-    let needed = arena.restrict(alloc, map, vars)?;
-    if arena.is_without_binding(needed) {
+    if arena.fixes_all(map, vars) {
         return Ok(proof);
     }
+    let needed = arena.restrict(alloc, map, vars)?;
     image_once(arena, alloc, proof, needed)
 }
 

@@ -1,7 +1,5 @@
 -- What isn't refused is as interpolation asks for.
-use Rattle.std.proofs.Common.{◌≡◌, ℕ, ◌<◌, ◌≤◌, ◌^◌, true, false, ◌&&◌, ◌||◌, None, Some, Ok, List, refl, sym, ap, subst, ◌∙◌, lit≤, arith}
-use Rattle.std.specs.Prelude.{IsNone, IfOk}
-use Rattle.std.specs.List.{All, list_all}
+use Rattle.std.proofs.Common.{◌≡◌, ℕ, ◌<◌, ◌≤◌, true, false, None, Ok, refl, sym, subst, arith}
 use Rattle.std.proofs.lemmas.List.Sums.{list_all-from_AllPass}
 use Rattle.fol.specs.Syntax.{Formula}
 use Rattle.fol.specs.OrderLaws.{formula_total}
@@ -13,17 +11,18 @@ use Rattle.finite.specs.Finite as set
 use Rattle.finite.proofs.Finite.{all-adds}
 use Rattle.lk_rules.specs.declared.sequent.Sequent.{Sequent}
 use Rattle.lk_rules.specs.declared.sequent.Side.TheVariants.{Left, Right}
-use Rattle.lk_rules.specs.Sequents.{adds_to, union_sequent, IsSubsequent}
+use Rattle.lk_rules.specs.Sequents.{adds_to, union_sequent}
 use Rattle.lk_rules.proofs.Listings.{alike}
 use Rattle.proof_trees.specs.Trees.{Tree, concl, IsValid, size}
 use Rattle.proof_trees.specs.Conclusions as conclusions
 use Rattle.proof_trees.specs.Occurrence.{has_body_in_sequent}
 use Rattle.proof_steps.proofs.CutPlaces.{no_first_cut}
+use Rattle.proof_steps.proofs.Found.{plain_found}
 use Rattle.interp_laws.specs.Interpolation.{Interpolation, itp}
 use Rattle.interp_laws.specs.Parts.{IsFormedSequent, HasParts}
 use Rattle.lk_interp.specs.Interpolating.{interpolating, AreProofs}
 use Rattle.lk_interp.proofs.Order.{IsFaultless, faultless}
-use Rattle.lk_interp.proofs.Found.{plain_found, equal_found}
+use Rattle.lk_interp.proofs.Found.{equal_found}
 
 module _ (t : Tree) (one two : Sequent) (n : ℕ) (i : Interpolation) (answered : interpolating t one two n ≡ Ok i) where
   here : IsFaultless t one two n i

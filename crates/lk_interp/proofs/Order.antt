@@ -1,22 +1,17 @@
 -- What an interpolation comes to, by what was found so far: the faults are looked for in their order.
-use Rattle.std.proofs.Common.{◌≡◌, ℕ, ◌<◌, ◌≤◌, Bool, true, false, Option, Some, None, Result, Ok, Err, refl, sym, ap, ◌∙◌, arith}
-use Rattle.std.specs.Prelude.{nat_lt, if◌then◌else◌, IfOk, IfErr}
+use Rattle.std.proofs.Common.{◌≡◌, ℕ, ◌≤◌, Bool, true, false, Option, Some, None, Result, Ok, Err, refl, sym, ap, ◌∙◌, arith}
+use Rattle.std.specs.Prelude.{nat_lt, if◌then◌else◌}
 use Rattle.std.specs.List.{position}
 use Rattle.std.proofs.lemmas.Bool.Decides.{nat_tests}
 use Rattle.lk_rules.specs.declared.sequent.Sequent.{Sequent}
 use Rattle.lk_rules.specs.Sequents.{union_sequent}
 use Rattle.proof_trees.specs.Trees.{Tree, concl, size}
 use Rattle.proof_steps.specs.Places.{steps_of, is_cut_step}
+use Rattle.proof_steps.specs.Faults.{Placed, first_defined, or_fault}
 use Rattle.interp_laws.specs.Interpolation.{Interpolation, itp}
 use Rattle.lk_interp.specs.declared.fault.InterpFault.{InterpFault}
-use Rattle.lk_interp.specs.declared.fault.InterpFault.TheVariants.{Cut, Defined, Partition, Budget, Memory}
-use Rattle.lk_interp.specs.Interpolating.{Placed, first_defined, first_difference, or_fault, interpolating, Interpolates, IsOverBudget}
-
-not_above : (n m : ℕ) → m ≤ n → nat_lt n m ≡ false
-not_above n m h = grind (arith, nat_tests)
-
-is_above : (n m : ℕ) → n < m → nat_lt n m ≡ true
-is_above n m h = grind (arith, nat_tests)
+use Rattle.lk_interp.specs.declared.fault.InterpFault.TheVariants.{Cut, Defined, Partition, Budget}
+use Rattle.lk_interp.specs.Interpolating.{first_difference, interpolating}
 
 within_budget : (n m : ℕ) → nat_lt n m ≡ false → m ≤ n
 within_budget n m h = grind (arith, nat_tests)
@@ -59,23 +54,11 @@ module _ (t : Tree) (one two : Sequent) (n : ℕ) where
       at_difference p e = whole ∙ (λ i. in_order (sym no_cut i) (sym no_body i) (sym e i) (nat_lt n (size t)))
 
       module _ (same : None ≡ difference) where
-        pub at_budget : n < size t → interpolating t one two n ≡ Err Budget
-        at_budget h = whole ∙ (λ i. in_order (sym no_cut i) (sym no_body i) (sym same i) (is_above n (size t) h i))
+        pub at_budget : true ≡ nat_lt n (size t) → interpolating t one two n ≡ Err Budget
+        at_budget e = whole ∙ (λ i. in_order (sym no_cut i) (sym no_body i) (sym same i) (sym e i))
 
-        pub within : size t ≤ n → interpolating t one two n ≡ Ok (itp t one two)
-        within h = whole ∙ (λ i. in_order (sym no_cut i) (sym no_body i) (sym same i) (not_above n (size t) h i))
-
-        pub in_size : (r : Result (Unit {0}) InterpFault) → IfOk r (λ u. size t ≤ n) → IfOk r (λ u. interpolating t one two n ≡ Ok (itp t one two))
-        in_size (Ok u) h = within h
-        in_size (Err e) h = tt
-
-        pub over_size : (r : Result (Unit {0}) InterpFault) → IfErr r (λ fault. IsOverBudget fault (size t) n) → IfErr r (λ fault. Interpolates (Err fault) (interpolating t one two n))
-        over_size (Ok u) h = tt
-        over_size (Err Budget) h = at_budget h
-        over_size (Err Memory) h = tt
-        over_size (Err (Cut k)) h = absurd h
-        over_size (Err (Defined f m)) h = absurd h
-        over_size (Err (Partition f m)) h = absurd h
+        pub within : false ≡ nat_lt n (size t) → interpolating t one two n ≡ Ok (itp t one two)
+        within e = whole ∙ (λ i. in_order (sym no_cut i) (sym no_body i) (sym same i) (sym e i))
 
   -- what isn't refused has no fault
   pub record IsFaultless (i : Interpolation) : Type 0 where

@@ -1,42 +1,24 @@
 -- What an interpolation over a proof comes to.
---     Placed, on_sides      a formula with its side; what is found on the left, else what is found on the right
---     first_defined      the first formula of a sequent in which a predicate symbol has a body
 --     first_difference      the first formula that stands on a side of just one of two sequents
 --     interpolating      the interpolation, or the first reason why there is none
 --     Interpolates      the code answers just that, unless memory runs out
-use Rattle.std.specs.Prelude.{◌≡◌, ◌<◌, ℕ, nat_lt, Bool, true, false, ◌&&◌, not as negated, List, if◌then◌else◌, Option, Some, None, Result, Ok, Err}
+use Rattle.std.specs.Prelude.{◌≡◌, ℕ, nat_lt, ◌&&◌, not as negated, if◌then◌else◌, Option, Result, Ok, Err}
 use Rattle.std.specs.List.{find, position}
 use Rattle.fol.specs.Syntax.{Formula}
-use Rattle.fol.specs.Facts.{has_body}
 use Rattle.fol.specs.Formed.{IsFormed}
 use Rattle.finite.specs.Finite as set
 use Rattle.free_variables.specs.Union.{union_of}
 use Rattle.lk_rules.specs.declared.sequent.Sequent.{Sequent}
-use Rattle.lk_rules.specs.declared.sequent.Side.{Side}
-use Rattle.lk_rules.specs.declared.sequent.Side.TheVariants.{Left, Right}
 use Rattle.lk_rules.specs.Formulas.{FormulaSet}
 use Rattle.lk_rules.specs.Sequents.{union_sequent}
 use Rattle.proof_trees.specs.Trees.{Tree, concl, IsValid, size}
 use Rattle.proof_trees.specs.Conclusions.{HasFormedEnd}
 use Rattle.proof_steps.specs.Places.{steps_of, is_cut_step}
+use Rattle.proof_steps.specs.Faults.{Placed, on_sides, first_defined, or_fault}
 use Rattle.interp_laws.specs.Interpolation.{Interpolation, itp}
 use Rattle.lk_interp.specs.declared.fault.InterpFault.{InterpFault}
 use Rattle.lk_interp.specs.declared.fault.InterpFault.TheVariants.{Cut, Defined, Partition, Budget, Memory}
 use Rattle.lk_interp.specs.declared.interpolation.Interp.{Interp}
-
--- a formula with the side of a sequent on which it stands
-abbrev pub Placed : Type 0
-Placed = Formula × Side
-
--- what is found on the left, else what is found on the right
-abbrev pub on_sides : Option Formula → Option Formula → Option Placed
-on_sides (Some f) right = Some (f, Left)
-on_sides None (Some f) = Some (f, Right)
-on_sides None None = None
-
--- the first formula of the sequent in which a predicate symbol has a body
-abbrev pub first_defined : Sequent → Option Placed
-first_defined s = on_sides (find has_body (set.listing s.left)) (find has_body (set.listing s.right))
 
 -- the first formula that stands in just one of two sets
 abbrev pub first_outside : FormulaSet → FormulaSet → Option Formula
@@ -45,11 +27,6 @@ first_outside a b = find (λ f. negated (set.has a f && set.has b f)) (set.listi
 -- the first formula that stands on a side of just one of two sequents
 abbrev pub first_difference : Sequent → Sequent → Option Placed
 first_difference s t = on_sides (first_outside s.left t.left) (first_outside s.right t.right)
-
--- what is found is the fault; where there is nothing, the rest says what is answered
-abbrev pub or_fault : {A : Type 0} → (A → InterpFault) → Option A → Result Interpolation InterpFault → Result Interpolation InterpFault
-or_fault fault None rest = rest
-or_fault fault (Some a) rest = Err (fault a)
 
 -- The interpolation of a proof by two parts, or the first of the reasons why there is none, in this order: a cut, by its place among the
 -- proof's steps; a formula of the end sequent with a defined symbol; parts that don't make up the end sequent; a tree of more than n nodes.
@@ -78,12 +55,6 @@ Interpolates (Err (Defined f side)) wanted = wanted ≡ Err (Defined f side)
 Interpolates (Err (Partition f side)) wanted = wanted ≡ Err (Partition f side)
 Interpolates (Err Budget) wanted = wanted ≡ Err Budget
 Interpolates (Err Memory) wanted = Unit {0}
-
--- the fault may be answered where the size is compared with the budget
-abbrev pub IsOverBudget : InterpFault → ℕ → ℕ → Type 0
-IsOverBudget Budget size n = n < size
-IsOverBudget Memory size n = Unit {0}
-IsOverBudget fault size n = ⊥
 
 -- the formula that the fault names is well formed
 abbrev pub NamesFormed : InterpFault → Type 0

@@ -1,41 +1,18 @@
 //! The faults that stand in the way of an interpolation, in their order.
-ghost use Rattle.std.specs.Prelude.{◌≡◌, ◌≤◌, ◌&&◌, not as negated, option_copied, Ok, Err, IfOk, IfErr, IfSome};
+ghost use Rattle.std.specs.Prelude.{◌≡◌, ◌&&◌, not as negated, option_copied, Ok, Err, IfOk, IfErr, IfSome};
 ghost use Rattle.std.specs.List.{find};
-ghost use Rattle.fol.specs.Facts.{has_body};
 ghost use Rattle.fol.specs.Formed.{IsFormed};
 ghost use Rattle.finite.specs.Finite as set;
-ghost use Rattle.proof_trees.specs.Trees.{size as size_of};
 ghost use Rattle.proof_graph.specs.Graphs.{IsOf};
 ghost use Rattle.interp_laws.specs.Interpolation.{itp};
-ghost use Rattle.lk_interp.specs.Interpolating.{first_defined as first_defined_formula, first_outside as first_outside_formula, first_difference as first_different_formula, interpolating, Interpolates, IsOverBudget, NamesFormed};
+ghost use Rattle.lk_interp.specs.Interpolating.{first_outside as first_outside_formula, first_difference as first_different_formula, interpolating, Interpolates, NamesFormed};
 
 use crate::fault::InterpFault;
 use fol::Formula;
 use lk_rules::{Formulas, Sequent, Side};
 use proof_graph::{Graph, ProofRef};
-use proof_steps::{first_cut, size};
+use proof_steps::{exceeds, first_cut, first_defined};
 use std::alloc::{AllocError, Global};
-
-// The first formula of a list in which a predicate symbol has a body.
-fn first_with_body(formulas: &[Formula]) -> Option<&Formula>
-    ensures { option_copied result ≡ find has_body formulas.now }
-{
-    formulas.iter().find(|formula| formula.has_body())
-}
-
-// The first formula of the sequent, left before right, in which a predicate symbol has a body.
-fn first_defined(sequent: &Sequent) -> Result<Option<(Formula, Side)>, AllocError>
-    ensures first { IfOk result (λ o. o ≡ first_defined_formula sequent.now) }
-    ensures formed { IfOk result (λ o. IfSome o (λ p. IsFormed p.0)) }
-{
-    if let Some(formula) = first_with_body(sequent.left()) {
-        return Ok(Some((formula.copy()?, Side::Left)));
-    }
-    match first_with_body(sequent.right()) {
-        Some(formula) => Ok(Some((formula.copy()?, Side::Right))),
-        None => Ok(None),
-    }
-}
 
 // The first formula of a list that isn't in both sets.
 fn first_not_in_both<'f>(
@@ -84,28 +61,6 @@ fn first_difference(
     }
 }
 
-// Whether the proof's tree has at most as many nodes as the budget allows. Numbers of nodes from 2^64 - 1 on aren't told apart: a budget
-// as large as that can't be compared with them.
-fn check_size(
-    graph: &Graph,
-    alloc: Global,
-    proof: &ProofRef,
-    budget: u64,
-) -> Result<(), InterpFault>
-    requires { IsOf graph.now proof.now }
-    ensures ok { IfOk result (λ _. size_of proof.now.tree ≤ budget) }
-    ensures err { IfErr result (λ fault. IsOverBudget fault (size_of proof.now.tree) budget) }
-{
-    let nodes = size(graph, alloc, proof)?;
-    if nodes > budget {
-        return Err(InterpFault::Budget);
-    }
-    if nodes == u64::MAX {
-        return Err(InterpFault::Memory);
-    }
-    Ok(())
-}
-
 /// The first fault, if there is one.
 pub(crate) fn check(
     graph: &Graph,
@@ -131,5 +86,8 @@ pub(crate) fn check(
     if let Some((formula, side)) = first_difference(alloc, &union, end)? {
         return Err(InterpFault::Partition { formula, side });
     }
-    check_size(graph, alloc, proof, budget)
+    if exceeds(proof, budget)? {
+        return Err(InterpFault::Budget);
+    }
+    Ok(())
 }

@@ -10,26 +10,23 @@ ghost use Rattle.lk_rules.specs.declared.sequent.Side.TheVariants.{Left, Right};
 ghost use Rattle.lk_rules.specs.Sequents.{adds_to, is_free_in_sequent};
 ghost use Rattle.proof_trees.specs.Trees.{concl, IsValid, IsCutFree};
 ghost use Rattle.proof_trees.specs.Occurrence.{is_pred_in_sequent};
-ghost use Rattle.proof_trees.specs.Conclusions.{HasFormedEnd};
 ghost use Rattle.proof_graph.specs.Graphs.{IsOf, history};
 ghost use Rattle.interp_laws.specs.Interpolation.{itp};
 ghost use Rattle.interp_laws.specs.Parts.{IsFormedSequent, HasParts};
-ghost use Rattle.arena_cells.specs.Standing.{tree_at, IsTreeAt};
-ghost use Rattle.arena_graph.specs.ProofNumbers.{AreNumbersOf};
+ghost use Rattle.arena_cells.specs.Standing.{Extends, tree_at, IsTreeAt};
 ghost use Rattle.arena_interp.specs.Partitions.{IsInterpolatedAt, interpolation_at, HasInterpolation};
-ghost use Rattle.proof_subst.specs.Benches.{graph_of, pass_in, IsBenchPassOf};
+ghost use Rattle.proof_subst.specs.Benches.{graph_of, pass_in, arena_in, IsBenchPassOf};
 ghost use Rattle.lk_interp.specs.Interpolating.{interpolating, interpolation_of, Interpolates, AreProofs, NamesFormed};
 
 use crate::fault::InterpFault;
 use crate::faults::check;
 use crate::laws;
 use arena::Arena;
-use arena_graph::{ProofNumbers, export_proof, import_proof};
 use arena_interp::{Interpolated, interpolate_in};
 use fol::Formula;
 use lk_rules::Sequent;
 use proof_graph::ProofRef;
-use proof_subst::{Bench, BenchPass};
+use proof_subst::{Bench, BenchPass, number_of, proof_at};
 use std::alloc::{AllocError, Global};
 use std::sync::Wait;
 
@@ -50,78 +47,68 @@ fn see_formed(sequent: &Sequent)
     let _right = sequent.right();
 }
 
-// The interpolation of the tree of a proof, in an arena.
-fn interpolate_tree(
+// The interpolation of a tree in an arena, by two parts.
+fn interpolate_at(
     arena: &mut Arena,
     alloc: Global,
-    bench: &Bench,
-    numbers: &mut ProofNumbers,
-    proof: &ProofRef,
+    proof: u32,
     first: &Sequent,
     second: &Sequent,
 ) -> Result<Interpolated, AllocError>
-    requires of { IsOf (graph_of bench.now) proof.now }
-    requires numbers { AreNumbersOf (graph_of bench.now) arena.old numbers.old }
-    requires parts { HasParts proof.now.tree first.now second.now }
-    ensures made { IfOk result (HasInterpolation arena.new (itp proof.now.tree first.now second.now)) }
-    ensures small { IfOk result (λ _. nesting (itp proof.now.tree first.now second.now).formula < 2 ^ 32) }
-    ensures numbers_stay { IfOk result (λ _. AreNumbersOf (graph_of bench.now) arena.new numbers.new) }
+    requires proof { IsTreeAt arena.old proof }
+    requires parts { HasParts (tree_at arena.old proof) first.now second.now }
+    ensures made { IfOk result (HasInterpolation arena.new (itp (tree_at arena.old proof) first.now second.now)) }
+    ensures small { IfOk result (λ _. nesting (itp (tree_at arena.old proof) first.now second.now).formula < 2 ^ 32) }
+    ensures grown { Extends arena.old arena.new }
 {
-    let number = import_proof(arena, alloc, bench.graph(), numbers, proof)?;
     let first = arena.import_sequent(alloc, first)?;
     let second = arena.import_sequent(alloc, second)?;
-    let made = interpolate_in(arena, alloc, number, first, second)?;
+    let made = interpolate_in(arena, alloc, proof, first, second)?;
     let _size = arena.formula(made.formula).size();
     Ok(made)
 }
 
-// The reference of a tree in an arena.
-fn proof_at<R: Wait>(
-    rt: &R,
+// The interpolation of the tree of a proof, in the arena of the pass.
+#[tactic(auto, using(proof_subst::proofs::Passes::pass_stays))]
+fn interpolate_tree(
     alloc: Global,
     bench: &Bench,
     pass: &mut BenchPass,
-    arena: &Arena,
-    numbers: &mut ProofNumbers,
-    number: u32,
-) -> Result<ProofRef, AllocError>
+    proof: &ProofRef,
+    first: &Sequent,
+    second: &Sequent,
+) -> Result<Interpolated, AllocError>
     requires pass_of { IsBenchPassOf bench.now pass.old }
-    requires numbers { AreNumbersOf (graph_of bench.now) arena.now numbers.old }
-    requires there { IsTreeAt arena.now number }
-    requires valid { IsValid (tree_at arena.now number) }
-    requires formed { HasFormedEnd (tree_at arena.now number) }
-    ensures tree { IfOk result (λ r. r.tree ≡ tree_at arena.now number) }
-    ensures of { IfOk result (IsOf (graph_of bench.now)) }
-    ensures numbers_stay { AreNumbersOf (graph_of bench.now) arena.now numbers.new }
-    ensures grown { IsPrefix (history (pass_in pass.old)) (history (pass_in pass.new)) }
+    requires of { IsOf (graph_of bench.now) proof.now }
+    requires parts { HasParts proof.now.tree first.now second.now }
+    ensures made { IfOk result (HasInterpolation (arena_in pass.new) (itp proof.now.tree first.now second.now)) }
+    ensures small { IfOk result (λ _. nesting (itp proof.now.tree first.now second.now).formula < 2 ^ 32) }
+    ensures graph_stays { pass_in pass.new ≡ pass_in pass.old }
     ensures pass_stays { IsBenchPassOf bench.now pass.new }
 {
-    let pass = Bench::graph_pass(pass);
-    export_proof(rt, alloc, bench.graph(), pass, arena, numbers, number)
+    let number = number_of(alloc, bench, pass, proof)?;
+    interpolate_at(Bench::arena(pass), alloc, number, first, second)
 }
 
-// The references of an interpolation's trees in an arena.
+// The references of an interpolation's trees in the arena of the pass.
 fn export<R: Wait>(
     rt: &R,
     alloc: Global,
     bench: &Bench,
     pass: &mut BenchPass,
-    arena: &Arena,
-    numbers: &mut ProofNumbers,
     made: Interpolated,
 ) -> Result<Interp, AllocError>
     requires pass_of { IsBenchPassOf bench.now pass.old }
-    requires numbers { AreNumbersOf (graph_of bench.now) arena.now numbers.old }
-    requires there { IsInterpolatedAt arena.now made }
-    requires valid { AreProofs (interpolation_at arena.now made) }
-    ensures interpolation { IfOk result (λ r. interpolation_of r ≡ interpolation_at arena.now made) }
+    requires there { IsInterpolatedAt (arena_in pass.old) made }
+    requires valid { AreProofs (interpolation_at (arena_in pass.old) made) }
+    ensures interpolation { IfOk result (λ r. interpolation_of r ≡ interpolation_at (arena_in pass.old) made) }
     ensures of { IfOk result (λ r. IsOf (graph_of bench.now) r.first × IsOf (graph_of bench.now) r.second) }
     ensures grown { IsPrefix (history (pass_in pass.old)) (history (pass_in pass.new)) }
     ensures pass_stays { IsBenchPassOf bench.now pass.new }
 {
-    let formula = arena.formula(made.formula).copy()?;
-    let first = proof_at(rt, alloc, bench, pass, arena, numbers, made.first)?;
-    let second = proof_at(rt, alloc, bench, pass, arena, numbers, made.second)?;
+    let formula = Bench::arena(pass).formula(made.formula).copy()?;
+    let first = proof_at(rt, alloc, bench, pass, made.first)?;
+    let second = proof_at(rt, alloc, bench, pass, made.second)?;
     Ok(Interp {
         formula,
         first,
@@ -171,8 +158,6 @@ pub fn interpolate<R: Wait>(
     interp_laws::laws::proofs();
     interp_laws::laws::interpolants();
     check(bench.graph(), alloc, proof, first, second, budget)?;
-    let mut arena = Arena::new(alloc);
-    let mut numbers = ProofNumbers::new(alloc);
-    let made = interpolate_tree(&mut arena, alloc, bench, &mut numbers, proof, first, second)?;
-    Ok(export(rt, alloc, bench, pass, &arena, &mut numbers, made)?)
+    let made = interpolate_tree(alloc, bench, pass, proof, first, second)?;
+    Ok(export(rt, alloc, bench, pass, made)?)
 }

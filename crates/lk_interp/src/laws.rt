@@ -6,11 +6,10 @@ ghost use Rattle.proof_trees.specs.Trees.{Tree as Proof, concl, size, IsValid};
 ghost use Rattle.proof_trees.specs.Occurrence.{has_body_in_sequent};
 ghost use Rattle.interp_laws.specs.Interpolation.{Interpolation, itp};
 ghost use Rattle.interp_laws.specs.Parts.{IsFormedSequent, HasParts};
-ghost use Rattle.lk_interp.specs.Interpolating.{first_defined, first_difference, interpolating};
+ghost use Rattle.lk_interp.specs.Interpolating.{first_difference, interpolating};
 
-/// No formula is named exactly where none has a symbol with a body, and exactly where two sequents are equal.
+/// No formula is named exactly where two sequents are equal.
 pub fn differences()
-    ensures bodies { (s : Conclusion) → (first_defined s ≡ None) ↔ (has_body_in_sequent s ≡ false) }
     ensures equal { (s t : Conclusion) → (first_difference s t ≡ None) ↔ (s ≡ t) }
 {}
 

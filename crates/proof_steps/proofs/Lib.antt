@@ -9,3 +9,4 @@ pub mod CutPlaces
 pub mod RoundTrip
 pub mod ProofAgain
 pub mod FormedSteps
+pub mod Found

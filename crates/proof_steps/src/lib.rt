@@ -2,9 +2,12 @@
 #![tactic(auto)]
 
 mod counting;
+mod faults;
+pub mod laws;
 mod listing;
 mod step_list;
 mod visiting;
 
 pub use counting::{cuts, quants, size};
+pub use faults::{exceeds, first_defined};
 pub use step_list::{first_cut, nodes, steps};

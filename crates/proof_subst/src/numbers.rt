@@ -1,5 +1,5 @@
 //! Proofs by the numbers of their trees in the arena of a pass.
-ghost use Rattle.std.specs.Prelude.{◌≡◌, IfOk};
+ghost use Rattle.std.specs.Prelude.{◌≡◌, ◌≤◌, ◌^◌, length, IfOk};
 ghost use mathlib.Core.List.{IsPrefix};
 ghost use Rattle.proof_trees.specs.Trees.{IsValid};
 ghost use Rattle.proof_graph.specs.Graphs.{IsOf, history};
@@ -17,10 +17,12 @@ use std::sync::Wait;
 // The most things that an arena may have when a transformation begins: they take some 30 megabytes.
 const MOST_KEPT: usize = 262144;
 
-/// Gives up the arena of a pass that has come to hold many things: what a transformation leaves behind is found again by later ones, but
-/// takes bounded room.
+/// Gives up the arena of a pass that has come to hold more than 2^18 things: what a transformation leaves behind is found again by later ones,
+/// but takes bounded room. An arena of at most so many stays as it is.
 pub fn make_room(alloc: Global, bench: &Bench, pass: &mut BenchPass)
     requires { IsBenchPassOf bench.now pass.old }
+    ensures bounded { length (arena_in pass.new) ≤ 2 ^ 18 }
+    ensures kept { length (arena_in pass.old) ≤ 2 ^ 18 → arena_in pass.new ≡ arena_in pass.old }
     ensures graph_stays { pass_in pass.new ≡ pass_in pass.old }
     ensures pass_stays { IsBenchPassOf bench.now pass.new }
 {
@@ -31,8 +33,8 @@ pub fn make_room(alloc: Global, bench: &Bench, pass: &mut BenchPass)
     }
 }
 
-/// The number of a proof's tree in the arena of the pass: a transformation begins with it. A proof that came in or went out before costs one
-/// look-up, unless its arena was given up.
+/// The number of a proof's tree in the arena of the pass, where an arena of more than 2^18 things is given up first: a transformation begins
+/// with it. A proof that came in or went out before costs one look-up, unless its arena was given up.
 pub fn number_of(
     alloc: Global,
     bench: &Bench,
@@ -70,6 +72,7 @@ pub fn proof_at<R: Wait>(
     requires formed { HasFormedEnd (tree_at (arena_in pass.old) number) }
     ensures tree { IfOk result (λ r. r.tree ≡ tree_at (arena_in pass.old) number) }
     ensures of { IfOk result (IsOf (graph_of bench.now)) }
+    ensures arena_stays { arena_in pass.new ≡ arena_in pass.old }
     ensures grown { IsPrefix (history (pass_in pass.old)) (history (pass_in pass.new)) }
     ensures pass_stays { IsBenchPassOf bench.now pass.new }
 {

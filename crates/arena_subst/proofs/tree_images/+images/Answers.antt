@@ -9,15 +9,15 @@ use Rattle.arena_cells.proofs.Reading.{if_ok}
 use Rattle.arena_subst.proofs.Images.{tree_kept, tree_needed, end_there, images_there}
 use Rattle.arena_subst.proofs.tree_images.+images.Goals as goal
 
-pub substitute_in-returns-then-is_without_binding-clause-tree : goal.substitute_in-returns-then-is_without_binding-clause-tree
-substitute_in-returns-then-is_without_binding-clause-tree t c =
-    tree_kept c.args.arena.now c.tree_vars.new.arena c.restrict.new.self c.args.proof c.args.map c.in_ok-vars.vars c.in_ok-needed.needed c.tree_vars.ensures.grown c.restrict.ensures.grown c.requires.proof c.requires.map
-    c.in_ok-vars.ensures.set c.in_ok-needed.ensures.map c.requires.valid (c.is_without_binding.ensures.0 c.if-is_without_binding.true)
+pub substitute_in-returns-then-fixes_all-clause-tree : goal.substitute_in-returns-then-fixes_all-clause-tree
+substitute_in-returns-then-fixes_all-clause-tree t c =
+    tree_kept c.args.arena.now c.tree_vars.new.arena c.args.proof c.args.map c.in_ok-vars.vars c.tree_vars.ensures.grown c.requires.proof c.requires.map c.in_ok-vars.ensures.set c.requires.valid
+    (c.fixes_all.ensures.0 c.if-fixes_all.true)
 
 pub substitute_in-returns-clause-tree : goal.substitute_in-returns-clause-tree
 substitute_in-returns-clause-tree t c =
-    let same = tree_needed c.args.arena.now c.tree_vars.new.arena c.restrict.new.self c.args.proof c.args.map c.in_ok-vars.vars c.in_ok-needed.needed c.tree_vars.ensures.grown c.restrict.ensures.grown c.requires.proof c.requires.map
-    c.in_ok-vars.ensures.set c.in_ok-needed.ensures.map in
+    let same = tree_needed c.args.arena.now c.tree_vars.new.arena c.args.proof c.args.map c.in_ok-vars.vars c.tree_vars.ensures.grown c.requires.proof c.requires.map c.in_ok-vars.ensures.set
+    c.restrict.new.self c.in_ok-needed.needed c.restrict.ensures.grown c.in_ok-needed.ensures.map in
     if_ok c.image_once.result _ (λ (n : ℕ). HasTree c.image_once.new.arena n (sub (tree_at c.args.arena.now c.args.proof) (map_at c.args.arena.now c.args.map)))
     (λ n s. s ∙ ap (λ (u : Tree). Some (tree u)) same) c.image_once.ensures.tree
 

@@ -6,9 +6,10 @@ use Rattle.lk_rules.specs.declared.sequent.Sequent.{Sequent}
 use Rattle.proof_graph.specs.declared.node.Node.{Node}
 use Rattle.proof_trees.specs.Trees.{concl}
 use Rattle.proof_steps.specs.Places.{steps_of, is_cut_step}
-use Rattle.lk_interp.specs.Interpolating.{first_defined, first_difference}
+use Rattle.proof_steps.specs.Faults.{first_defined}
+use Rattle.lk_interp.specs.Interpolating.{first_difference}
 use Rattle.lk_interp.proofs.Found.{none_left}
-use Rattle.lk_interp.proofs.Order.{at_cut, at_definition, at_difference, in_size, over_size}
+use Rattle.lk_interp.proofs.Order.{at_cut, at_definition, at_difference, at_budget, within}
 use Rattle.lk_interp.proofs.faults.check.Goals as goal
 
 pub returns-in-Some-clause-err : goal.returns-in-Some-clause-err
@@ -31,6 +32,17 @@ returns-in-Some-3-clause-err c =
     at_difference t one two c.args.budget no_cut no_body (c.in-Some-3.formula, c.in-Some-3.side)
     (sym c.in-Some-3.is ∙ c.in_ok-formula-2.ensures.first ∙ ap (λ (s : Sequent). first_difference s c.get.result.now.end) c.in_ok-union.ensures ∙ ap (λ (k : Node). first_difference (union_sequent one two) k.end) c.get.ensures)
 
+pub returns-then-branch-clause-err : goal.returns-then-branch-clause-err
+returns-then-branch-clause-err c =
+    let t = c.args.proof.now.tree in
+    let one = c.args.first.now in
+    let two = c.args.second.now in
+    let no_cut : None ≡ position is_cut_step (steps_of t) = sym (none_left c.in_ok-place.field-0 c.in_default.not-Some) ∙ c.in_ok-place.ensures.place in
+    let no_body : None ≡ first_defined (concl t) = sym (none_left c.in_ok-formula.field-0 c.in_default-2.not-Some) ∙ c.in_ok-formula.ensures.first ∙ ap (λ (k : Node). first_defined k.end) c.get.ensures in
+    let same : None ≡ first_difference (union_sequent one two) (concl t) = sym (none_left c.in_ok-formula-2.field-0 c.in_default-3.not-Some) ∙ c.in_ok-formula-2.ensures.first
+    ∙ ap (λ (s : Sequent). first_difference s c.get.result.now.end) c.in_ok-union.ensures ∙ ap (λ (k : Node). first_difference (union_sequent one two) k.end) c.get.ensures in
+    at_budget t one two c.args.budget no_cut no_body same (sym c.if-branch.true ∙ c.in_ok-exceeds.ensures)
+
 pub returns-clause-ok : goal.returns-clause-ok
 returns-clause-ok c =
     let t = c.args.proof.now.tree in
@@ -40,15 +52,4 @@ returns-clause-ok c =
     let no_body : None ≡ first_defined (concl t) = sym (none_left c.in_ok-formula.field-0 c.in_default-2.not-Some) ∙ c.in_ok-formula.ensures.first ∙ ap (λ (k : Node). first_defined k.end) c.get.ensures in
     let same : None ≡ first_difference (union_sequent one two) (concl t) = sym (none_left c.in_ok-formula-2.field-0 c.in_default-3.not-Some) ∙ c.in_ok-formula-2.ensures.first
     ∙ ap (λ (s : Sequent). first_difference s c.get.result.now.end) c.in_ok-union.ensures ∙ ap (λ (k : Node). first_difference (union_sequent one two) k.end) c.get.ensures in
-    in_size t one two c.args.budget no_cut no_body same c.check_size.result c.check_size.ensures.ok
-
-pub returns-clause-err : goal.returns-clause-err
-returns-clause-err c =
-    let t = c.args.proof.now.tree in
-    let one = c.args.first.now in
-    let two = c.args.second.now in
-    let no_cut : None ≡ position is_cut_step (steps_of t) = sym (none_left c.in_ok-place.field-0 c.in_default.not-Some) ∙ c.in_ok-place.ensures.place in
-    let no_body : None ≡ first_defined (concl t) = sym (none_left c.in_ok-formula.field-0 c.in_default-2.not-Some) ∙ c.in_ok-formula.ensures.first ∙ ap (λ (k : Node). first_defined k.end) c.get.ensures in
-    let same : None ≡ first_difference (union_sequent one two) (concl t) = sym (none_left c.in_ok-formula-2.field-0 c.in_default-3.not-Some) ∙ c.in_ok-formula-2.ensures.first
-    ∙ ap (λ (s : Sequent). first_difference s c.get.result.now.end) c.in_ok-union.ensures ∙ ap (λ (k : Node). first_difference (union_sequent one two) k.end) c.get.ensures in
-    over_size t one two c.args.budget no_cut no_body same c.check_size.result c.check_size.ensures.err
+    within t one two c.args.budget no_cut no_body same (sym c.if-branch.false ∙ c.in_ok-exceeds.ensures)

@@ -1,44 +1,8 @@
--- The proof and its parts stand in the arena.
-use Rattle.std.proofs.Common.{◌<◌, ◌^◌, sym, subst, ◌∙◌, lit<}
-use Rattle.fol.specs.Syntax.{Formula}
-use Rattle.substitution.specs.Instance.{nesting}
-use Rattle.proof_graph.specs.declared.graph.Graph.{Graph}
-use Rattle.interp_laws.specs.Interpolation.{itp}
-use Rattle.interp_laws.specs.Parts.{HasParts}
-use Rattle.arena_cells.proofs.Staying.{is_formula, is_sequent, is_tree}
-use Rattle.arena_graph.specs.ProofNumbers.{AreNumbersOf}
-use Rattle.arena_graph.proofs.Larger.{numbers_stay}
-use Rattle.arena_interp.proofs.LastInferences.{larger}
-use Rattle.arena_interp.proofs.Staying.{has_same}
-use Rattle.lk_interp.proofs.Answered.{few_quantifiers}
+-- The arena of the pass has only become larger.
+use Rattle.proof_subst.proofs.Passes.{pass_stays}
 use Rattle.lk_interp.proofs.interpolation.interpolate_tree.Goals as goal
 
-pub interpolate_in-requires-clause-parts : goal.interpolate_in-requires-clause-parts
-interpolate_in-requires-clause-parts c =
-    let e = c.import_sequent-2.new.self in
-    let more = c.import_sequent-2.ensures.grown in
-    let tree = is_tree e c.in_ok-number.number _ (more _ _ (c.import_sequent.ensures.grown _ _ c.in_ok-number.ensures.tree)) in
-    let first = is_sequent e c.in_ok-first.first _ (more _ _ c.in_ok-first.ensures.sequent) in
-    let second = is_sequent e c.in_ok-second.second _ c.in_ok-second.ensures.sequent in
-    subst (λ (P : Type 0). P) (λ i. HasParts (sym tree i) (sym first i) (sym second i)) c.requires.parts
-
-pub returns-clause-made : goal.returns-clause-made
-returns-clause-made c =
-    let e = c.import_sequent-2.new.self in
-    let more = c.import_sequent-2.ensures.grown in
-    let tree = is_tree e c.in_ok-number.number _ (more _ _ (c.import_sequent.ensures.grown _ _ c.in_ok-number.ensures.tree)) in
-    let first = is_sequent e c.in_ok-first.first _ (more _ _ c.in_ok-first.ensures.sequent) in
-    let second = is_sequent e c.in_ok-second.second _ c.in_ok-second.ensures.sequent in
-    has_same c.interpolate_in.new.arena _ _ c.in_ok-made.made (λ i. itp (tree i) (first i) (second i)) c.in_ok-made.ensures.made
-
-pub returns-clause-small : goal.returns-clause-small
-returns-clause-small c =
-    let same = c.formula.ensures ∙ is_formula c.interpolate_in.new.arena c.in_ok-made.made.formula _ (returns-clause-made c).formula in
-    let above : 2 ^ 26 < 2 ^ 32 = lit< tt in
-    subst (λ (f : Formula). nesting f < 2 ^ 32) same (few_quantifiers c.formula.result.now c.size-size.result (2 ^ 26) (2 ^ 32) c.size-size.ensures.size c.size-size.ensures.within above)
-
-pub returns-clause-numbers_stay : goal.returns-clause-numbers_stay
-returns-clause-numbers_stay c =
-    let b = c.import_proof.new.arena in
-    let grown = larger _ _ _ (larger _ _ _ c.import_sequent.ensures.grown c.import_sequent-2.ensures.grown) c.interpolate_in.ensures.grown in
-    subst (λ (g : Graph). AreNumbersOf g c.interpolate_in.new.arena c.import_proof.new.numbers) c.graph.ensures (numbers_stay c.graph.result.now b c.interpolate_in.new.arena c.import_proof.new.numbers c.import_proof.ensures.numbers_stay grown)
+pub returns-clause-pass_stays : goal.returns-clause-pass_stays
+returns-clause-pass_stays c =
+    pass_stays c.args.bench.now c.number_of.new.pass c.interpolate_at.new.arena c.number_of.ensures.pass_stays
+    (λ n t h. c.interpolate_at.ensures.grown n t (cc (c.arena.ensures.value, h)))

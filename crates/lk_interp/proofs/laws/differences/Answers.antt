@@ -1,6 +1,6 @@
--- By the lemmas on what is found.
-use Rattle.lk_interp.proofs.Found.{plain_found, equal_found}
+-- By the lemma on what is found.
+use Rattle.lk_interp.proofs.Found.{equal_found}
 use Rattle.lk_interp.proofs.laws.differences.Goals as goal
 
 pub returns : goal.returns
-returns c = record { bodies = plain_found; equal = equal_found }
+returns c = record { equal = equal_found }
