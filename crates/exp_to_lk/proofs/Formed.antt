@@ -3,12 +3,13 @@ use Rattle.std.proofs.Common.{◌≡◌, true, List, [], ◌∷◌, map, refl, �
 use Rattle.std.specs.List.{list_all}
 use Rattle.std.specs.Cmp.Derive.{both_true}
 use Rattle.std.proofs.lemmas.Bool.{and_parts}
-use Rattle.std.proofs.lemmas.List.Sums.{AllPass-from_list_all}
+use Rattle.std.proofs.lemmas.List.Sums.{AllPass-from_list_all, list_all-from_AllPass}
 use Rattle.fol.specs.Formed.{is_formed}
 use Rattle.proof_trees.specs.Conclusions.{IsFormedSequent}
 use Rattle.expansion_laws.specs.Expansions.{Exp, wk, leaf, neg, conj, disj, impl, weak, strong, Insts, none, more, shallow}
 use Rattle.expansion_laws.specs.Building.{is_built}
-use Rattle.expansion_laws.specs.Proofs.{shallow_sequent}
+use Rattle.expansion_laws.specs.Dependency.{Expansion}
+use Rattle.expansion_laws.specs.Proofs.{shallow_sequent, IsExpansionProof}
 use Rattle.expansion_laws.proofs.Lists.{all-set_of}
 use Rattle.exp_tree.specs.Sizes.{is_formed_exp, are_formed_insts}
 use Rattle.exp_tree.specs.Sequents.{AreArranged}
@@ -16,6 +17,7 @@ use Rattle.exp_tree.specs.Reads.{expansion_of}
 use Rattle.exp_tree.specs.declared.sequents.ExpSequent.{ExpSequent}
 use Rattle.exp_tree.proofs.Formulas.{formula_formed}
 use Rattle.building_laws.specs.Buildable.{has_formed_terms, have_formed_terms, IsFormedExpansion}
+use Rattle.exp_to_lk.specs.Building.{has_formed_trees}
 
 mutual
   terms_formed : (e : Exp) → is_formed_exp e ≡ true → has_formed_terms e ≡ true
@@ -51,18 +53,29 @@ terms_each (e ∷ es) formed =
     let both = and_parts (is_formed_exp e) (list_all is_formed_exp es) formed in
     both_true (terms_formed e both.0) (terms_each es both.1)
 
+-- the formulas of rightly built trees
+module _ (x : Expansion) (built_left : list_all is_built x.left ≡ true) (built_right : list_all is_built x.right ≡ true) (left : list_all is_formed_exp x.left ≡ true) (right : list_all is_formed_exp x.right ≡ true) where
+  sequent_of_trees : IsFormedSequent (shallow_sequent x)
+  sequent_of_trees = record {
+    left = all-set_of is_formed (map shallow x.left) ∙ formulas_formed x.left built_left left;
+    right = all-set_of is_formed (map shallow x.right) ∙ formulas_formed x.right built_right right;
+  }
+
+  formed_trees : IsFormedExpansion x (shallow_sequent x)
+  formed_trees = record {
+    formulas_left = AllPass-from_list_all is_formed _ sequent_of_trees.left;
+    formulas_right = AllPass-from_list_all is_formed _ sequent_of_trees.right;
+    terms_left = AllPass-from_list_all has_formed_terms x.left (terms_each x.left left);
+    terms_right = AllPass-from_list_all has_formed_terms x.right (terms_each x.right right);
+  }
+
 pub formed_sequent : (x : ExpSequent) → AreArranged x.left → AreArranged x.right → IsFormedSequent (shallow_sequent (expansion_of x))
-formed_sequent x h k = record {
-  left = all-set_of is_formed (map shallow x.left) ∙ formulas_formed x.left h.built h.formed;
-  right = all-set_of is_formed (map shallow x.right) ∙ formulas_formed x.right k.built k.formed;
-}
+formed_sequent x h k = sequent_of_trees (expansion_of x) h.built k.built h.formed k.formed
 
 pub formed_expansion : (x : ExpSequent) → AreArranged x.left → AreArranged x.right → IsFormedExpansion (expansion_of x) (shallow_sequent (expansion_of x))
-formed_expansion x h k =
-    let s = formed_sequent x h k in
-    record {
-      formulas_left = AllPass-from_list_all is_formed _ s.left;
-      formulas_right = AllPass-from_list_all is_formed _ s.right;
-      terms_left = AllPass-from_list_all has_formed_terms x.left (terms_each x.left h.formed);
-      terms_right = AllPass-from_list_all has_formed_terms x.right (terms_each x.right k.formed);
-    }
+formed_expansion x h k = formed_trees (expansion_of x) h.built k.built h.formed k.formed
+
+pub formed_proof : (x : Expansion) → IsExpansionProof x (shallow_sequent x) → has_formed_trees x ≡ true → IsFormedExpansion x (shallow_sequent x)
+formed_proof x proof formed =
+    let both = and_parts (list_all is_formed_exp x.left) (list_all is_formed_exp x.right) formed in
+    formed_trees x (list_all-from_AllPass is_built x.left proof.built_left) (list_all-from_AllPass is_built x.right proof.built_right) both.0 both.1

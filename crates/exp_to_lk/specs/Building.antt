@@ -2,10 +2,13 @@
 --     sizes      how many inferences some proofs have
 --     building      the proof, where it has at most so many
 --     Builds      the code answers just that, unless memory runs out
-use Rattle.std.specs.Prelude.{◌≡◌, ℕ, nat_lt, true, if◌then◌else◌, Option, Some, None, Result, Ok, Err}
+--     has_formed_trees      what the trees for a sequent name is well formed
+use Rattle.std.specs.Prelude.{◌≡◌, ℕ, nat_lt, Bool, true, ◌&&◌, if◌then◌else◌, Option, Some, None, Result, Ok, Err}
+use Rattle.std.specs.List.{list_all}
 use Rattle.proof_trees.specs.Trees.{Tree, Trees, size, count_rules_all}
 use Rattle.proof_graph.specs.References.{Reference}
 use Rattle.expansion_laws.specs.Dependency.{Expansion}
+use Rattle.exp_tree.specs.Sizes.{is_formed_exp}
 use Rattle.building_laws.specs.Lists.{start}
 use Rattle.building_laws.specs.Building.{build}
 use Rattle.exp_to_lk.specs.declared.fault.BuildFault.{BuildFault}
@@ -28,3 +31,7 @@ abbrev pub Builds : Result Reference BuildFault → Result Tree BuildFault → T
 Builds (Ok r) wanted = wanted ≡ Ok r.tree
 Builds (Err Budget) wanted = wanted ≡ Err Budget
 Builds (Err Memory) wanted = Unit {0}
+
+-- whether the formulas, terms and variables that the trees name are well formed
+abbrev pub has_formed_trees : Expansion → Bool
+has_formed_trees x = list_all is_formed_exp x.left && list_all is_formed_exp x.right

@@ -6,6 +6,7 @@ mod dividing;
 mod exporting;
 mod fault;
 mod instances;
+pub mod laws;
 mod leaves;
 mod lists;
 mod placed;

@@ -1,12 +1,13 @@
--- Small flat lists, their faults and their trees.
+-- Small flat lists, their faults and their trees, and merged trees.
 use Rattle.std.proofs.Common.{◌≡◌, List, [], ◌∷◌, refl}
 use Rattle.std.specs.Prelude.{Some, None}
-use Rattle.fol.specs.Syntax.{top, bot, all, or}
+use Rattle.fol.specs.Syntax.{free, top, bot, and, all, or}
 use Rattle.fol.specs.declared.symbols.Var.TheVariants.{Num}
 use Rattle.lk_rules.specs.declared.sequent.Side.TheVariants.{Left, Right}
-use Rattle.expansion_laws.specs.Expansions.{leaf, neg, conj, strong}
+use Rattle.expansion_laws.specs.Expansions.{Exp, wk, leaf, neg, conj, weak, strong, none, more}
 use Rattle.exp_tree.specs.FlatLists.{fault_at, trees_of}
 use Rattle.exp_tree.specs.Roots.{side_fault_at, side_over}
+use Rattle.exp_tree.specs.Merging.{merged}
 use Rattle.exp_tree.specs.declared.flat.ExpNode.{ExpNode}
 use Rattle.exp_tree.specs.declared.flat.ExpNode.TheVariants.{Leaf, Not, And, Strong}
 use Rattle.exp_tree.specs.declared.flat.NodeCause.TheVariants as cause
@@ -56,3 +57,14 @@ no_node = refl
 -- the roots by rising formula, whatever their order in the list
 rising : side_over (trees_of nodes) (2 ∷ 0 ∷ []) ≡ leaf top ∷ neg (strong (all top) (Num 0) (leaf top)) ∷ []
 rising = refl
+
+-- each part is used in one tree, and a quantifier has the instances of both by rising term
+abbrev one_tree : Exp
+one_tree = weak (all (and top bot)) (more (free (Num 1)) (conj (leaf top) (wk bot)) (more (free (Num 2)) (conj (wk top) (wk bot)) none))
+
+abbrev other_tree : Exp
+other_tree = weak (all (and top bot)) (more (free (Num 0)) (conj (wk top) (wk bot)) (more (free (Num 1)) (conj (wk top) (leaf bot)) none))
+
+both_trees : merged one_tree other_tree ≡ weak (all (and top bot))
+    (more (free (Num 0)) (conj (wk top) (wk bot)) (more (free (Num 1)) (conj (leaf top) (leaf bot)) (more (free (Num 2)) (conj (wk top) (wk bot)) none)))
+both_trees = refl

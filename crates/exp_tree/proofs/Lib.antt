@@ -20,3 +20,6 @@ pub mod Written
 pub mod FlatReadings
 pub mod RightTrees
 mod Examples
+pub mod Merged
+pub mod MergeParts
+pub mod MergeSteps

@@ -16,3 +16,4 @@ pub mod Subtrees
 pub mod Writing
 pub mod Tables
 pub mod SameNodes
+pub mod Merging

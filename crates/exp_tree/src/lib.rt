@@ -10,6 +10,7 @@ mod facts;
 mod flat;
 mod flat_insts;
 pub mod laws;
+mod merging;
 mod node_keys;
 mod nodes;
 mod reading;
@@ -27,6 +28,7 @@ pub use deep_formulas::{deep, other};
 pub use expansion::{Exp, ExpRoot, Inst};
 pub use flat::{ExpNode, FlatExp, NodeCause, NodesFault, RootCause};
 pub use flat_insts::FlatInsts;
+pub use merging::merge;
 pub use nodes::ExpNodes;
 pub use reading_lists::read_nodes;
 pub use sequent_formulas::{

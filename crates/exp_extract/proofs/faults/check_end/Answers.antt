@@ -1,0 +1,22 @@
+-- What was found so far decides.
+use Rattle.std.proofs.Common.{◌≡◌, None, sym, ap, ◌∙◌}
+use Rattle.proof_trees.specs.Trees.{concl}
+use Rattle.proof_graph.specs.declared.node.Node.{Node}
+use Rattle.proof_steps.specs.Faults.{first_defined}
+use Rattle.exp_extract.proofs.Order.{at_definition, at_budget, within}
+use Rattle.exp_extract.proofs.faults.check_end.Goals as goal
+
+pub returns-in-Some-clause-err : goal.returns-in-Some-clause-err
+returns-in-Some-clause-err c =
+    at_definition c.args.proof.now.tree c.args.budget c.requires.cut_free (c.in-Some.formula, c.in-Some.side)
+    (sym c.in-Some.is ∙ c.in_ok-formula.ensures.first ∙ ap (λ (k : Node). first_defined k.end) c.get.ensures)
+
+pub returns-in-None-clause-err : goal.returns-in-None-clause-err
+returns-in-None-clause-err c =
+    let no_body : first_defined (concl c.args.proof.now.tree) ≡ None = sym (c.in_ok-formula.ensures.first ∙ ap (λ (k : Node). first_defined k.end) c.get.ensures) ∙ c.in-None.is in
+    at_budget c.args.proof.now.tree c.args.budget c.requires.cut_free no_body (sym c.if-branch.true ∙ c.in_ok-exceeds.ensures)
+
+pub returns-in-None-2-clause-ok : goal.returns-in-None-2-clause-ok
+returns-in-None-2-clause-ok c =
+    let no_body : first_defined (concl c.args.proof.now.tree) ≡ None = sym (c.in_ok-formula.ensures.first ∙ ap (λ (k : Node). first_defined k.end) c.get.ensures) ∙ c.in-None-2.is in
+    within c.args.proof.now.tree c.args.budget c.requires.cut_free no_body (sym c.if-branch.false ∙ c.in_ok-exceeds.ensures)

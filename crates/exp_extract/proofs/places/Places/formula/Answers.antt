@@ -1,0 +1,14 @@
+-- By the entry of the number.
+use Rattle.std.proofs.Common.{length, ap, arith}
+use Rattle.exp_extract.proofs.MoreEntries.{length_of}
+use Rattle.exp_extract.proofs.Entered.{read_entry}
+use Rattle.exp_extract.proofs.places.Places.formula.Goals as goal
+
+pub index-requires : goal.index-requires
+index-requires c = omega (arith, ap length c.self.view_is, length_of c.self.inside.entries.items, c.self.inside.entries.ok.0)
+
+pub returns-clause-value : goal.returns-clause-value
+returns-clause-value c = (read_entry c.self.inside.entries.items c.args.self.now c.args.place c.index.result.now c.self.view_is c.self.invariant c.requires c.index.ensures).formula
+
+pub returns-clause-formed : goal.returns-clause-formed
+returns-clause-formed c = (read_entry c.self.inside.entries.items c.args.self.now c.args.place c.index.result.now c.self.view_is c.self.invariant c.requires c.index.ensures).formed

@@ -1,0 +1,45 @@
+//! The faults that stand in the way of an extraction, in their order.
+ghost use Rattle.std.specs.Prelude.{◌≡◌, None, Ok, Err, IfOk, IfErr};
+ghost use Rattle.std.specs.List.{position};
+ghost use Rattle.proof_graph.specs.Graphs.{IsOf};
+ghost use Rattle.proof_steps.specs.Places.{steps_of, is_cut_step};
+ghost use Rattle.extraction_laws.specs.Extraction.{extracted};
+ghost use Rattle.exp_extract.specs.Extracting.{extracting, Extracts, NamesFormed};
+
+use crate::fault::ExtractFault;
+use proof_graph::{Graph, ProofRef};
+use proof_steps::{exceeds, first_cut, first_defined};
+use std::alloc::Global;
+
+/// The first fault, if there is one.
+pub(crate) fn check(
+    graph: &Graph,
+    alloc: Global,
+    proof: &ProofRef,
+    budget: u64,
+) -> Result<(), ExtractFault>
+    requires { IsOf graph.now proof.now }
+    ensures ok { IfOk result (λ _. extracting proof.now.tree budget ≡ Ok (extracted proof.now.tree)) }
+    ensures err { IfErr result (λ fault. Extracts (Err fault) (extracting proof.now.tree budget)) }
+    ensures named { IfErr result NamesFormed }
+{
+    match first_cut(graph, alloc, proof)? {
+        Some(place) => Err(ExtractFault::Cut(place)),
+        None => check_end(graph, proof, budget),
+    }
+}
+
+// The first fault of a proof without cuts.
+fn check_end(graph: &Graph, proof: &ProofRef, budget: u64) -> Result<(), ExtractFault>
+    requires of { IsOf graph.now proof.now }
+    requires cut_free { position is_cut_step (steps_of proof.now.tree) ≡ None }
+    ensures ok { IfOk result (λ _. extracting proof.now.tree budget ≡ Ok (extracted proof.now.tree)) }
+    ensures err { IfErr result (λ fault. Extracts (Err fault) (extracting proof.now.tree budget)) }
+    ensures named { IfErr result NamesFormed }
+{
+    match first_defined(&graph.get(proof).end)? {
+        Some((formula, side)) => Err(ExtractFault::Defined { formula, side }),
+        None if exceeds(proof, budget)? => Err(ExtractFault::Budget),
+        None => Ok(()),
+    }
+}

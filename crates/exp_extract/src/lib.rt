@@ -1,0 +1,24 @@
+//! Expansion proofs from proofs without cuts, after Miller (1987).
+#![tactic(auto)]
+
+mod extraction;
+mod fault;
+mod faults;
+mod inferences;
+pub mod laws;
+mod maps;
+mod marked_proof;
+mod markings;
+mod marks;
+mod names;
+mod pairing;
+mod places;
+mod reading;
+mod roots;
+mod sides;
+mod variables;
+mod visits;
+mod walking;
+
+pub use extraction::extract;
+pub use fault::ExtractFault;
