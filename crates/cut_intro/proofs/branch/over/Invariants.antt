@@ -1,0 +1,18 @@
+-- The inferences that are left are right over the proof so far, and give the whole.
+use Rattle.std.proofs.Common.{◌≡◌, vec_len}
+use mathlib.Core.List.{IsPrefix}
+use Rattle.proof_graph.specs.Graphs.{IsOf, IsPassOf, history}
+use Rattle.cut_intro.specs.Branches.{over_each, AreInferences}
+use Rattle.cut_intro.proofs.branch.over.Given as goal
+
+abbrev pub invariant-loop-rule : goal.invariant-loop-rule
+invariant-loop-rule g l = record {
+  whole : over_each l.list.items l.proof.tree ≡ over_each l.initial.list.items l.initial.proof.tree;
+  right : AreInferences l.list.items l.proof.tree;
+  of : IsOf l.graph l.proof;
+  grown : IsPrefix (history l.initial.pass) (history l.pass);
+  pass_of : IsPassOf l.graph l.pass;
+}
+
+abbrev pub decreases-loop-rule : goal.decreases-loop-rule
+decreases-loop-rule g l = vec_len l.list

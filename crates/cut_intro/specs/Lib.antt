@@ -1,0 +1,7 @@
+pub mod Faults
+pub mod Instancing
+pub mod Instances
+pub mod Branches
+pub mod Performing
+pub mod Cuttings
+pub mod Introducing

@@ -1,0 +1,25 @@
+//! Herbrand sequents and the introduction of one cut, after Hetzl, Leitsch, Reis and Weller (2014).
+#![tactic(auto)]
+
+mod branch;
+mod cut_formula;
+mod fault;
+mod filling;
+mod instance;
+mod instances;
+mod instancing;
+mod introduction;
+mod items;
+pub mod laws;
+mod matrices;
+mod performing;
+mod planning;
+mod prenex;
+mod rules;
+mod tuples;
+mod variables;
+
+pub use fault::{HerbrandFault, IntroFault};
+pub use instancing::herbrand;
+pub use introduction::{Introduced, introduce};
+pub use items::herbrand_sequent;

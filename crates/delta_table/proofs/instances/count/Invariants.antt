@@ -1,0 +1,7 @@
+-- The tuples so far are counted.
+use Rattle.std.proofs.Common.{◌≡◌, ◌-◌, ◌^◌, min, take}
+use Rattle.delta_table.specs.Items.{counted}
+use Rattle.delta_table.proofs.instances.count.Given as goal
+
+abbrev pub invariant-loop-item : goal.invariant-loop-item
+invariant-loop-item l = l.count ≡ min (counted (take l.item-index l.item-items)) (2 ^ 64 - 1)

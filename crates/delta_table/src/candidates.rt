@@ -1,0 +1,173 @@
+//! The best candidate for a cut.
+ghost use Rattle.std.specs.Prelude.{◌≡◌, ◌≤◌, length, option_map, IfOk, IfSome};
+ghost use Rattle.std.specs.List.{All};
+ghost use Rattle.herbrand_laws.specs.Herbrand.{Item as Meaning};
+ghost use Rattle.herbrand_laws.specs.Candidates.{best as best_values};
+ghost use Rattle.delta_table.specs.Items.{counted, IsItem};
+ghost use Rattle.delta_table.specs.Chosen.{zipped, made_patterns, made_rest, patterns_found, pattern_of_places, candidate_of};
+ghost use Rattle.delta_table.specs.FoundRows.{tally_of};
+
+use crate::costs::{costs, least_place};
+use crate::founds::Found;
+use crate::instances::Instances;
+use crate::item::Item;
+use crate::items::Items;
+use crate::pattern_lists::Patterns;
+use crate::places::{tuples_at, tuples_outside};
+use crate::rows::{Row, delta};
+use crate::tables::{Rows, keys, tables};
+use crate::tuples::Tuples;
+use crate::values::Values;
+use fol::Terms;
+use std::alloc::{AllocError, Global};
+use std::thread::Threads;
+
+/// A candidate for a cut: a set of values, the patterns of each item whose rows have just these values, the tuples of each item that these
+/// don't cover, and how many quantifier inferences the proof with the cut has.
+#[derive(Drop)]
+pub struct Candidate {
+    pub values: Values,
+    pub patterns: Patterns,
+    pub rest: Instances,
+    pub cost: u128,
+}
+
+// The pattern of a row's tuples.
+fn pattern_of(alloc: Global, tuples: &[Terms], places: u64) -> Result<Option<Terms>, AllocError>
+    requires { length tuples.now ≤ 64 }
+    ensures { IfOk result (λ o. o ≡ pattern_of_places tuples.now places) }
+{
+    let chosen = tuples_at(alloc, tuples, places)?;
+    match delta(alloc, &chosen)? {
+        None => Ok(None),
+        Some(Row { pattern, values: _ }) => Ok(Some(pattern)),
+    }
+}
+
+// The patterns of the rows that have these values.
+fn patterns_of(
+    alloc: Global,
+    tuples: &[Terms],
+    rows: &[Found],
+    values: &Values,
+) -> Result<Vec<Terms>, AllocError>
+    requires { length tuples.now ≤ 64 }
+    ensures { IfOk result (λ v. v.items ≡ patterns_found tuples.now values.now rows.now) }
+{
+    let mut patterns = Vec::new(alloc);
+    for row in rows {
+        if row.values == *values {
+            if let Some(pattern) = pattern_of(alloc, tuples, row.places)? {
+                patterns.push(pattern)?;
+            }
+        }
+    }
+    Ok(patterns)
+}
+
+// The places of the tuples of the rows that have these values.
+fn covered(rows: &[Found], values: &Values) -> u64
+    ensures { result ≡ (tally_of values.now rows.now).places }
+{
+    let mut places = 0;
+    for row in rows {
+        if row.values == *values {
+            places |= row.places;
+        }
+    }
+    places
+}
+
+// The item with the tuples that rows with these values don't have.
+fn rest_of(alloc: Global, item: &Item, rows: &[Found], values: &Values) -> Result<Item, AllocError>
+    requires { length item.now.tuples ≤ 64 }
+    ensures { IfOk result (λ i. i ≡ made_rest values.now item.now rows.now) }
+{
+    item.known();
+    let places = covered(rows, values);
+    let tuples = tuples_outside(alloc, item.tuples().as_slice(), places)?;
+    let formula = item.formula().copy()?;
+    Ok(Item::new(item.side(), formula, Tuples::from_rising(tuples)))
+}
+
+// The patterns of each item.
+#[tactic(auto, using(crate::proofs::CostSteps::zipped_more))]
+fn all_patterns(
+    alloc: Global,
+    items: &[Item],
+    tables: &[Rows],
+    values: &Values,
+) -> Result<Patterns, AllocError>
+    requires as_many { length tables.now ≡ length items.now }
+    requires few { All (λ (i : Meaning). length i.tuples ≤ 64) items.now }
+    ensures { IfOk result (λ p. p ≡ zipped (made_patterns values.now) items.now tables.now) }
+{
+    let mut patterns = Vec::with_capacity(alloc, items.len())?;
+    for at in 0..items.len() {
+        let tuples = items[at].tuples().as_slice();
+        let list = patterns_of(alloc, tuples, tables[at].as_slice(), values)?;
+        patterns.push(Tuples::from_vec(list))?;
+    }
+    Ok(Patterns::from_vec(patterns))
+}
+
+// The rest of each item.
+#[tactic(auto, using(crate::proofs::CostSteps::zipped_more))]
+fn all_rests(
+    alloc: Global,
+    items: &[Item],
+    tables: &[Rows],
+    values: &Values,
+) -> Result<Instances, AllocError>
+    requires as_many { length tables.now ≡ length items.now }
+    requires few { All (λ (i : Meaning). length i.tuples ≤ 64) items.now }
+    ensures { IfOk result (λ r. r ≡ zipped (made_rest values.now) items.now tables.now) }
+{
+    let mut rests = Vec::with_capacity(alloc, items.len())?;
+    for at in 0..items.len() {
+        rests.push(rest_of(alloc, &items[at], tables[at].as_slice(), values)?)?;
+    }
+    Ok(Instances::new(Items::from_vec(rests)))
+}
+
+// Each item is as items are always.
+fn known_items(items: &[Item])
+    ensures { All IsItem items.now }
+{
+    for item in items {
+        item.known();
+    }
+}
+
+/// The candidate of least cost, of those of one cost one with the fewest values, and of these the one whose rising list of values is least. All
+/// rows of two to `width` tuples are looked at. There is none exactly where there is no row. Several threads look for the rows of an item of
+/// many tuples; the answer is the same whatever they do.
+pub fn best<R: Threads + Sync>(
+    rt: &R,
+    alloc: Global,
+    instances: &Instances,
+    width: u64,
+) -> Result<Option<Candidate>, AllocError>
+    requires counted { counted instances.now ≤ 48 }
+    requires least_width { 2 ≤ width }
+    requires most_width { width ≤ 4 }
+    ensures { IfOk result (λ o. o ≡ option_map (candidate_of width instances.now) (best_values width instances.now)) }
+{
+    let items = instances.items();
+    known_items(items);
+    let tables = tables(rt, alloc, items, width)?;
+    let keys = keys(alloc, &tables)?;
+    let costs = costs(alloc, &keys, items, &tables)?;
+    let Some(at) = least_place(&keys, &costs) else {
+        return Ok(None);
+    };
+    let values = keys[at].copy(alloc)?;
+    let patterns = all_patterns(alloc, items, &tables, &values)?;
+    let rest = all_rests(alloc, items, &tables, &values)?;
+    Ok(Some(Candidate {
+        values,
+        patterns,
+        rest,
+        cost: costs[at],
+    }))
+}

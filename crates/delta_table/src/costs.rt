@@ -1,0 +1,117 @@
+//! What candidates cost.
+ghost use Rattle.std.specs.Prelude.{◌≡◌, ◌+◌, ◌≤◌, ◌<◌, ◌^◌, ℕ, length, map, IfOk, IfSome, option_map, slice_index_or};
+ghost use Rattle.std.specs.List.{All};
+ghost use Rattle.finite.specs.Finite as set;
+ghost use Rattle.finite.specs.Finite.{IsRising};
+ghost use Rattle.herbrand_laws.specs.Herbrand.{Item as Meaning};
+ghost use Rattle.herbrand_laws.specs.Patterns.{TermSet};
+ghost use Rattle.herbrand_laws.specs.Candidates.{least, lesser};
+ghost use Rattle.delta_table.specs.Chosen.{share as share_of, zipped, made_cost};
+ghost use Rattle.delta_table.specs.ValueOrder.{values_cmp, by_cost};
+
+use crate::item::Item;
+use crate::order::compare_sizes;
+use crate::places::count_outside;
+use crate::tables::Rows;
+use crate::tallies::{Tally, tally_rows};
+use crate::values::Values;
+use std::alloc::{AllocError, Global};
+
+// A quantifier inference for each quantifier of an item, of each row of a tally and of each tuple that isn't among those of the tally.
+#[tactic(auto, using(crate::proofs::CostSteps::share_fits))]
+fn share(item: &Item, tally: Tally) -> u128
+    requires { length item.now.tuples ≤ 64 }
+    ensures { result ≡ share_of item.now tally }
+{
+    let left = count_outside(item.tuples().as_slice(), tally.places);
+    let count = u128::from(tally.rows) + u128::from(left);
+    u128::from(item.quantifiers()) * count
+}
+
+// Costs with the shares of an item. No memory holds so many items that a sum would not fit.
+#[tactic(auto, using(crate::proofs::CostSteps::zipped_more))]
+fn with_shares(
+    alloc: Global,
+    costs: &[u128],
+    tallies: &[Tally],
+    item: &Item,
+) -> Result<Vec<u128>, AllocError>
+    requires as_many { length costs.now ≡ length tallies.now }
+    requires few { length item.now.tuples ≤ 64 }
+    ensures { IfOk result (λ v. v.items ≡ zipped (λ c t. c + share_of item.now t) costs.now tallies.now) }
+{
+    let mut sums = Vec::with_capacity(alloc, costs.len())?;
+    for at in 0..costs.len() {
+        let share = share(item, tallies[at]);
+        let Some(sum) = costs[at].checked_add(share) else {
+            return Err(AllocError);
+        };
+        sums.push(sum)?;
+    }
+    Ok(sums)
+}
+
+// What the values cost, without items.
+fn first_costs(alloc: Global, keys: &[Values]) -> Result<Vec<u128>, AllocError>
+    ensures { IfOk result (λ v. v.items ≡ map (λ (w : TermSet). 1 + length (set.listing w)) keys.now) }
+{
+    let mut costs = Vec::with_capacity(alloc, keys.len())?;
+    for key in keys {
+        costs.push(1 + key.as_slice().len() as u128)?;
+    }
+    Ok(costs)
+}
+
+/// What each candidate costs, by the rows of the items.
+pub(crate) fn costs(
+    alloc: Global,
+    keys: &[Values],
+    items: &[Item],
+    tables: &[Rows],
+) -> Result<Vec<u128>, AllocError>
+    requires rises { IsRising values_cmp keys.now }
+    requires as_many { length tables.now ≡ length items.now }
+    requires few { All (λ (i : Meaning). length i.tuples ≤ 64) items.now }
+    ensures { IfOk result (λ v. v.items ≡ map (λ w. made_cost w items.now tables.now) keys.now) }
+{
+    let mut costs = first_costs(alloc, keys)?;
+    for at in 0..items.len() {
+        let tallies = tally_rows(alloc, keys, tables[at].as_slice())?;
+        costs = with_shares(alloc, &costs, &tallies, &items[at])?;
+    }
+    Ok(costs)
+}
+
+// The place of the lesser of a candidate and the least of others.
+fn lesser_place(keys: &[Values], costs: &[u128], at: usize, least: Option<usize>) -> usize
+    requires as_many { length costs.now ≡ length keys.now }
+    requires within { at < length keys.now }
+    requires least { IfSome least (λ k. k < length keys.now) }
+    ensures within { result < length keys.now }
+    ensures value { (c : TermSet → ℕ) → costs.now ≡ map c keys.now → slice_index_or keys.now result set.empty ≡ lesser (by_cost c) (slice_index_or keys.now at set.empty) (option_map (λ k. slice_index_or keys.now k set.empty) least) }
+{
+    let Some(other) = least else {
+        return at;
+    };
+    let order = costs[at].cmp(&costs[other]);
+    if order.then(compare_sizes(&keys[at], &keys[other])).is_gt() {
+        other
+    } else {
+        at
+    }
+}
+
+/// The place of the least candidate by the costs.
+pub(crate) fn least_place(keys: &[Values], costs: &[u128]) -> Option<usize>
+    requires { length costs.now ≡ length keys.now }
+    ensures within { IfSome result (λ k. k < length keys.now) }
+    ensures value { (c : TermSet → ℕ) → costs.now ≡ map c keys.now → option_map (λ k. slice_index_or keys.now k set.empty) result ≡ least (by_cost c) keys.now }
+{
+    let mut least = None;
+    let mut at = keys.len();
+    while at > 0 {
+        at -= 1;
+        least = Some(lesser_place(keys, costs, at, least));
+    }
+    least
+}

@@ -1,0 +1,59 @@
+//! The rows of an item by several threads, one for each first tuple.
+ghost use Rattle.std.specs.Prelude.{◌≡◌, ◌<◌, ◌≤◌, ◌+◌, ℕ, List, Result, length, vec_len, slice_index_or, IfOk};
+ghost use Rattle.std.specs.declared.alloc.AllocError.{AllocError as NoMemory};
+ghost use Rattle.delta_table.specs.declared.founds.Found.{Found as Record};
+ghost use Rattle.delta_table.specs.FoundRows.{founds_from, founds as founds_of};
+
+use crate::founds::rows_from;
+use crate::tables::Rows;
+use fol::Terms;
+use std::alloc::{AllocError, Global};
+use std::thread::{Threads, map_indices};
+
+// The rows by the place of their first tuple.
+fn parts<R: Threads + Sync>(
+    rt: &R,
+    alloc: Global,
+    tuples: &[Terms],
+    width: u64,
+) -> Result<Vec<Result<Rows, AllocError>>, AllocError>
+    requires few { length tuples.now ≤ 64 }
+    requires width { 1 ≤ width }
+    ensures len { IfOk result (λ v. vec_len v ≡ length tuples.now) }
+    ensures each { IfOk result (λ v. (k : ℕ) (d : Result (List Record) NoMemory) → k < length tuples.now → IfOk (slice_index_or v.items k d) (λ rows. rows ≡ founds_from width tuples.now k)) }
+{
+    map_indices(
+        rt,
+        alloc,
+        tuples.len(),
+        &|at: usize| -> Result<Rows, AllocError>
+            requires { (at < length tuples.now) × (length tuples.now ≤ 64) × (1 ≤ width) }
+            ensures { IfOk result (λ rows. rows ≡ founds_from width tuples.entry.now at) }
+        {
+            let rows = rows_from(alloc, tuples, at, width)?;
+            Ok(Rows::from_vec(rows))
+        },
+    )
+}
+
+/// The rows of an item's tuples, by several threads. They come in one order, whatever the threads do.
+#[tactic(auto, using(crate::proofs::FoundRows::founds_split))]
+pub(crate) fn founds_by_threads<R: Threads + Sync>(
+    rt: &R,
+    alloc: Global,
+    tuples: &[Terms],
+    width: u64,
+) -> Result<Rows, AllocError>
+    requires few { length tuples.now ≤ 64 }
+    requires width { 1 ≤ width }
+    ensures { IfOk result (λ rows. rows ≡ founds_of width tuples.now) }
+{
+    let mut parts = parts(rt, alloc, tuples, width)?;
+    let mut rows = Vec::new(alloc);
+    for _at in 0..tuples.len() {
+        let part = parts.remove(0)?;
+        let mut more = part.into_vec();
+        rows.append(&mut more)?;
+    }
+    Ok(Rows::from_vec(rows))
+}
