@@ -32,7 +32,7 @@ use Rattle.job_words.specs.declared.causes.JobCause.TheVariants.{Field, Op as Un
 use Rattle.job_words.specs.declared.kinds.RuleKind.{RuleKind}
 use Rattle.job_words.specs.declared.kinds.RuleKind.TheVariants as kinds
 use Rattle.job_lang.specs.declared.jobs.Op.{Op}
-use Rattle.job_lang.specs.declared.jobs.Op.TheVariants.{Lk, Problem, Proves, Show, Measure, Subst, Cutelim, Resolution, Tautology, Expansion, Interpolate}
+use Rattle.job_lang.specs.declared.jobs.Op.TheVariants.{Lk, Problem, Proves, Show, Measure, Subst, Cutelim, Resolution, Tautology, Expansion, Expand, Fromexp, Interpolate, Herbrand, Cutintro}
 use Rattle.job_lang.specs.Places.{path}
 use Rattle.job_lang.specs.Fields.{Reading, ◌>>=◌, or_fault, text_at, list_at}
 use Rattle.job_lang.specs.Formulas.{in_field, formula_at, term_at, variable_at, side_at}
@@ -44,13 +44,14 @@ use Rattle.job_lang.specs.FormedOps.{AreFormedSides, IsFormedOp}
 use Rattle.job_lang.specs.Sequents.{sequent_at, part_of, part_at}
 use Rattle.job_lang.specs.Maps.{member_path, binding_of, map_of, map_at}
 use Rattle.job_lang.specs.Budgets.{budget_at}
+use Rattle.job_lang.specs.Widths.{width_at}
 use Rattle.job_lang.specs.Numbers.{number_at, numbers_at, pair_at}
 use Rattle.job_lang.specs.Expansions.{flat_at}
 use Rattle.job_lang.specs.Resolutions.{input_step, subst_step, resolve_step, wrong_step, res_step_at, res_steps_of, res_steps_at}
 use Rattle.job_lang.specs.Problems as problems
 use Rattle.job_lang.proofs.FormedFields.{both_read, same_value, in_text, both_true, formula_formed, term_formed, variable_formed, each_formed, chosen, side_formed}
 use Rattle.job_lang.proofs.FormedExpansions.{flat_formed}
-use Rattle.job_lang.specs.Jobs.{value_of, name_of, proves_of, subst_of, cutelim_of, resolution_of, tautology_of, expansion_of, interpolate_of, op_named, op_of, reads_named, reads_value, reads_job}
+use Rattle.job_lang.specs.Jobs.{value_of, name_of, proves_of, subst_of, cutelim_of, resolution_of, tautology_of, expansion_of, expand_of, fromexp_of, interpolate_of, herbrand_of, cutintro_of, budgeted_op_named, op_named, op_of, reads_named, reads_value, reads_job}
 
 module _ (place : Place) (d : Data) where
   -- a rule that names its main formula alone, and one that names a term or a variable too
@@ -262,6 +263,18 @@ module _ (d : Data) (op : Op) where
       let budget = both_read (budget_at d) (λ x. Ok (Expansion flat.0 x)) op flat.1.1 in
       subst IsFormedOp (same_value (Expansion flat.0 budget.0) op budget.1.1) (flat_formed d flat.0 flat.1.0)
 
+  in_expand : expand_of d ≡ Ok op → IsFormedOp op
+  in_expand is =
+      let proof = both_read (text_at places.Top (codes "proof") d) _ op is in
+      let budget = both_read (budget_at d) (λ x. Ok (Expand proof.0 x)) op proof.1.1 in
+      subst IsFormedOp (same_value (Expand proof.0 budget.0) op budget.1.1) tt
+
+  in_fromexp : fromexp_of d ≡ Ok op → IsFormedOp op
+  in_fromexp is =
+      let expansion = both_read (text_at places.Top (codes "expansion") d) _ op is in
+      let budget = both_read (budget_at d) (λ x. Ok (Fromexp expansion.0 x)) op expansion.1.1 in
+      subst IsFormedOp (same_value (Fromexp expansion.0 budget.0) op budget.1.1) tt
+
   in_interpolate : interpolate_of d ≡ Ok op → IsFormedOp op
   in_interpolate is =
       let proof = both_read (text_at places.Top (codes "proof") d) _ op is in
@@ -271,8 +284,32 @@ module _ (d : Data) (op : Op) where
       subst IsFormedOp (same_value (Interpolate proof.0 first.0 second.0 budget.0) op budget.1.1)
       (part_formed places.First (codes "first") d first.0 first.1.0, part_formed places.Second (codes "second") d second.0 second.1.0)
 
+  in_herbrand : herbrand_of d ≡ Ok op → IsFormedOp op
+  in_herbrand is =
+      let proof = both_read (text_at places.Top (codes "proof") d) _ op is in
+      let budget = both_read (budget_at d) (λ x. Ok (Herbrand proof.0 x)) op proof.1.1 in
+      subst IsFormedOp (same_value (Herbrand proof.0 budget.0) op budget.1.1) tt
+
+  in_cutintro : cutintro_of d ≡ Ok op → IsFormedOp op
+  in_cutintro is =
+      let proof = both_read (text_at places.Top (codes "proof") d) _ op is in
+      let width = both_read (width_at d) _ op proof.1.1 in
+      let budget = both_read (budget_at d) (λ x. Ok (Cutintro proof.0 width.0 x)) op width.1.1 in
+      subst IsFormedOp (same_value (Cutintro proof.0 width.0 budget.0) op budget.1.1) tt
+
   in_none : ◌≡◌ {A = Reading Op} (Err UnknownOp) (Ok op) → IsFormedOp op
   in_none is = cc
+
+  budgeted_formed : (name : List ℕ) → budgeted_op_named name d ≡ Ok op → IsFormedOp op
+  budgeted_formed name is =
+      chosen (is_text name (codes "cutelim")) _ _ (Ok op) in_cutelim
+      (chosen (is_text name (codes "tautology")) _ _ (Ok op) in_tautology
+      (chosen (is_text name (codes "expansion")) _ _ (Ok op) in_expansion
+      (chosen (is_text name (codes "expand")) _ _ (Ok op) in_expand
+      (chosen (is_text name (codes "fromexp")) _ _ (Ok op) in_fromexp
+      (chosen (is_text name (codes "interpolate")) _ _ (Ok op) in_interpolate
+      (chosen (is_text name (codes "herbrand")) _ _ (Ok op) in_herbrand
+      (chosen (is_text name (codes "cutintro")) _ _ (Ok op) in_cutintro in_none))))))) is
 
   named_formed : (name : List ℕ) → op_named name d ≡ Ok op → IsFormedOp op
   named_formed name is =
@@ -282,11 +319,7 @@ module _ (d : Data) (op : Op) where
       (chosen (is_text name (codes "show")) _ _ (Ok op) in_show
       (chosen (is_text name (codes "measure")) _ _ (Ok op) in_measure
       (chosen (is_text name (codes "subst")) _ _ (Ok op) in_subst
-      (chosen (is_text name (codes "cutelim")) _ _ (Ok op) in_cutelim
-      (chosen (is_text name (codes "resolution")) _ _ (Ok op) in_resolution
-      (chosen (is_text name (codes "tautology")) _ _ (Ok op) in_tautology
-      (chosen (is_text name (codes "expansion")) _ _ (Ok op) in_expansion
-      (chosen (is_text name (codes "interpolate")) _ _ (Ok op) in_interpolate in_none)))))))))) is
+      (chosen (is_text name (codes "resolution")) _ _ (Ok op) in_resolution (budgeted_formed name))))))) is
 
   op_formed : op_of d ≡ Ok op → IsFormedOp op
   op_formed is =

@@ -8,7 +8,7 @@ use Rattle.job_words.specs.declared.causes.JobCause.TheVariants.{Json, Field, Op
 use Rattle.job_lang.specs.declared.reading.ReadError.{ReadError}
 use Rattle.job_lang.specs.declared.reading.ReadError.TheVariants.{Fault as ReadFault, Memory as ReadMemory}
 use Rattle.job_lang.specs.declared.jobs.Op.{Op}
-use Rattle.job_lang.specs.declared.jobs.Op.TheVariants.{Lk, Problem, Proves, Show, Measure, Subst, Cutelim, Resolution, Tautology, Expansion, Interpolate}
+use Rattle.job_lang.specs.declared.jobs.Op.TheVariants.{Lk, Problem, Proves, Show, Measure, Subst, Cutelim, Resolution, Tautology, Expansion, Expand, Fromexp, Interpolate, Herbrand, Cutintro}
 use Rattle.job_lang.specs.declared.jobs.Job.{Job}
 use Rattle.job_lang.specs.declared.jobs.JobError.{JobError}
 use Rattle.job_lang.specs.declared.jobs.JobError.TheVariants.{Memory, Fault}
@@ -18,6 +18,7 @@ use Rattle.job_lang.specs.Fields.{Reading, ◌>>=◌, or_fault, text_at}
 use Rattle.job_lang.specs.Sequents.{sequent_at, part_at}
 use Rattle.job_lang.specs.Maps.{map_at}
 use Rattle.job_lang.specs.Budgets.{budget_at}
+use Rattle.job_lang.specs.Widths.{width_at}
 use Rattle.job_lang.specs.Problems.{problem_at}
 use Rattle.job_words.specs.RuleKinds.{is_text}
 use Rattle.job_lang.specs.Steps.{steps_at}
@@ -76,6 +77,20 @@ expansion_of d = do
   budget ← budget_at d
   Ok (Expansion flat budget)
 
+-- a proof, by the name of its job, and a budget
+abbrev pub expand_of : Data → Reading Op
+expand_of d = do
+  proof ← text_at Top (codes "proof") d
+  budget ← budget_at d
+  Ok (Expand proof budget)
+
+-- an expansion proof, by the name of its job, and a budget
+abbrev pub fromexp_of : Data → Reading Op
+fromexp_of d = do
+  expansion ← text_at Top (codes "expansion") d
+  budget ← budget_at d
+  Ok (Fromexp expansion budget)
+
 -- a proof, by the name of its job, the two parts of its end sequent, and a budget
 abbrev pub interpolate_of : Data → Reading Op
 interpolate_of d = do
@@ -84,6 +99,34 @@ interpolate_of d = do
   second ← part_at Second (codes "second") d
   budget ← budget_at d
   Ok (Interpolate proof first second budget)
+
+-- a proof, by the name of its job, and a budget
+abbrev pub herbrand_of : Data → Reading Op
+herbrand_of d = do
+  proof ← text_at Top (codes "proof") d
+  budget ← budget_at d
+  Ok (Herbrand proof budget)
+
+-- a proof, by the name of its job, a width, and a budget
+abbrev pub cutintro_of : Data → Reading Op
+cutintro_of d = do
+  proof ← text_at Top (codes "proof") d
+  width ← width_at d
+  budget ← budget_at d
+  Ok (Cutintro proof width budget)
+
+-- the operation of this name with its fields, where it has a budget
+abbrev pub budgeted_op_named : List ℕ → Data → Reading Op
+budgeted_op_named name d =
+    if is_text name (codes "cutelim") then cutelim_of d
+    else (if is_text name (codes "tautology") then tautology_of d
+    else (if is_text name (codes "expansion") then expansion_of d
+    else (if is_text name (codes "expand") then expand_of d
+    else (if is_text name (codes "fromexp") then fromexp_of d
+    else (if is_text name (codes "interpolate") then interpolate_of d
+    else (if is_text name (codes "herbrand") then herbrand_of d
+    else (if is_text name (codes "cutintro") then cutintro_of d
+    else Err UnknownOp)))))))
 
 -- the operation of this name with its fields
 abbrev pub op_named : List ℕ → Data → Reading Op
@@ -94,12 +137,8 @@ op_named name d =
     else (if is_text name (codes "show") then text_at Top (codes "of") d >>= (λ of. Ok (Show of))
     else (if is_text name (codes "measure") then text_at Top (codes "proof") d >>= (λ proof. Ok (Measure proof))
     else (if is_text name (codes "subst") then subst_of d
-    else (if is_text name (codes "cutelim") then cutelim_of d
     else (if is_text name (codes "resolution") then resolution_of d
-    else (if is_text name (codes "tautology") then tautology_of d
-    else (if is_text name (codes "expansion") then expansion_of d
-    else (if is_text name (codes "interpolate") then interpolate_of d
-    else Err UnknownOp))))))))))
+    else budgeted_op_named name d))))))
 
 abbrev pub op_of : Data → Reading Op
 op_of d = text_at Top (codes "op") d >>= λ name. op_named name d

@@ -5,6 +5,7 @@ pub mod Formulas
 pub mod Sequents
 pub mod Maps
 pub mod Budgets
+pub mod Widths
 pub mod Problems
 pub mod Rules
 pub mod Steps

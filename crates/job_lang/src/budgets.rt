@@ -2,10 +2,10 @@
 ghost use Rattle.std.specs.Prelude.{◌≡◌, true};
 ghost use Rattle.serde_json.specs.View.{view};
 ghost use Rattle.job_lang.specs.Fields.{Gives};
-ghost use Rattle.job_lang.specs.Budgets.{is_budget, usual_budget, budget_at as budget_member};
+ghost use Rattle.job_lang.specs.Budgets.{is_budget, budget_at as budget_member};
 
-use crate::places::Place;
-use crate::reading::{ReadError, field_fault};
+use crate::numbers::limited_at;
+use crate::reading::ReadError;
 use serde_json::Value;
 use std::alloc::Global;
 use std::marker::Model;
@@ -29,13 +29,6 @@ impl Model for Budget {
 }
 
 impl Budget {
-    /// The budget of a job that names none: 100,000.
-    pub fn usual() -> Budget
-        ensures { result ≡ usual_budget }
-    {
-        Budget { amount: 100_000 }
-    }
-
     /// How much it allows.
     pub fn get(&self) -> u64
         ensures value { result ≡ self.now }
@@ -46,16 +39,9 @@ impl Budget {
 }
 
 /// The member `budget`, a whole number from 1 to 1,000,000,000; 100,000 where the job has none.
-#[tactic(auto, using(crate::proofs::Given::cause_given))]
 pub fn budget_at(alloc: Global, value: &Value) -> Result<Budget, ReadError>
     ensures { Gives (λ b. b) result (budget_member (view value.now)) }
 {
-    let number = match value.get("budget") {
-        Some(member) => member.as_u64(),
-        None => return Ok(Budget::usual()),
-    };
-    match number {
-        Some(amount) if amount >= 1 && amount <= 1_000_000_000 => Ok(Budget { amount }),
-        _ => Err(field_fault(alloc, Place::Top, "budget", None)),
-    }
+    let amount = limited_at(alloc, value, "budget", 1, 1_000_000_000, 100_000)?;
+    Ok(Budget { amount })
 }

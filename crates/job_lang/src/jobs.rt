@@ -2,7 +2,7 @@
 ghost use Rattle.std.specs.Prelude.{◌≡◌, IfOk};
 ghost use Rattle.serde_json.specs.View.{view};
 ghost use Rattle.job_lang.specs.Fields.{Gives};
-ghost use Rattle.job_lang.specs.Jobs.{error_with, value_of as line_value, name_of as name_data, subst_of as subst_data, cutelim_of as cutelim_data, resolution_of as resolution_data, tautology_of as tautology_data, expansion_of as expansion_data, interpolate_of as interpolate_data, op_named as named_op, op_of as op_data, reads_job, GivesJob};
+ghost use Rattle.job_lang.specs.Jobs.{error_with, value_of as line_value, name_of as name_data, subst_of as subst_data, cutelim_of as cutelim_data, resolution_of as resolution_data, tautology_of as tautology_data, expansion_of as expansion_data, expand_of as expand_data, fromexp_of as fromexp_data, interpolate_of as interpolate_data, herbrand_of as herbrand_data, cutintro_of as cutintro_data, budgeted_op_named as named_budgeted_op, op_named as named_op, op_of as op_data, reads_job, GivesJob};
 
 use crate::budgets::{Budget, budget_at};
 use crate::expansions::flat_at;
@@ -13,6 +13,7 @@ use crate::reading::{ReadError, field_fault, text_at, written_at};
 use crate::resolutions::{ResSteps, res_steps_at};
 use crate::sequents::{part_at, sequent_at};
 use crate::steps::steps_at;
+use crate::widths::{Width, width_at};
 use exp_tree::FlatExp;
 use job_words::{JobCause, Name, Steps, Utf8Text, is_name};
 use lk_rules::Sequent;
@@ -71,12 +72,36 @@ pub enum Op {
         flat: FlatExp,
         budget: Budget,
     },
+    /// An expansion proof of the end sequent of a proof without cuts, which is named by its job. The budget is of inferences of the proof as
+    /// a tree.
+    Expand {
+        proof: Utf8Text,
+        budget: Budget,
+    },
+    /// A proof without cuts of the sequent of an expansion proof, which is named by its job. The budget is of inferences of the proof that
+    /// is built, as a tree.
+    Fromexp {
+        expansion: Utf8Text,
+        budget: Budget,
+    },
     /// An interpolant of a proof without cuts, which is named by its job. Two sequents, the parts, have together just the formulas of its
     /// end sequent. The budget is of inferences of the proof as a tree.
     Interpolate {
         proof: Utf8Text,
         first: Sequent,
         second: Sequent,
+        budget: Budget,
+    },
+    /// The Herbrand sequent of a proof without cuts, which is named by its job. The budget is of inferences of the proof as a tree.
+    Herbrand {
+        proof: Utf8Text,
+        budget: Budget,
+    },
+    /// A proof without cuts, which is named by its job, with one cut where that makes it shorter. The width is of rows of the delta table.
+    /// The budget is of inferences of the proof as a tree, and of sequents that each search visits.
+    Cutintro {
+        proof: Utf8Text,
+        width: Width,
         budget: Budget,
     },
 }
@@ -147,6 +172,22 @@ fn expansion_of(alloc: Global, texts: &mut FormulaTexts, value: &Value) -> Resul
     Ok(Op::Expansion { flat, budget })
 }
 
+fn expand_of(alloc: Global, value: &Value) -> Result<Op, ReadError>
+    ensures { Gives (λ op. op) result (expand_data (view value.now)) }
+{
+    let proof = written_at(alloc, value, Place::Top, "proof")?;
+    let budget = budget_at(alloc, value)?;
+    Ok(Op::Expand { proof, budget })
+}
+
+fn fromexp_of(alloc: Global, value: &Value) -> Result<Op, ReadError>
+    ensures { Gives (λ op. op) result (fromexp_data (view value.now)) }
+{
+    let expansion = written_at(alloc, value, Place::Top, "expansion")?;
+    let budget = budget_at(alloc, value)?;
+    Ok(Op::Fromexp { expansion, budget })
+}
+
 fn interpolate_of(alloc: Global, texts: &mut FormulaTexts, value: &Value) -> Result<Op, ReadError>
     ensures { Gives (λ op. op) result (interpolate_data (view value.now)) }
 {
@@ -160,6 +201,63 @@ fn interpolate_of(alloc: Global, texts: &mut FormulaTexts, value: &Value) -> Res
         second,
         budget,
     })
+}
+
+fn herbrand_of(alloc: Global, value: &Value) -> Result<Op, ReadError>
+    ensures { Gives (λ op. op) result (herbrand_data (view value.now)) }
+{
+    let proof = written_at(alloc, value, Place::Top, "proof")?;
+    let budget = budget_at(alloc, value)?;
+    Ok(Op::Herbrand { proof, budget })
+}
+
+fn cutintro_of(alloc: Global, value: &Value) -> Result<Op, ReadError>
+    ensures { Gives (λ op. op) result (cutintro_data (view value.now)) }
+{
+    let proof = written_at(alloc, value, Place::Top, "proof")?;
+    let width = width_at(alloc, value)?;
+    let budget = budget_at(alloc, value)?;
+    Ok(Op::Cutintro {
+        proof,
+        width,
+        budget,
+    })
+}
+
+// The operations that have a budget.
+fn budgeted_op_named(
+    alloc: Global,
+    texts: &mut FormulaTexts,
+    name: &str,
+    value: &Value,
+) -> Result<Op, ReadError>
+    ensures { Gives (λ op. op) result (named_budgeted_op name.now (view value.now)) }
+{
+    if name == "cutelim" {
+        return cutelim_of(alloc, value);
+    }
+    if name == "tautology" {
+        return tautology_of(alloc, texts, value);
+    }
+    if name == "expansion" {
+        return expansion_of(alloc, texts, value);
+    }
+    if name == "expand" {
+        return expand_of(alloc, value);
+    }
+    if name == "fromexp" {
+        return fromexp_of(alloc, value);
+    }
+    if name == "interpolate" {
+        return interpolate_of(alloc, texts, value);
+    }
+    if name == "herbrand" {
+        return herbrand_of(alloc, value);
+    }
+    if name == "cutintro" {
+        return cutintro_of(alloc, value);
+    }
+    Err(ReadError::Fault(JobCause::Op))
 }
 
 fn op_named(
@@ -194,22 +292,10 @@ fn op_named(
     if name == "subst" {
         return subst_of(alloc, value);
     }
-    if name == "cutelim" {
-        return cutelim_of(alloc, value);
-    }
     if name == "resolution" {
         return resolution_of(alloc, texts, value);
     }
-    if name == "tautology" {
-        return tautology_of(alloc, texts, value);
-    }
-    if name == "expansion" {
-        return expansion_of(alloc, texts, value);
-    }
-    if name == "interpolate" {
-        return interpolate_of(alloc, texts, value);
-    }
-    Err(ReadError::Fault(JobCause::Op))
+    budgeted_op_named(alloc, texts, name, value)
 }
 
 fn op_of(alloc: Global, texts: &mut FormulaTexts, value: &Value) -> Result<Op, ReadError>

@@ -15,6 +15,7 @@ mod resolutions;
 mod rules;
 mod sequents;
 mod steps;
+mod widths;
 
 pub use budgets::Budget;
 pub use jobs::{Job, JobError, Op, read_job};
@@ -22,3 +23,4 @@ pub use maps::FormedMap;
 pub use places::Place;
 pub use reading::ReadError;
 pub use resolutions::ResSteps;
+pub use widths::Width;

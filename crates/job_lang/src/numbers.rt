@@ -1,8 +1,8 @@
 //! Reading whole numbers, and lists of them.
-ghost use Rattle.std.specs.Prelude.{◌≡◌, map};
+ghost use Rattle.std.specs.Prelude.{◌≡◌, true, map, IfOk};
 ghost use Rattle.serde_json.specs.View.{view};
 ghost use Rattle.job_lang.specs.Fields.{Gives, each};
-ghost use Rattle.job_lang.specs.Numbers.{number_at as number_member, number_of as number_data, numbers_at as numbers_member, pair_of as pair_data, pair_at as pair_member};
+ghost use Rattle.job_lang.specs.Numbers.{number_at as number_member, number_of as number_data, numbers_at as numbers_member, pair_of as pair_data, pair_at as pair_member, is_within, limited_at as limited_member};
 
 use crate::places::Place;
 use crate::reading::{ReadError, field_fault, list_at};
@@ -102,4 +102,28 @@ pub fn pair_at(
 {
     let values = list_at(alloc, value, place, key)?;
     pair_of(alloc, values, place, key)
+}
+
+/// The member of the job that is a whole number from `least` to `most`, or `usual` where the job has no such member.
+#[tactic(auto, using(crate::proofs::Given::cause_given))]
+pub fn limited_at(
+    alloc: Global,
+    value: &Value,
+    key: &str,
+    least: u64,
+    most: u64,
+    usual: u64,
+) -> Result<u64, ReadError>
+    requires { is_within least most usual ≡ true }
+    ensures number { Gives (λ n. n) result (limited_member key.now least most usual (view value.now)) }
+    ensures within { IfOk result (λ n. is_within least most n ≡ true) }
+{
+    let number = match value.get(key) {
+        Some(member) => member.as_u64(),
+        None => return Ok(usual),
+    };
+    match number {
+        Some(number) if number >= least && number <= most => Ok(number),
+        _ => Err(field_fault(alloc, Place::Top, key, None)),
+    }
 }

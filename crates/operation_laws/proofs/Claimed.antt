@@ -3,6 +3,7 @@ use Rattle.std.proofs.Common.{◌≡◌, ℕ, List, [], ◌∷◌, length, Optio
 use Rattle.std.specs.Prelude.{IfSome}
 use Rattle.std.specs.List.{All}
 use Rattle.proof_trees.specs.Trees.{Tree}
+use Rattle.expansion_laws.specs.Dependency.{Expansion}
 use Rattle.exp_tree.specs.Writing.{flat_of}
 use Rattle.proof_steps.specs.Places.{steps_of}
 use Rattle.tptp_problem.specs.declared.problems.Problem.{Problem}
@@ -11,11 +12,14 @@ use Rattle.job_lang.specs.declared.jobs.Op.TheVariants as ops
 use Rattle.job_lang.specs.FormedOps.{IsFormedOp}
 use Rattle.operation_laws.specs.Values.{Value, IsSound}
 use Rattle.operation_laws.specs.Answers.{Product, problem, steps, nodes, product}
-use Rattle.operation_laws.specs.Given.{names_in, Found, found, ToShow, of_proof, of_expansion, shown_given, proof_given, problem_given, first_of, second_of}
+use Rattle.operation_laws.specs.Given.{names_in, Found, found, ToShow, of_proof, of_expansion, shown_given, proof_given, problem_given, expansion_given, first_of, second_of}
 use Rattle.operation_laws.specs.Running.{lists, run}
-use Rattle.operation_laws.specs.Claims.{IsFoundAnd, GivenProof, GivenProblem, GivenBoth, IsListOf, Lists, Claims}
-use Rattle.operation_laws.proofs.Making.{over_made, over_both_made, lk_made, subst_made, cutelim_made, resolution_made, tautology_made, ReadsRightly, ChecksRightly, expansion_made, first_sound}
-use Rattle.operation_laws.proofs.Interpolated.{InterpolatesRightly, interpolation_made}
+use Rattle.operation_laws.specs.Claims.{IsFoundAnd, GivenProof, GivenProblem, GivenExpansion, GivenBoth, IsListOf, Lists, Claims}
+use Rattle.operation_laws.proofs.Making.{over_made, over_both_made, lk_made, subst_made, cutelim_made, resolution_made, tautology_made, expansion_made, first_sound}
+use Rattle.operation_laws.proofs.Interpolated.{interpolation_made}
+use Rattle.operation_laws.proofs.Trees.{expand_made, fromexp_made}
+use Rattle.operation_laws.proofs.Introduced.{herbrand_made, cutintro_made}
+use Rattle.operation_laws.proofs.Rightly.{WorksRightly}
 
 -- what is given, by what the fields are given
 found_and : {A : Type 0} (f : Found A) (a : A) (P : A → Type 0) → f ≡ found a → P a → IsFoundAnd f P
@@ -31,6 +35,12 @@ given_problem : (goal : List ℕ) (vs : List (Option Value)) (p : Problem) (P : 
 given_problem goal [] p P one is h = absurd (omega arith)
 given_problem goal (v ∷ []) p P one is h = found_and (problem_given goal v) p P is h
 given_problem goal (v ∷ w ∷ vs) p P one is h = absurd (omega arith)
+
+given_expansion : (of : List ℕ) (vs : List (Option Value)) (x : Expansion) (P : Expansion → Type 0) → length vs ≡ 1 → expansion_given of (first_of vs) ≡ found x → P x
+    → GivenExpansion of vs P
+given_expansion of [] x P one is h = absurd (omega arith)
+given_expansion of (v ∷ []) x P one is h = found_and (expansion_given of v) x P is h
+given_expansion of (v ∷ w ∷ vs) x P one is h = absurd (omega arith)
 
 given_both : (of goal : List ℕ) (vs : List (Option Value)) (t : Tree) (p : Problem) (P : Tree → Problem → Type 0) → length vs ≡ 2 → proof_given of (first_of vs) ≡ found t
     → problem_given goal (second_of vs) ≡ found p → P t p → GivenBoth of goal vs P
@@ -53,24 +63,32 @@ given_shown of [] s made one is done = absurd (omega arith)
 given_shown of (v ∷ []) s made one is done = found_and (shown_given of v) s (IsListOf made) is (listed s made done)
 given_shown of (v ∷ w ∷ vs) s made one is done = absurd (omega arith)
 
-pub claimed : ReadsRightly → ChecksRightly → InterpolatesRightly → (op : Op) (vs : List (Option Value)) (made : Product) → IsFormedOp op → length vs ≡ length (names_in op)
+pub claimed : WorksRightly → (op : Op) (vs : List (Option Value)) (made : Product) → IsFormedOp op → length vs ≡ length (names_in op)
     → All (λ v. IfSome v IsSound) vs → run op vs ≡ product made → Claims op vs made
-claimed reads_right checks_right interpolates_right (ops.Lk list) vs made formed count sound is = lk_made list made formed is
-claimed reads_right checks_right interpolates_right (ops.Problem p) vs made formed count sound is = same (problem p) made is
-claimed reads_right checks_right interpolates_right (ops.Proves of goal) vs made formed count sound is =
+claimed rightly (ops.Lk list) vs made formed count sound is = lk_made list made formed is
+claimed rightly (ops.Problem p) vs made formed count sound is = same (problem p) made is
+claimed rightly (ops.Proves of goal) vs made formed count sound is =
     let both = over_both_made (proof_given of (first_of vs)) (problem_given goal (second_of vs)) _ made is in
     given_both of goal vs both.0 both.1 _ count both.2 both.3 (same _ made both.4)
-claimed reads_right checks_right interpolates_right (ops.Show of) vs made formed count sound is =
+claimed rightly (ops.Show of) vs made formed count sound is =
     let one = over_made (shown_given of (first_of vs)) lists made is in given_shown of vs one.0 made count one.1 one.2
-claimed reads_right checks_right interpolates_right (ops.Measure of) vs made formed count sound is =
+claimed rightly (ops.Measure of) vs made formed count sound is =
     let one = over_made (proof_given of (first_of vs)) _ made is in given_proof of vs one.0 _ count one.1 (same _ made one.2)
-claimed reads_right checks_right interpolates_right (ops.Subst of m) vs made formed count sound is =
+claimed rightly (ops.Subst of m) vs made formed count sound is =
     let one = subst_made of m (first_of vs) made formed (first_sound vs sound) is in given_proof of vs one.0 _ count one.1 one.2
-claimed reads_right checks_right interpolates_right (ops.Cutelim of n) vs made formed count sound is =
+claimed rightly (ops.Cutelim of n) vs made formed count sound is =
     let one = cutelim_made of n (first_of vs) made (first_sound vs sound) is in given_proof of vs one.0 _ count one.1 one.2
-claimed reads_right checks_right interpolates_right (ops.Resolution of list) vs made formed count sound is =
+claimed rightly (ops.Resolution of list) vs made formed count sound is =
     let one = resolution_made of list (first_of vs) made formed (first_sound vs sound) is in given_problem of vs one.0 _ count one.1 one.2
-claimed reads_right checks_right interpolates_right (ops.Tautology s n) vs made formed count sound is = tautology_made s n made formed is
-claimed reads_right checks_right interpolates_right (ops.Expansion flat n) vs made formed count sound is = expansion_made reads_right checks_right flat n made is
-claimed reads_right checks_right interpolates_right (ops.Interpolate of one two n) vs made formed count sound is =
-    let pair = interpolation_made interpolates_right of one two n (first_of vs) made formed (first_sound vs sound) is in given_proof of vs pair.0 _ count pair.1 pair.2
+claimed rightly (ops.Tautology s n) vs made formed count sound is = tautology_made s n made formed is
+claimed rightly (ops.Expansion flat n) vs made formed count sound is = expansion_made rightly.reads rightly.checks flat n made is
+claimed rightly (ops.Expand of n) vs made formed count sound is =
+    let one = expand_made rightly.extracts of n (first_of vs) made (first_sound vs sound) is in given_proof of vs one.0 _ count one.1 one.2
+claimed rightly (ops.Fromexp of n) vs made formed count sound is =
+    let one = fromexp_made rightly.builds of n (first_of vs) made (first_sound vs sound) is in given_expansion of vs one.0 _ count one.1 one.2
+claimed rightly (ops.Interpolate of one two n) vs made formed count sound is =
+    let pair = interpolation_made rightly.interpolates of one two n (first_of vs) made formed (first_sound vs sound) is in given_proof of vs pair.0 _ count pair.1 pair.2
+claimed rightly (ops.Herbrand of n) vs made formed count sound is =
+    let one = herbrand_made rightly.instances of n (first_of vs) made (first_sound vs sound) is in given_proof of vs one.0 _ count one.1 one.2
+claimed rightly (ops.Cutintro of width n) vs made formed count sound is =
+    let one = cutintro_made rightly.introduces of width n (first_of vs) made (first_sound vs sound) is in given_proof of vs one.0 _ count one.1 one.2

@@ -1,6 +1,9 @@
 pub mod Searches
 pub mod Making
 pub mod Interpolated
+pub mod Trees
+pub mod Introduced
+pub mod Rightly
 pub mod Sound
 pub mod Claimed
 pub mod Shows

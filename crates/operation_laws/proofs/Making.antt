@@ -3,7 +3,6 @@ use Rattle.std.proofs.Common.{◌≡◌, ℕ, Bool, true, false, cond, List, [],
 use Rattle.std.specs.Prelude.{◌^◌, is_some, IfSome}
 use Rattle.std.specs.List.{All, list_all}
 use Rattle.std.specs.FinMap as fin
-use Rattle.finite.specs.Finite as set
 use Rattle.std.proofs.lemmas.Bool.{ltb-true}
 use Rattle.std.proofs.lemmas.List.Elements.{All-cons, All-head, All-tail}
 use Rattle.fol.specs.Formed.{IsFormed}
@@ -59,7 +58,7 @@ use Rattle.operation_laws.specs.declared.refusals.Refusal.TheVariants.{Kind}
 use Rattle.operation_laws.specs.Values.{Value, IsSound}
 use Rattle.operation_laws.specs.Values as values
 use Rattle.operation_laws.specs.Answers.{Product, proof, reduced, expansion, Answer, lacking, product}
-use Rattle.operation_laws.specs.Given.{first_name, second_name, pair_name, Found, missing, wanting, found, or_kind, proof_given, problem_given, first_of}
+use Rattle.operation_laws.specs.Given.{first_name, second_name, pair_name, Found, missing, wanting, found, or_kind, proof_given, problem_given, expansion_given, first_of}
 use Rattle.operation_laws.specs.Running.{over, over_both, admits, eliminates, has_closure, refuted, refutes, quantified_in, searched, searches, checked, reads}
 use Rattle.operation_laws.specs.Claims.{IsProofOf, AProof, AReducedProof, AnExpansion, IsEliminated, IsCutFreeProofOf, IsExpansionOf}
 use Rattle.operation_laws.proofs.Searches.{found_proved}
@@ -96,6 +95,18 @@ found_read text (Some (values.pair t u)) p sound is = cc
 found_read text (Some (values.problem q)) p sound is = subst IsReadProblem (whole_is text (is_some (pair_name text)) q p is) sound
 found_read text (Some (values.expansion x)) p sound is = cc
 
+-- expansion trees that a field is given are an expansion proof
+pub found_expansion : (text : List ℕ) (v : Option Value) (x : Expansion) → IfSome v IsSound → expansion_given text v ≡ found x → IsExpansionProof x (shallow_sequent x)
+found_expansion text None x sound is = cc
+found_expansion text (Some values.nothing) x sound is = cc
+found_expansion text (Some values.refused) x sound is = cc
+found_expansion text (Some values.lacking) x sound is = cc
+found_expansion text (Some (values.proof t)) x sound is = cc
+found_expansion text (Some (values.pair t u)) x sound is = cc
+found_expansion text (Some (values.problem p)) x sound is = cc
+found_expansion text (Some (values.expansion y)) x sound is =
+    subst (λ z. IsExpansionProof z (shallow_sequent z)) (whole_is text (is_some (pair_name text)) y x is) sound
+
 -- something is made only of what is found
 pub over_made : {A : Type 0} (f : Found A) (k : A → Answer) (made : Product) → over f k ≡ product made → (a : A) × (f ≡ found a) × (k a ≡ product made)
 over_made (missing r) k made is = cc
@@ -113,7 +124,7 @@ first_sound [] sound = tt
 first_sound (v ∷ vs) sound = All-head (λ v. IfSome v IsSound) v vs sound
 
 -- the product is this proof
-this_proof : (t : Tree) (made : Product) (P : Tree → Type 0) → product (proof t) ≡ product made → P t → AProof made P
+pub this_proof : (t : Tree) (made : Product) (P : Tree → Type 0) → product (proof t) ≡ product made → P t → AProof made P
 this_proof t made P is h = let same : proof t ≡ made = cc in subst (λ p. AProof p P) same h
 
 -- a list of steps

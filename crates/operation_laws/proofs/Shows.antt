@@ -3,8 +3,8 @@ use Rattle.std.proofs.Common.{◌≡◌, Bool, true, false, refl, sym, ap, ◌�
 use Rattle.reply_lines.specs.Replies.{is_ok_outcome}
 use Rattle.reply_lines.specs.OneLine.{is_want}
 use Rattle.operation_laws.specs.declared.refusals.Refusal.TheVariants.{UnknownName, Kind, Empty, Step}
-use Rattle.operation_laws.specs.declared.refusals.Failure.TheVariants.{Budget, Refutation, Quantified, Falsified, Node, Root, EigenTwice, EigenFree, Cycle, Cut, Defined, Partition}
-use Rattle.operation_laws.specs.Answers.{Product, proof, reduced, problem, proves, steps, sizes, expansion, nodes, interpolant, Answer, refused, failed, lacking, product, shown, with_lack, may_lack}
+use Rattle.operation_laws.specs.declared.refusals.Failure.TheVariants.{Budget, Refutation, Quantified, Falsified, Node, Root, EigenTwice, EigenFree, Cycle, Cut, Defined, Partition, NotPrenex, TooMany}
+use Rattle.operation_laws.specs.Answers.{Product, proof, reduced, problem, proves, steps, sizes, expansion, nodes, interpolant, herbrand, introduced, Answer, refused, failed, lacking, product, shown, with_lack, may_lack}
 
 -- a reply is want of memory just where memory ran out
 pub want_by : (lacked : Bool) (a : Answer) → may_lack lacked a → is_want (shown (with_lack lacked a)) ≡ lacked
@@ -27,6 +27,8 @@ want_by false (failed (Cycle vs)) may = refl
 want_by false (failed (Cut step)) may = refl
 want_by false (failed (Defined f side)) may = refl
 want_by false (failed (Partition f side)) may = refl
+want_by false (failed (NotPrenex f side)) may = refl
+want_by false (failed (TooMany k)) may = refl
 want_by false (product (proof t)) may = refl
 want_by false (product (reduced t n)) may = refl
 want_by false (product (problem p)) may = refl
@@ -36,6 +38,8 @@ want_by false (product (sizes cuts distinct quants size)) may = refl
 want_by false (product (expansion x)) may = refl
 want_by false (product (nodes flat)) may = refl
 want_by false (product (interpolant f t u)) may = refl
+want_by false (product (herbrand k s)) may = refl
+want_by false (product (introduced t b)) may = refl
 
 -- a reply that is no error shows a product
 pub ok_by : (a : Answer) → is_ok_outcome (shown a) ≡ true → (p : Product) × (a ≡ product p)
@@ -55,6 +59,8 @@ ok_by (failed (Cycle vs)) ok = cc
 ok_by (failed (Cut step)) ok = cc
 ok_by (failed (Defined f side)) ok = cc
 ok_by (failed (Partition f side)) ok = cc
+ok_by (failed (NotPrenex f side)) ok = cc
+ok_by (failed (TooMany k)) ok = cc
 ok_by lacking ok = cc
 ok_by (product p) ok = (p, refl)
 
@@ -68,6 +74,8 @@ shown_ok (sizes cuts distinct quants size) = refl
 shown_ok (expansion x) = refl
 shown_ok (nodes flat) = refl
 shown_ok (interpolant f t u) = refl
+shown_ok (herbrand k s) = refl
+shown_ok (introduced t b) = refl
 
 pub product_ok : (a : Answer) (p : Product) → a ≡ product p → is_ok_outcome (shown a) ≡ true
 product_ok a p is = ap (λ b. is_ok_outcome (shown b)) is ∙ shown_ok p

@@ -1,11 +1,13 @@
 -- What an operation makes of sound values is sound.
-use Rattle.std.proofs.Common.{◌≡◌, ℕ, List, [], ◌∷◌, Option, refl, subst}
+use Rattle.std.proofs.Common.{◌≡◌, ℕ, Bool, List, [], ◌∷◌, Option, refl, sym, subst}
 use Rattle.std.specs.Prelude.{IfSome}
 use Rattle.std.specs.List.{All}
 use Rattle.std.proofs.lemmas.List.Elements.{All-nil, All-cons}
 use Rattle.fol.specs.Syntax.{Formula}
+use Rattle.lk_rules.specs.declared.sequent.Sequent.{Sequent}
 use Rattle.proof_trees.specs.Trees.{Tree, IsValid}
 use Rattle.expansion_laws.specs.Dependency.{Expansion}
+use Rattle.expansion_laws.specs.Proofs.{IsExpansionProof}
 use Rattle.exp_tree.specs.Writing.{flat_of}
 use Rattle.proof_steps.specs.Places.{steps_of}
 use Rattle.job_lang.specs.declared.jobs.Op.{Op}
@@ -13,12 +15,15 @@ use Rattle.job_lang.specs.declared.jobs.Op.TheVariants as ops
 use Rattle.job_lang.specs.FormedOps.{IsFormedOp}
 use Rattle.operation_laws.specs.Values.{Value, IsSound}
 use Rattle.operation_laws.specs.Values as values
-use Rattle.operation_laws.specs.Answers.{Product, proof, reduced, problem, proves, steps, sizes, expansion, nodes, interpolant, Answer, refused, failed, lacking, product, held_product, held, proofs_in}
+use Rattle.operation_laws.specs.Answers.{Product, proof, reduced, problem, proves, steps, sizes, expansion, nodes, interpolant, herbrand, introduced, Answer, refused, failed, lacking, product, held_product, held, proofs_in}
 use Rattle.operation_laws.specs.Given.{ToShow, of_proof, of_expansion, shown_given, proof_given, problem_given, first_of, second_of}
 use Rattle.operation_laws.specs.Running.{lists, run}
-use Rattle.operation_laws.specs.Claims.{AProof, AReducedProof, AnExpansion, AnInterpolant}
-use Rattle.operation_laws.proofs.Making.{over_made, over_both_made, lk_made, subst_made, cutelim_made, resolution_made, tautology_made, ReadsRightly, ChecksRightly, expansion_made, first_sound}
-use Rattle.operation_laws.proofs.Interpolated.{InterpolatesRightly, interpolation_made}
+use Rattle.operation_laws.specs.Claims.{AProof, AReducedProof, AnExpansion, AnInterpolant, AHerbrandSequent, AnIntroduction}
+use Rattle.operation_laws.proofs.Making.{over_made, over_both_made, lk_made, subst_made, cutelim_made, resolution_made, tautology_made, expansion_made, first_sound}
+use Rattle.operation_laws.proofs.Interpolated.{interpolation_made}
+use Rattle.operation_laws.proofs.Trees.{expand_made, fromexp_made}
+use Rattle.operation_laws.proofs.Introduced.{herbrand_made, cutintro_made}
+use Rattle.operation_laws.proofs.Rightly.{WorksRightly}
 
 abbrev AreSound : List (Option Value) → Type 0
 AreSound vs = All (λ v. IfSome v IsSound) vs
@@ -34,6 +39,8 @@ proof_sound (sizes cuts distinct quants size) P valid h = absurd h
 proof_sound (expansion x) P valid h = absurd h
 proof_sound (nodes flat) P valid h = absurd h
 proof_sound (interpolant f t u) P valid h = absurd h
+proof_sound (herbrand k s) P valid h = absurd h
+proof_sound (introduced t b) P valid h = absurd h
 
 reduced_sound : (made : Product) (P : Tree → ℕ → Type 0) → ((t : Tree) (n : ℕ) → P t n → IsValid t) → AReducedProof made P → IsSound (held_product made)
 reduced_sound (reduced t n) P valid h = valid t n h
@@ -45,6 +52,8 @@ reduced_sound (sizes cuts distinct quants size) P valid h = absurd h
 reduced_sound (expansion x) P valid h = absurd h
 reduced_sound (nodes flat) P valid h = absurd h
 reduced_sound (interpolant f t u) P valid h = absurd h
+reduced_sound (herbrand k s) P valid h = absurd h
+reduced_sound (introduced t b) P valid h = absurd h
 
 -- expansion trees that are made are an expansion proof
 expansion_sound : (made : Product) (P : Expansion → Type 0) → ((x : Expansion) → P x → IsSound (values.expansion x)) → AnExpansion made P → IsSound (held_product made)
@@ -57,6 +66,8 @@ expansion_sound (steps list) P sound h = absurd h
 expansion_sound (sizes cuts distinct quants size) P sound h = absurd h
 expansion_sound (nodes flat) P sound h = absurd h
 expansion_sound (interpolant f t u) P sound h = absurd h
+expansion_sound (herbrand k s) P sound h = absurd h
+expansion_sound (introduced t b) P sound h = absurd h
 
 -- both proofs of an interpolant that is made are valid
 interpolant_sound : (made : Product) (P : Formula → Tree → Tree → Type 0) → ((f : Formula) (t u : Tree) → P f t u → IsValid t × IsValid u) → AnInterpolant made P
@@ -70,6 +81,35 @@ interpolant_sound (steps list) P valid h = absurd h
 interpolant_sound (sizes cuts distinct quants size) P valid h = absurd h
 interpolant_sound (expansion x) P valid h = absurd h
 interpolant_sound (nodes flat) P valid h = absurd h
+interpolant_sound (herbrand k s) P valid h = absurd h
+interpolant_sound (introduced t b) P valid h = absurd h
+
+-- a Herbrand sequent is held by no job
+herbrand_sound : (made : Product) (P : ℕ → Sequent → Type 0) → AHerbrandSequent made P → IsSound (held_product made)
+herbrand_sound (herbrand k s) P h = tt
+herbrand_sound (proof t) P h = absurd h
+herbrand_sound (reduced t n) P h = absurd h
+herbrand_sound (problem p) P h = absurd h
+herbrand_sound (proves b) P h = absurd h
+herbrand_sound (steps list) P h = absurd h
+herbrand_sound (sizes cuts distinct quants size) P h = absurd h
+herbrand_sound (expansion x) P h = absurd h
+herbrand_sound (nodes flat) P h = absurd h
+herbrand_sound (interpolant f t u) P h = absurd h
+herbrand_sound (introduced t b) P h = absurd h
+
+introduced_sound : (made : Product) (P : Tree → Bool → Type 0) → ((t : Tree) (b : Bool) → P t b → IsValid t) → AnIntroduction made P → IsSound (held_product made)
+introduced_sound (introduced t b) P valid h = valid t b h
+introduced_sound (proof t) P valid h = absurd h
+introduced_sound (reduced t n) P valid h = absurd h
+introduced_sound (problem p) P valid h = absurd h
+introduced_sound (proves b) P valid h = absurd h
+introduced_sound (steps list) P valid h = absurd h
+introduced_sound (sizes cuts distinct quants size) P valid h = absurd h
+introduced_sound (expansion x) P valid h = absurd h
+introduced_sound (nodes flat) P valid h = absurd h
+introduced_sound (interpolant f t u) P valid h = absurd h
+introduced_sound (herbrand k s) P valid h = absurd h
 
 -- the product is this one
 is_sound : (this made : Product) → product this ≡ product made → IsSound (held_product this) → IsSound (held_product made)
@@ -81,24 +121,32 @@ shown_sound (of_proof t) made is = is_sound (steps (steps_of t)) made is tt
 shown_sound (of_expansion x) made is = is_sound (nodes (flat_of x)) made is tt
 
 -- each operation
-pub made_sound : ReadsRightly → ChecksRightly → InterpolatesRightly → (op : Op) (vs : List (Option Value)) (made : Product) → IsFormedOp op → AreSound vs → run op vs ≡ product made → IsSound (held_product made)
-made_sound reads_right checks_right interpolates_right (ops.Lk list) vs made formed sound is = proof_sound made _ (λ t h. h.valid) (lk_made list made formed is)
-made_sound reads_right checks_right interpolates_right (ops.Problem p) vs made formed sound is = is_sound (problem p) made is formed
-made_sound reads_right checks_right interpolates_right (ops.Proves of goal) vs made formed sound is =
+pub made_sound : WorksRightly → (op : Op) (vs : List (Option Value)) (made : Product) → IsFormedOp op → AreSound vs → run op vs ≡ product made → IsSound (held_product made)
+made_sound rightly (ops.Lk list) vs made formed sound is = proof_sound made _ (λ t h. h.valid) (lk_made list made formed is)
+made_sound rightly (ops.Problem p) vs made formed sound is = is_sound (problem p) made is formed
+made_sound rightly (ops.Proves of goal) vs made formed sound is =
     let both = over_both_made (proof_given of (first_of vs)) (problem_given goal (second_of vs)) _ made is in is_sound (proves _) made both.4 tt
-made_sound reads_right checks_right interpolates_right (ops.Show of) vs made formed sound is = let one = over_made (shown_given of (first_of vs)) lists made is in shown_sound one.0 made one.2
-made_sound reads_right checks_right interpolates_right (ops.Measure of) vs made formed sound is = let one = over_made (proof_given of (first_of vs)) _ made is in is_sound (sizes _ _ _ _) made one.2 tt
-made_sound reads_right checks_right interpolates_right (ops.Subst of m) vs made formed sound is =
+made_sound rightly (ops.Show of) vs made formed sound is = let one = over_made (shown_given of (first_of vs)) lists made is in shown_sound one.0 made one.2
+made_sound rightly (ops.Measure of) vs made formed sound is = let one = over_made (proof_given of (first_of vs)) _ made is in is_sound (sizes _ _ _ _) made one.2 tt
+made_sound rightly (ops.Subst of m) vs made formed sound is =
     let one = subst_made of m (first_of vs) made formed (first_sound vs sound) is in proof_sound made _ (λ t h. h.valid) one.2
-made_sound reads_right checks_right interpolates_right (ops.Cutelim of n) vs made formed sound is =
+made_sound rightly (ops.Cutelim of n) vs made formed sound is =
     let one = cutelim_made of n (first_of vs) made (first_sound vs sound) is in reduced_sound made _ (λ t k h. h.right.valid) one.2
-made_sound reads_right checks_right interpolates_right (ops.Resolution of list) vs made formed sound is =
+made_sound rightly (ops.Resolution of list) vs made formed sound is =
     let one = resolution_made of list (first_of vs) made formed (first_sound vs sound) is in proof_sound made _ (λ t h. h.valid) one.2
-made_sound reads_right checks_right interpolates_right (ops.Tautology s n) vs made formed sound is = proof_sound made _ (λ t h. h.right.valid) (tautology_made s n made formed is)
-made_sound reads_right checks_right interpolates_right (ops.Expansion flat n) vs made formed sound is = expansion_sound made _ (λ x h. h.right) (expansion_made reads_right checks_right flat n made is)
-made_sound reads_right checks_right interpolates_right (ops.Interpolate of one two n) vs made formed sound is =
-    let pair = interpolation_made interpolates_right of one two n (first_of vs) made formed (first_sound vs sound) is in
+made_sound rightly (ops.Tautology s n) vs made formed sound is = proof_sound made _ (λ t h. h.right.valid) (tautology_made s n made formed is)
+made_sound rightly (ops.Expansion flat n) vs made formed sound is = expansion_sound made _ (λ x h. h.right) (expansion_made rightly.reads rightly.checks flat n made is)
+made_sound rightly (ops.Expand of n) vs made formed sound is =
+    let one = expand_made rightly.extracts of n (first_of vs) made (first_sound vs sound) is in expansion_sound made _ (λ x h. subst (IsExpansionProof x) (sym h.formulas) h) one.2
+made_sound rightly (ops.Fromexp of n) vs made formed sound is =
+    let one = fromexp_made rightly.builds of n (first_of vs) made (first_sound vs sound) is in proof_sound made _ (λ t h. h.right.valid) one.2
+made_sound rightly (ops.Interpolate of one two n) vs made formed sound is =
+    let pair = interpolation_made rightly.interpolates of one two n (first_of vs) made formed (first_sound vs sound) is in
     interpolant_sound made _ (λ f t u h. (h.first.right.valid, h.second.right.valid)) pair.2
+made_sound rightly (ops.Herbrand of n) vs made formed sound is =
+    let one = herbrand_made rightly.instances of n (first_of vs) made (first_sound vs sound) is in herbrand_sound made _ one.2
+made_sound rightly (ops.Cutintro of width n) vs made formed sound is =
+    let one = cutintro_made rightly.introduces of width n (first_of vs) made (first_sound vs sound) is in introduced_sound made _ (λ t b h. h.right.valid) one.2
 
 -- each proof in what is made is valid
 pub proofs_valid : (made : Product) → IsSound (held_product made) → All IsValid (proofs_in made)
@@ -111,6 +159,8 @@ proofs_valid (sizes cuts distinct quants size) done = All-nil IsValid
 proofs_valid (expansion x) done = All-nil IsValid
 proofs_valid (nodes flat) done = All-nil IsValid
 proofs_valid (interpolant f t u) valid = All-cons IsValid t (u ∷ []) valid.0 (All-cons IsValid u [] valid.1 (All-nil IsValid))
+proofs_valid (herbrand k s) done = All-nil IsValid
+proofs_valid (introduced t b) valid = All-cons IsValid t [] valid (All-nil IsValid)
 
 -- what is held is sound
 pub held_sound : (a : Answer) → ((made : Product) → a ≡ product made → IsSound (held_product made)) → IsSound (held a)

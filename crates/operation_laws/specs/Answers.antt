@@ -6,6 +6,7 @@
 --     with_lack      the same where it is known whether memory ran out
 use Rattle.std.specs.Prelude.{◌≡◌, ℕ, ◌-◌, ◌^◌, min, length, Bool, true, false, List, [], ◌∷◌}
 use Rattle.fol.specs.Syntax.{Formula}
+use Rattle.lk_rules.specs.declared.sequent.Sequent.{Sequent}
 use Rattle.lk_rules.specs.declared.rule.Step.{Step}
 use Rattle.proof_trees.specs.Trees.{Tree, concl, cuts, quants}
 use Rattle.expansion_laws.specs.Dependency.{Expansion, strongs_of}
@@ -20,13 +21,14 @@ use Rattle.reply_lines.specs.declared.replies.ExpSummary.{ExpSummary}
 use Rattle.operation_laws.specs.declared.refusals.Refusal.{Refusal}
 use Rattle.operation_laws.specs.declared.refusals.Refusal.TheVariants.{UnknownName, Kind, Empty, Step as Faulty}
 use Rattle.operation_laws.specs.declared.refusals.Failure.{Failure}
-use Rattle.operation_laws.specs.declared.refusals.Failure.TheVariants.{Budget, Refutation, Quantified, Falsified, Node, Root, EigenTwice, EigenFree, Cycle, Cut, Defined, Partition}
+use Rattle.operation_laws.specs.declared.refusals.Failure.TheVariants.{Budget, Refutation, Quantified, Falsified, Node, Root, EigenTwice, EigenFree, Cycle, Cut, Defined, Partition, NotPrenex, TooMany}
 use Rattle.operation_laws.specs.Values.{Value}
 use Rattle.operation_laws.specs.Values as values
 
 -- a proof, a proof that was met after a number of replacements, a problem, whether a proof proves a problem, the steps of a proof, the
--- numbers of its cuts, of its nodes that differ, of its quantifier rules and of all its nodes, expansion trees, trees as a flat list, or an
--- interpolant with its two proofs, that of the first part first
+-- numbers of its cuts, of its nodes that differ, of its quantifier rules and of all its nodes, expansion trees, trees as a flat list, an
+-- interpolant with its two proofs, that of the first part first, a Herbrand sequent after the number of its tuples, or a proof and whether
+-- it is shorter than the given one
 pub data Product : Type 0 where
   proof : Tree → Product
   reduced : Tree → ℕ → Product
@@ -37,6 +39,8 @@ pub data Product : Type 0 where
   expansion : Expansion → Product
   nodes : FlatExp → Product
   interpolant : Formula → Tree → Tree → Product
+  herbrand : ℕ → Sequent → Product
+  introduced : Tree → Bool → Product
 
 pub data Answer : Type 0 where
   refused : Refusal → Answer
@@ -75,6 +79,8 @@ shown_failure (Cycle vs) = outcomes.Cycle vs
 shown_failure (Cut step) = outcomes.Cut step
 shown_failure (Defined f side) = outcomes.Defined f side
 shown_failure (Partition f side) = outcomes.Partition f side
+shown_failure (NotPrenex f side) = outcomes.NotPrenex f side
+shown_failure (TooMany k) = outcomes.TooMany k
 
 abbrev pub shown_product : Product → Outcome
 shown_product (proof t) = outcomes.Proof (summary_of t)
@@ -86,6 +92,8 @@ shown_product (sizes cuts distinct quants size) = outcomes.Measure cuts distinct
 shown_product (expansion x) = outcomes.Expansion (exp_summary_of x)
 shown_product (nodes flat) = outcomes.Nodes flat
 shown_product (interpolant f t u) = outcomes.Interpolant (summary_of t) f (summary_of u)
+shown_product (herbrand k s) = outcomes.Herbrand k s
+shown_product (introduced t b) = outcomes.Introduced (summary_of t) b
 
 -- what is replied
 abbrev pub shown : Answer → Outcome
@@ -104,6 +112,8 @@ held_product (sizes cuts distinct quants size) = values.nothing
 held_product (expansion x) = values.expansion x
 held_product (nodes flat) = values.nothing
 held_product (interpolant f t u) = values.pair t u
+held_product (herbrand k s) = values.nothing
+held_product (introduced t b) = values.proof t
 
 -- what the job holds
 abbrev pub held : Answer → Value
@@ -123,6 +133,8 @@ proofs_in (sizes cuts distinct quants size) = []
 proofs_in (expansion x) = []
 proofs_in (nodes flat) = []
 proofs_in (interpolant f t u) = t ∷ u ∷ []
+proofs_in (herbrand k s) = []
+proofs_in (introduced t b) = t ∷ []
 
 -- Where memory ran out a failure or a product gives way to want of it; a refusal needs none.
 abbrev pub with_lack : Bool → Answer → Answer

@@ -1,11 +1,11 @@
 -- What each operation claims of what it makes.
 --     IsProofOf, IsCutFreeProofOf      a valid proof of a sequent, and one without cuts
 --     IsFoundAnd      something holds of what a field is given
---     GivenProof, GivenProblem, GivenBoth      something holds of what the operation is given
+--     GivenProof, GivenProblem, GivenExpansion, GivenBoth      something holds of what the operation is given
 --     Lists      the product is how a given value is shown
---     AProof, AReducedProof, AnExpansion, AnInterpolant      something holds of what the operation makes
+--     AProof, AReducedProof, AnExpansion, AnInterpolant, AHerbrandSequent, AnIntroduction      something holds of what the operation makes
 --     Claims      one line an operation
-use Rattle.std.specs.Prelude.{◌≡◌, ℕ, ◌≤◌, true, List, [], ◌∷◌, Option}
+use Rattle.std.specs.Prelude.{◌≡◌, ℕ, ◌<◌, ◌≤◌, Bool, true, false, List, [], ◌∷◌, Option}
 use Rattle.std.specs.FinMap as fin
 use Rattle.fol.specs.declared.symbols.Var.{Var}
 use Rattle.fol.specs.Syntax.{Pred, Formula}
@@ -13,12 +13,16 @@ use Rattle.free_variables.specs.Occurrence.{is_free_in, is_pred_in}
 use Rattle.lk_rules.specs.declared.sequent.Sequent.{Sequent}
 use Rattle.lk_rules.specs.declared.sequent.Side.TheVariants.{Left, Right}
 use Rattle.lk_rules.specs.Sequents.{is_subsequent, image_sequent, adds_to, union_sequent, is_free_in_sequent}
-use Rattle.proof_trees.specs.Trees.{Tree, concl, IsValid, IsCutFree}
+use Rattle.proof_trees.specs.Trees.{Tree, concl, cuts, quants, IsValid, IsCutFree}
 use Rattle.proof_trees.specs.Occurrence.{is_pred_in_sequent}
 use Rattle.cut_laws.specs.Elimination.{Reaches}
 use Rattle.refutations.specs.Clauses.{closures}
+use Rattle.search_laws.specs.Truth.{IsPropositional, IsTautology}
 use Rattle.expansion_laws.specs.Dependency.{Expansion}
 use Rattle.expansion_laws.specs.Proofs.{shallow_sequent, IsExpansionProof}
+use Rattle.extraction_laws.specs.Extraction.{extracted}
+use Rattle.herbrand_laws.specs.Herbrand.{items_of, herbrand_sequent}
+use Rattle.delta_table.specs.Items.{counted}
 use Rattle.exp_tree.specs.declared.flat.FlatExp.{FlatExp}
 use Rattle.exp_tree.specs.Roots.{expansion_over}
 use Rattle.exp_tree.specs.Writing.{flat_of}
@@ -29,8 +33,8 @@ use Rattle.tptp_problem.specs.ProblemClauses.{clauses_of}
 use Rattle.job_lang.specs.declared.jobs.Op.{Op}
 use Rattle.job_lang.specs.declared.jobs.Op.TheVariants as ops
 use Rattle.operation_laws.specs.Values.{Value}
-use Rattle.operation_laws.specs.Answers.{Product, proof, reduced, problem, proves, steps, expansion, nodes, interpolant}
-use Rattle.operation_laws.specs.Given.{Found, missing, wanting, found, proof_given, problem_given, ToShow, of_proof, of_expansion, shown_given}
+use Rattle.operation_laws.specs.Answers.{Product, proof, reduced, problem, proves, steps, expansion, nodes, interpolant, herbrand, introduced, capped}
+use Rattle.operation_laws.specs.Given.{Found, missing, wanting, found, proof_given, problem_given, expansion_given, ToShow, of_proof, of_expansion, shown_given}
 use Rattle.operation_laws.specs.Running.{sizes_of}
 
 -- the tree is a valid proof of the sequent
@@ -53,6 +57,11 @@ GivenProof of vs holds = ⊥
 abbrev pub GivenProblem : List ℕ → List (Option Value) → (Problem → Type 0) → Type 0
 GivenProblem goal (v ∷ []) holds = IsFoundAnd (problem_given goal v) holds
 GivenProblem goal vs holds = ⊥
+
+-- it is given one value, expansion trees, of which this holds
+abbrev pub GivenExpansion : List ℕ → List (Option Value) → (Expansion → Type 0) → Type 0
+GivenExpansion of (v ∷ []) holds = IsFoundAnd (expansion_given of v) holds
+GivenExpansion of vs holds = ⊥
 
 -- it is given two values, a proof by its name and a problem, of which this holds
 abbrev pub GivenBoth : List ℕ → List ℕ → List (Option Value) → (Tree → Problem → Type 0) → Type 0
@@ -96,6 +105,16 @@ pub record IsEliminated (t : Tree) (n : ℕ) (u : Tree) (k : ℕ) : Type 0 where
   pub reached : Reaches t k u
   pub within : k ≤ n
 
+-- it is a Herbrand sequent with a number of tuples, of which this holds
+abbrev pub AHerbrandSequent : Product → (ℕ → Sequent → Type 0) → Type 0
+AHerbrandSequent (herbrand k s) holds = holds k s
+AHerbrandSequent p holds = ⊥
+
+-- it is a proof that is shorter or not, of which this holds
+abbrev pub AnIntroduction : Product → (Tree → Bool → Type 0) → Type 0
+AnIntroduction (introduced t b) holds = holds t b
+AnIntroduction p holds = ⊥
+
 -- the tree is a valid proof without cuts of the sequent
 pub record IsCutFreeProofOf (t : Tree) (s : Sequent) : Type 0 where
   pub right : IsProofOf t s
@@ -115,10 +134,25 @@ pub record IsInterpolated (t : Tree) (one two : Sequent) (f : Formula) (u v : Tr
   pub predicates : (q : Pred) → is_pred_in q f ≡ true → (is_pred_in_sequent q one ≡ true) × (is_pred_in_sequent q two ≡ true)
   pub variables : (x : Var) → is_free_in x f ≡ true → (is_free_in_sequent x one ≡ true) × (is_free_in_sequent x two ≡ true)
 
+-- the sequent is the Herbrand sequent of what is extracted from the tree t, where quantified formulas have k tuples, and a tautology
+pub record IsHerbrandOf (t : Tree) (k : ℕ) (s : Sequent) : Type 0 where
+  pub sequent : s ≡ herbrand_sequent (items_of (extracted t))
+  pub count : k ≡ capped (counted (items_of (extracted t)))
+  pub propositional : IsPropositional s
+  pub tautology : IsTautology s
+
+-- the tree u proves the same sequent as t; it is shorter, with one cut and fewer quantifier inferences, or it is t
+pub record IsIntroduced (t u : Tree) (shorter : Bool) : Type 0 where
+  pub right : IsProofOf u (concl t)
+  pub shortened : shorter ≡ true → (cuts u ≡ 1) × (quants u < quants t)
+  pub same : shorter ≡ false → u ≡ t
+
 -- What an operation claims of its product: of `lk` a valid proof of the last step's sequent, of `subst` one of the image of the given
 -- proof's sequent, of `cutelim` one without cuts of that sequent itself, reached within the budget, of `resolution` one of the
 -- closures of the problem's clauses, on the left, of `tautology` one without cuts of the sequent itself, of `expansion` an
--- expansion proof, and of `interpolate` an interpolant of two parts of the given proof's sequent, with its two proofs.
+-- expansion proof, of `expand` one of the given proof's sequent, of `fromexp` a valid proof without cuts of the sequent of the given
+-- trees' formulas, of `interpolate` an interpolant of two parts of the given proof's sequent, with its two proofs, of `herbrand` the Herbrand
+-- sequent of the given proof, a tautology, and of `cutintro` a valid proof of the given one's sequent, shorter by a cut, or that proof.
 abbrev pub Claims : Op → List (Option Value) → Product → Type 0
 Claims (ops.Lk list) vs made = AProof made (λ t. IsProofOf t (last_end list))
 Claims (ops.Problem p) vs made = made ≡ problem p
@@ -130,4 +164,8 @@ Claims (ops.Cutelim of n) vs made = GivenProof of vs (λ t. AReducedProof made (
 Claims (ops.Resolution of list) vs made = GivenProblem of vs (λ p. AProof made (λ t. IsProofOf t (closures (clauses_of p.entries))))
 Claims (ops.Tautology s n) vs made = AProof made (λ t. IsCutFreeProofOf t s)
 Claims (ops.Expansion flat n) vs made = AnExpansion made (IsExpansionOf flat)
+Claims (ops.Expand of n) vs made = GivenProof of vs (λ t. AnExpansion made (λ x. IsExpansionProof x (concl t)))
+Claims (ops.Fromexp of n) vs made = GivenExpansion of vs (λ x. AProof made (λ t. IsCutFreeProofOf t (shallow_sequent x)))
 Claims (ops.Interpolate of one two n) vs made = GivenProof of vs (λ t. AnInterpolant made (IsInterpolated t one two))
+Claims (ops.Herbrand of n) vs made = GivenProof of vs (λ t. AHerbrandSequent made (IsHerbrandOf t))
+Claims (ops.Cutintro of width n) vs made = GivenProof of vs (λ t. AnIntroduction made (IsIntroduced t))

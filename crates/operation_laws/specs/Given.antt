@@ -1,7 +1,7 @@
 -- What an operation is given: the values that its names of jobs stand for.
 --     names_in      the names in an operation, as they are written
 --     base_name      the name of the job that a written name is about
---     proof_given, problem_given, shown_given      what a field is given
+--     proof_given, problem_given, expansion_given, shown_given      what a field is given
 use Rattle.std.specs.Prelude.{ℕ, ◌-◌, is_some, List, [], ◌∷◌, length, take, drop, codes, Option, Some, None, option_map, unwrap_or, if◌then◌else◌}
 use Rattle.proof_trees.specs.Trees.{Tree}
 use Rattle.expansion_laws.specs.Dependency.{Expansion}
@@ -25,7 +25,11 @@ names_in (ops.Cutelim of n) = of ∷ []
 names_in (ops.Resolution of steps) = of ∷ []
 names_in (ops.Tautology s n) = []
 names_in (ops.Expansion flat n) = []
+names_in (ops.Expand of n) = of ∷ []
+names_in (ops.Fromexp of n) = of ∷ []
 names_in (ops.Interpolate of one two n) = of ∷ []
+names_in (ops.Herbrand of n) = of ∷ []
+names_in (ops.Cutintro of width n) = of ∷ []
 
 -- the text without a suffix that it has
 abbrev pub without : List ℕ → List ℕ → Option (List ℕ)
@@ -91,12 +95,23 @@ problem_given text (Some (pair t u)) = missing (Kind text)
 problem_given text (Some (problem p)) = whole text p
 problem_given text (Some (expansion x)) = missing (Kind text)
 
+-- the same of a field for expansion trees
+abbrev pub expansion_given : List ℕ → Option Value → Found Expansion
+expansion_given text None = missing (UnknownName text)
+expansion_given text (Some nothing) = missing (Kind text)
+expansion_given text (Some refused) = missing (Kind text)
+expansion_given text (Some lacking) = wanting
+expansion_given text (Some (proof t)) = missing (Kind text)
+expansion_given text (Some (pair t u)) = missing (Kind text)
+expansion_given text (Some (problem p)) = missing (Kind text)
+expansion_given text (Some (expansion x)) = whole text x
+
 -- what can be shown: a proof, which may be one of a pair, or expansion trees
 pub data ToShow : Type 0 where
   of_proof : Tree → ToShow
   of_expansion : Expansion → ToShow
 
--- the same of a field for either
+-- the same of a field for either of these
 abbrev pub shown_given : List ℕ → Option Value → Found ToShow
 shown_given text None = missing (UnknownName text)
 shown_given text (Some nothing) = missing (Kind text)

@@ -1,5 +1,5 @@
 -- What each operation comes to, over the values that its names of jobs stand for.
-use Rattle.std.specs.Prelude.{ℕ, ◌^◌, nat_lt, length, Bool, if◌then◌else◌, List, find, Option, Some, None, option_map, Result, Ok, Err}
+use Rattle.std.specs.Prelude.{ℕ, ◌^◌, nat_lt, length, Bool, true, false, if◌then◌else◌, List, find, Option, Some, None, option_map, Result, Ok, Err}
 use Rattle.std.specs.List.{list_all}
 use Rattle.fol.specs.Syntax.{Formula}
 use Rattle.fol.specs.Formed.{is_formed}
@@ -30,6 +30,20 @@ use Rattle.exp_tree.specs.Writing.{flat_of}
 use Rattle.exp_check.specs.declared.fault.ExpFault.{ExpFault}
 use Rattle.exp_check.specs.declared.fault.ExpFault.TheVariants as checks
 use Rattle.exp_check.specs.Checking.{checking}
+use Rattle.exp_extract.specs.declared.fault.ExtractFault.{ExtractFault}
+use Rattle.exp_extract.specs.declared.fault.ExtractFault.TheVariants as extraction
+use Rattle.exp_extract.specs.Extracting.{extracting}
+use Rattle.exp_to_lk.specs.declared.fault.BuildFault.{BuildFault}
+use Rattle.exp_to_lk.specs.declared.fault.BuildFault.TheVariants as construction
+use Rattle.exp_to_lk.specs.Building.{building, has_formed_trees}
+use Rattle.herbrand_laws.specs.Herbrand.{Item, herbrand_sequent}
+use Rattle.delta_table.specs.Items.{counted}
+use Rattle.cut_intro.specs.declared.fault.HerbrandFault.{HerbrandFault}
+use Rattle.cut_intro.specs.declared.fault.HerbrandFault.TheVariants as instances
+use Rattle.cut_intro.specs.declared.fault.IntroFault.{IntroFault}
+use Rattle.cut_intro.specs.declared.fault.IntroFault.TheVariants as introduction
+use Rattle.cut_intro.specs.Instancing.{instancing}
+use Rattle.cut_intro.specs.Introducing.{Answer as Introduction, shorter, same, introducing, has_formed_instances}
 use Rattle.interp_laws.specs.Interpolation.{Interpolation}
 use Rattle.lk_interp.specs.declared.fault.InterpFault.{InterpFault}
 use Rattle.lk_interp.specs.declared.fault.InterpFault.TheVariants as interpolation
@@ -49,10 +63,10 @@ use Rattle.reply_lines.specs.declared.replies.StepShown.TheVariants.{Reference, 
 use Rattle.reply_lines.specs.declared.replies.RefutationShown.{RefutationShown}
 use Rattle.reply_lines.specs.declared.replies.RefutationShown.TheVariants as refutation_shows
 use Rattle.operation_laws.specs.declared.refusals.Refusal.TheVariants.{Empty, Step}
-use Rattle.operation_laws.specs.declared.refusals.Failure.TheVariants.{Budget, Refutation, Quantified, Falsified, Node, Root, EigenTwice, EigenFree, Cycle, Cut, Defined, Partition}
+use Rattle.operation_laws.specs.declared.refusals.Failure.TheVariants.{Budget, Refutation, Quantified, Falsified, Node, Root, EigenTwice, EigenFree, Cycle, Cut, Defined, Partition, NotPrenex, TooMany}
 use Rattle.operation_laws.specs.Values.{Value}
-use Rattle.operation_laws.specs.Answers.{Product, proof, reduced, problem, proves, steps, sizes, expansion, nodes, interpolant, Answer, refused, failed, lacking, product, capped}
-use Rattle.operation_laws.specs.Given.{or_else, Found, missing, wanting, found, proof_given, problem_given, ToShow, of_proof, of_expansion, shown_given, first_of, second_of}
+use Rattle.operation_laws.specs.Answers.{Product, proof, reduced, problem, proves, steps, sizes, expansion, nodes, interpolant, herbrand, introduced, Answer, refused, failed, lacking, product, capped}
+use Rattle.operation_laws.specs.Given.{or_else, Found, missing, wanting, found, proof_given, problem_given, expansion_given, ToShow, of_proof, of_expansion, shown_given, first_of, second_of}
 
 -- what is done with what a field is given
 abbrev pub over : {A : Type 0} → Found A → (A → Answer) → Answer
@@ -149,6 +163,24 @@ reads (Err (reading_faults.Root i cause)) n = failed (Root i cause)
 reads (Err reading_faults.Budget) n = failed Budget
 reads (Err reading_faults.Memory) n = lacking
 
+-- the expansion of a proof, or why there is none, which is found by work
+abbrev pub extracted : Result Expansion ExtractFault → Answer
+extracted (Ok x) = product (expansion x)
+extracted (Err (extraction.Cut step)) = failed (Cut step)
+extracted (Err (extraction.Defined f side)) = failed (Defined f side)
+extracted (Err extraction.Budget) = failed Budget
+extracted (Err extraction.Memory) = lacking
+
+-- the proof of an expansion proof within its budget
+abbrev pub built : Result Tree BuildFault → Answer
+built (Ok t) = product (proof t)
+built (Err construction.Budget) = failed Budget
+built (Err construction.Memory) = lacking
+
+-- The proof that is built of trees. Whatever a job's trees name is well formed; no memory holds what isn't, and no proof is built of it.
+abbrev pub builds : Expansion → ℕ → Answer
+builds x n = if has_formed_trees x then built (building x n) else lacking
+
 -- An interpolation, or why there is none, which is found by work. An interpolant is well formed unless 2^32 or more quantifiers stand inside
 -- one another in it, which no index would count and no memory holds.
 abbrev pub interpolated : Result Interpolation InterpFault → Answer
@@ -158,6 +190,25 @@ interpolated (Err (interpolation.Defined f side)) = failed (Defined f side)
 interpolated (Err (interpolation.Partition f side)) = failed (Partition f side)
 interpolated (Err interpolation.Budget) = failed Budget
 interpolated (Err interpolation.Memory) = lacking
+
+-- the Herbrand sequent of instances, or why there are none, which is found by work
+abbrev pub instanced : Result (List Item) HerbrandFault → Answer
+instanced (Ok items) = product (herbrand (capped (counted items)) (herbrand_sequent items))
+instanced (Err (instances.Cut step)) = failed (Cut step)
+instanced (Err (instances.NotPrenex f side)) = failed (NotPrenex f side)
+instanced (Err instances.Budget) = failed Budget
+instanced (Err instances.Memory) = lacking
+
+-- A shorter proof that takes the place of a proof, or that one, or why there is neither, which is found by work. Whatever a job's proof names
+-- is well formed; no memory holds what isn't, and no cut is introduced into it.
+abbrev pub shortened : Tree → Result Introduction IntroFault → Answer
+shortened t (Ok (shorter u)) = if has_formed_instances t then product (introduced u true) else lacking
+shortened t (Ok same) = product (introduced t false)
+shortened t (Err (introduction.Cut step)) = failed (Cut step)
+shortened t (Err (introduction.NotPrenex f side)) = failed (NotPrenex f side)
+shortened t (Err introduction.Budget) = failed Budget
+shortened t (Err (introduction.TooMany k)) = failed (TooMany k)
+shortened t (Err introduction.Memory) = lacking
 
 -- a proof as its canonical steps, and expansion trees as their flat list
 abbrev pub lists : ToShow → Answer
@@ -176,4 +227,8 @@ run (ops.Cutelim of n) vs = over (proof_given of (first_of vs)) (λ t. eliminate
 run (ops.Resolution of list) vs = over (problem_given of (first_of vs)) (refutes list)
 run (ops.Tautology s n) vs = searches (quantified_in s) s n
 run (ops.Expansion flat n) vs = reads (reading flat n) n
+run (ops.Expand of n) vs = over (proof_given of (first_of vs)) (λ t. extracted (extracting t n))
+run (ops.Fromexp of n) vs = over (expansion_given of (first_of vs)) (λ x. builds x n)
 run (ops.Interpolate of one two n) vs = over (proof_given of (first_of vs)) (λ t. interpolated (interpolating t one two n))
+run (ops.Herbrand of n) vs = over (proof_given of (first_of vs)) (λ t. instanced (instancing t n))
+run (ops.Cutintro of width n) vs = over (proof_given of (first_of vs)) (λ t. shortened t (introducing width t n))

@@ -7,15 +7,18 @@ ghost use Rattle.proof_trees.specs.Trees.{Tree, IsValid};
 ghost use Rattle.interp_laws.specs.Interpolation.{Interpolation};
 ghost use Rattle.interp_laws.specs.Parts.{IsFormedSequent};
 ghost use Rattle.lk_interp.specs.Interpolating.{interpolating};
+ghost use Rattle.herbrand_laws.specs.Herbrand.{Item, herbrand_sequent};
+ghost use Rattle.delta_table.specs.Items.{counted};
+ghost use Rattle.cut_intro.specs.Instancing.{instancing};
 ghost use Rattle.job_lang.specs.declared.jobs.Op.{Op as Operation};
 ghost use Rattle.job_lang.specs.FormedOps.{IsFormedOp};
 ghost use Rattle.reply_lines.specs.Replies.{is_ok_outcome};
 ghost use Rattle.reply_lines.specs.OneLine.{is_want};
 ghost use Rattle.operation_laws.specs.Values.{Value, IsSound};
-ghost use Rattle.operation_laws.specs.Answers.{Product as Made, Answer, product, shown, held, proofs_in, with_lack, may_lack};
+ghost use Rattle.operation_laws.specs.Answers.{Product as Made, Answer, product, shown, held, proofs_in, with_lack, may_lack, capped};
 ghost use Rattle.operation_laws.specs.Given.{names_in};
 ghost use Rattle.operation_laws.specs.Running.{run};
-ghost use Rattle.operation_laws.specs.Claims.{IsInterpolated, Claims};
+ghost use Rattle.operation_laws.specs.Claims.{IsInterpolated, IsHerbrandOf, Claims};
 
 // What an interpolation of a valid proof by well-formed parts is, where the interpolant is well formed.
 fn interpolations()
@@ -25,6 +28,13 @@ fn interpolations()
     lk_interp::laws::interpolations();
     interp_laws::laws::proofs();
     interp_laws::laws::interpolants();
+}
+
+// What the Herbrand sequent of a valid proof is.
+fn herbrand_sequents()
+    ensures { (t : Tree) (n : ℕ) (items : List Item) → IsValid t → instancing t n ≡ Ok items → IsHerbrandOf t (capped (counted items)) (herbrand_sequent items) }
+{
+    cut_intro::laws::instancings();
 }
 
 /// Over sound values each operation makes what it claims, each proof in its product is valid, and what the job holds is sound.
@@ -38,7 +48,11 @@ pub fn claims()
 {
     exp_tree::laws::readings();
     exp_check::laws::checks();
+    exp_extract::laws::extractions();
+    exp_to_lk::laws::buildings();
     interpolations();
+    herbrand_sequents();
+    cut_intro::laws::introductions();
 }
 
 /// What is replied is want of memory exactly where memory ran out, and no error exactly where it shows a product.

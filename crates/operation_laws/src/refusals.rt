@@ -44,4 +44,9 @@ pub enum Failure {
     Defined { formula: FormedFormula, side: Side },
     /// The least formula that stands on the left either of a sequent or of its two parts, but not of both; else the least on the right.
     Partition { formula: FormedFormula, side: Side },
+    /// The first formula of a sequent that isn't weak quantifiers over a formula without quantifiers and without predicate symbols that have
+    /// a definition, the left side before the right one.
+    NotPrenex { formula: FormedFormula, side: Side },
+    /// The quantified formulas of a sequent have more tuples than candidates for a cut are looked for: this many.
+    TooMany(u64),
 }

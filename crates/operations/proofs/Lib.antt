@@ -5,4 +5,8 @@ pub mod Refuted
 pub mod Searched
 pub mod StrongVars
 pub mod Expanded
+pub mod Extracted
+pub mod Built
 pub mod Interpolated
+pub mod Instanced
+pub mod Introduced

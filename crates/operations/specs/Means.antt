@@ -2,6 +2,7 @@
 --     sense      what a value means, and nothing for a name that no job has
 --     Fits      the value may be given to an operation over this graph
 --     made_of      what a product of the program means
+--     needs      what an operation is run with
 --     Comes      what an operation came to stands for an answer
 --     is_refusal      an operation came to a refusal or a failure
 --     IsAnswerOf      an outcome and a value are what is answered
@@ -14,6 +15,8 @@ use Rattle.exp_tree.specs.Reads.{expansion_of}
 use Rattle.exp_check.specs.declared.fault.ExpFault.{ExpFault}
 use Rattle.exp_check.specs.declared.fault.ExpFault.TheVariants as checks
 use Rattle.tptp_problem.specs.ProblemClauses.{IsReadProblem}
+use Rattle.job_lang.specs.declared.jobs.Op.{Op}
+use Rattle.job_lang.specs.declared.jobs.Op.TheVariants as ops
 use Rattle.reply_lines.specs.declared.replies.Outcome.{Outcome}
 use Rattle.reply_lines.specs.declared.replies.Outcome.TheVariants.{Memory}
 use Rattle.operation_laws.specs.declared.refusals.Refusal.{Refusal}
@@ -66,6 +69,8 @@ made_of (made.Sizes cuts nodes quants size) = answers.sizes cuts nodes quants si
 made_of (made.Expansion e) = answers.expansion (expansion_of e)
 made_of (made.Nodes flat) = answers.nodes flat
 made_of (made.Interpolant f r s) = answers.interpolant f r.tree s.tree
+made_of (made.Herbrand k s) = answers.herbrand k s
+made_of (made.Introduced r b) = answers.introduced r.tree b
 
 -- its references are of the graph, and a problem is such as is read
 abbrev pub FitsMade : Graph → Made → Type 0
@@ -78,6 +83,8 @@ FitsMade g (made.Sizes cuts nodes quants size) = Unit {0}
 FitsMade g (made.Expansion e) = Unit {0}
 FitsMade g (made.Nodes flat) = Unit {0}
 FitsMade g (made.Interpolant f r s) = IsOf g r × IsOf g s
+FitsMade g (made.Herbrand k s) = Unit {0}
+FitsMade g (made.Introduced r b) = IsOf g r
 
 -- the refusal shows a name
 abbrev pub ShowsName : Refusal → Type 0
@@ -123,6 +130,29 @@ abbrev pub without : Absent → Ran
 without (absent.Refused r) = ran.Refused r
 without absent.Unnamed = ran.Unnamed
 without absent.Wanting = ran.Lacking
+
+-- what an operation is run with: a graph, into which it puts nothing; a bench for the proofs that it makes; or a desk for an elimination of cuts
+pub data Needs : Type 0 where
+  a_graph : Needs
+  a_bench : Needs
+  a_desk : Needs
+
+abbrev pub needs : Op → Needs
+needs (ops.Lk steps) = a_bench
+needs (ops.Problem p) = a_graph
+needs (ops.Proves of goal) = a_graph
+needs (ops.Show of) = a_graph
+needs (ops.Measure of) = a_graph
+needs (ops.Subst of m) = a_bench
+needs (ops.Cutelim of n) = a_desk
+needs (ops.Resolution of steps) = a_bench
+needs (ops.Tautology s n) = a_bench
+needs (ops.Expansion flat n) = a_graph
+needs (ops.Expand of n) = a_graph
+needs (ops.Fromexp of n) = a_bench
+needs (ops.Interpolate of one two n) = a_bench
+needs (ops.Herbrand of n) = a_graph
+needs (ops.Cutintro of width n) = a_bench
 
 -- What running an operation came to. A refusal lacks memory at most for the name that it shows, and what is done or failed may lack it.
 abbrev pub Comes : Graph → Ran → Answer → Type 0

@@ -2,38 +2,45 @@
 ghost use Rattle.std.specs.Prelude.{◌≡◌, true, length, map};
 ghost use Rattle.std.specs.List.{All};
 ghost use mathlib.Core.List.{IsPrefix};
-ghost use Rattle.proof_graph.specs.declared.graph.Graph.{Graph};
+ghost use Rattle.proof_graph.specs.declared.graph.Graph.{Graph as GraphMeaning};
 ghost use Rattle.proof_graph.specs.Graphs.{history};
-ghost use Rattle.proof_subst.specs.Benches.{graph_of, pass_in};
+ghost use Rattle.proof_subst.specs.Benches.{graph_of, pass_in, IsBenchPassOf};
 ghost use Rattle.cut_elim.specs.Desks.{bench_of, pass_in as bench_pass_in, IsDeskPassOf};
 ghost use Rattle.tptp_problem.specs.ProblemClauses.{IsReadProblem};
 ghost use Rattle.job_lang.specs.FormedOps.{IsFormedOp};
 ghost use Rattle.operation_laws.specs.Answers.{product, problem as problem_made};
 ghost use Rattle.operation_laws.specs.Given.{names_in};
 ghost use Rattle.operation_laws.specs.Running.{run};
-ghost use Rattle.operations.specs.Means.{sense, Fits, Comes, is_refusal, IsAnswerOf};
+ghost use Rattle.operations.specs.Means.{sense, Fits, a_graph, a_bench, needs, Comes, is_refusal, IsAnswerOf};
 
 use crate::answers::{Made, Ran};
+use crate::building::build_from;
 use crate::concluding::conclude;
 use crate::expanding::check_expansion;
+use crate::extracting::extract_of;
 use crate::given::{first, second};
 use crate::held::Held;
+use crate::instancing::herbrand_in;
 use crate::interpolating::interpolate_in;
+use crate::introducing::introduce_in;
 use crate::proofs::{admit_steps, eliminate_in, substitute_in};
 use crate::readings::{measure, prove, show};
 use crate::refuting::refute;
 use crate::searching::prove_sequent;
 use cut_elim::{Desk, DeskPass};
 use job_lang::Op;
+use proof_graph::Graph;
+use proof_subst::{Bench, BenchPass};
 use reply_lines::Outcome;
 use std::alloc::Global;
 use std::sync::Wait;
+use std::thread::Threads;
 use tptp_problem::Problem;
 
 // A problem, as it is read.
 fn hold(problem: &Problem) -> Ran
     requires { IsReadProblem problem.now }
-    ensures { (g : Graph) → Comes g result (product (problem_made problem.now)) }
+    ensures { (g : GraphMeaning) → Comes g result (product (problem_made problem.now)) }
 {
     match problem.copy() {
         Ok(problem) => Ran::Done(Made::Problem(problem)),
@@ -41,8 +48,91 @@ fn hold(problem: &Problem) -> Ran
     }
 }
 
+// What running an operation comes to that puts nothing into the graph.
+fn run_reading(graph: &Graph, alloc: Global, op: &Op, given: &[Held]) -> Ran
+    requires needs { needs op.now ≡ a_graph }
+    requires count { length given.now ≡ length (names_in op.now) }
+    requires op { IsFormedOp op.now }
+    requires fits { All (Fits graph.now) given.now }
+    ensures { Comes graph.now result (run op.now (map sense given.now)) }
+{
+    match op {
+        Op::Problem { problem } => hold(problem),
+        Op::Proves { proof, problem } => {
+            prove(graph, alloc, proof, first(given), problem, second(given))
+        }
+        Op::Show { of } => show(graph, alloc, of, first(given)),
+        Op::Measure { proof } => measure(graph, alloc, proof, first(given)),
+        Op::Expansion { flat, budget } => check_expansion(alloc, flat, budget.get()),
+        Op::Expand { proof, budget } => {
+            extract_of(graph, alloc, proof, first(given), budget.get())
+        }
+        Op::Herbrand { proof, budget } => {
+            herbrand_in(graph, alloc, proof, first(given), budget.get())
+        }
+        _ => unreachable!(),
+    }
+}
+
+// What running an operation comes to that makes proofs at the bench.
+fn run_making<R: Wait + Threads + Sync>(
+    rt: &R,
+    alloc: Global,
+    bench: &Bench,
+    pass: &mut BenchPass,
+    op: &Op,
+    given: &[Held],
+) -> Ran
+    requires pass { IsBenchPassOf bench.now pass.old }
+    requires needs { needs op.now ≡ a_bench }
+    requires count { length given.now ≡ length (names_in op.now) }
+    requires op { IsFormedOp op.now }
+    requires fits { All (Fits (graph_of bench.now)) given.now }
+    ensures ran { Comes (graph_of bench.now) result (run op.now (map sense given.now)) }
+    ensures unchanged { is_refusal result ≡ true → history (pass_in pass.new) ≡ history (pass_in pass.old) }
+    ensures grown { IsPrefix (history (pass_in pass.old)) (history (pass_in pass.new)) }
+    ensures pass_stays { IsBenchPassOf bench.now pass.new }
+{
+    match op {
+        Op::Lk { steps } => admit_steps(rt, alloc, bench, pass, steps.as_slice()),
+        Op::Subst { proof, map } => {
+            substitute_in(rt, alloc, bench, pass, proof, first(given), map.as_subst())
+        }
+        Op::Resolution { problem, steps } => {
+            let value = first(given);
+            refute(rt, alloc, bench, pass, problem, value, steps.as_slice())
+        }
+        Op::Tautology { sequent, budget } => {
+            prove_sequent(rt, alloc, bench, pass, sequent, budget.get())
+        }
+        Op::Fromexp { expansion, budget } => {
+            let value = first(given);
+            build_from(rt, alloc, bench, pass, expansion, value, budget.get())
+        }
+        Op::Interpolate {
+            proof,
+            first: one,
+            second: two,
+            budget,
+        } => {
+            let value = first(given);
+            let budget = budget.get();
+            interpolate_in(rt, alloc, bench, pass, proof, value, one, two, budget)
+        }
+        Op::Cutintro {
+            proof,
+            width,
+            budget,
+        } => {
+            let value = first(given);
+            introduce_in(rt, alloc, bench, pass, proof, value, width, budget.get())
+        }
+        _ => unreachable!(),
+    }
+}
+
 // What running an operation over the values comes to.
-fn run_given<R: Wait>(
+fn run_given<R: Wait + Threads + Sync>(
     rt: &R,
     alloc: Global,
     desk: &Desk,
@@ -62,74 +152,36 @@ fn run_given<R: Wait>(
     let bench = desk.bench();
     let graph = bench.graph();
     match op {
-        Op::Lk { steps } => {
-            admit_steps(rt, alloc, bench, Desk::bench_pass(pass), steps.as_slice())
-        }
-        Op::Problem { problem } => hold(problem),
-        Op::Proves { proof, problem } => {
-            prove(graph, alloc, proof, first(given), problem, second(given))
-        }
-        Op::Show { of } => show(graph, alloc, of, first(given)),
-        Op::Measure { proof } => measure(graph, alloc, proof, first(given)),
-        Op::Subst { proof, map } => substitute_in(
-            rt,
-            alloc,
-            bench,
-            Desk::bench_pass(pass),
-            proof,
-            first(given),
-            map.as_subst(),
-        ),
+        Op::Problem { .. }
+        | Op::Proves { .. }
+        | Op::Show { .. }
+        | Op::Measure { .. }
+        | Op::Expansion { .. }
+        | Op::Expand { .. }
+        | Op::Herbrand { .. } => run_reading(graph, alloc, op, given),
+        Op::Lk { .. }
+        | Op::Subst { .. }
+        | Op::Resolution { .. }
+        | Op::Tautology { .. }
+        | Op::Fromexp { .. }
+        | Op::Interpolate { .. }
+        | Op::Cutintro { .. } => { run_making(rt, alloc, bench, Desk::bench_pass(pass), op, given) }
         Op::Cutelim { proof, budget } => {
             eliminate_in(rt, alloc, desk, pass, proof, first(given), budget.get())
         }
-        Op::Resolution { problem, steps } => refute(
-            rt,
-            alloc,
-            bench,
-            Desk::bench_pass(pass),
-            problem,
-            first(given),
-            steps.as_slice(),
-        ),
-        Op::Tautology { sequent, budget } => prove_sequent(
-            rt,
-            alloc,
-            bench,
-            Desk::bench_pass(pass),
-            sequent,
-            budget.get(),
-        ),
-        Op::Expansion { flat, budget } => check_expansion(alloc, flat, budget.get()),
-        Op::Interpolate {
-            proof,
-            first: one,
-            second: two,
-            budget,
-        } => interpolate_in(
-            rt,
-            alloc,
-            bench,
-            Desk::bench_pass(pass),
-            proof,
-            first(given),
-            one,
-            two,
-            budget.get(),
-        ),
     }
 }
 
 /// Runs an operation over the values that its names of jobs stand for: `given` has one for each, in the order in which the fields are read
-/// (none for `Lk`, `Problem`, `Tautology` and `Expansion`, the proof and then the problem for `Proves`, and one for the others). The answer is the outcome with what
-/// the job holds.
+/// (none for `Lk`, `Problem`, `Tautology` and `Expansion`, the proof and then the problem for `Proves`, and one for the others). The answer
+/// is the outcome with what the job holds.
 ///
 /// A text with the suffix `.first` or `.second` stands for that proof of a `Pair`. A value that has a fault is refused, the first such value
 /// alone: at `Unknown` by `UnknownName`, and by `Kind` at another kind of value than the field takes, at a pair without a suffix, and at
-/// any other value with one. `Unheld` is no fault: where no value has one and one is `Unheld`, the answer is `Outcome::Memory` with `Held::Unheld`, as it is where memory runs out in the operation. Each refusal holds `Held::Refused`.
-/// Where there is no memory for the name that a refusal shows, the answer is `Outcome::Memory` with `Held::Refused`, which is the answer in
-/// no other case.
-pub fn answer<R: Wait>(
+/// any other value with one. `Unheld` is no fault: where no value has one and one is `Unheld`, the answer is `Outcome::Memory` with
+/// `Held::Unheld`, as it is where memory runs out in the operation. Each refusal holds `Held::Refused`. Where there is no memory for the name
+/// that a refusal shows, the answer is `Outcome::Memory` with `Held::Refused`, which is the answer in no other case.
+pub fn answer<R: Wait + Threads + Sync>(
     rt: &R,
     alloc: Global,
     desk: &Desk,

@@ -1,6 +1,7 @@
 //! What operations come to.
 use exp_tree::{CheckedExp, FlatExp};
 use job_words::{FormedFormula, Steps};
+use lk_rules::Sequent;
 use operation_laws::{Failure, Refusal};
 use proof_graph::ProofRef;
 use tptp_problem::Problem;
@@ -34,6 +35,16 @@ pub enum Made {
         formula: FormedFormula,
         first: ProofRef,
         second: ProofRef,
+    },
+    /// The Herbrand sequent of a proof, and how many tuples its quantified formulas have.
+    Herbrand {
+        count: u64,
+        sequent: Sequent,
+    },
+    /// A proof that takes the place of the given one, and whether it is shorter; else it is that one.
+    Introduced {
+        proof: ProofRef,
+        shorter: bool,
     },
 }
 

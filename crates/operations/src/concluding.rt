@@ -4,7 +4,7 @@ ghost use Rattle.proof_graph.specs.declared.graph.Graph.{Graph as GraphMeaning};
 ghost use Rattle.proof_graph.specs.Graphs.{IsOf};
 ghost use Rattle.exp_tree.specs.Reads.{expansion_of};
 ghost use Rattle.tptp_problem.specs.ProblemClauses.{IsReadProblem};
-ghost use Rattle.operation_laws.specs.Answers.{Answer, product, proof as proof_made, reduced as reduced_made, problem as problem_made, expansion as expansion_made, interpolant as interpolant_made, summary_of, exp_summary_of, shown_refusal as refusal_shown, shown_failure as failure_shown};
+ghost use Rattle.operation_laws.specs.Answers.{Answer, product, proof as proof_made, reduced as reduced_made, problem as problem_made, expansion as expansion_made, interpolant as interpolant_made, introduced as introduced_made, summary_of, exp_summary_of, shown_refusal as refusal_shown, shown_failure as failure_shown};
 ghost use Rattle.operations.specs.Means.{Fits, FitsMade, made_of, Comes, is_refusal, IsAnswerOf};
 
 use crate::answers::{Made, Ran};
@@ -45,6 +45,8 @@ fn shown_failure(failure: Failure) -> Outcome
         Failure::Cut(step) => Outcome::Cut(step),
         Failure::Defined { formula, side } => Outcome::Defined { formula, side },
         Failure::Partition { formula, side } => Outcome::Partition { formula, side },
+        Failure::NotPrenex { formula, side } => Outcome::NotPrenex { formula, side },
+        Failure::TooMany(count) => Outcome::TooMany(count),
     }
 }
 
@@ -169,6 +171,18 @@ fn hold_interpolant(
     }
 }
 
+fn hold_introduced(graph: &Graph, alloc: Global, proof: ProofRef, shorter: bool) -> (Outcome, Held)
+    requires { IsOf graph.now proof }
+    ensures answered { IsAnswerOf result (product (introduced_made proof.tree shorter)) }
+    ensures fits { Fits graph.now result.1 }
+    ensures refused { result.1 ≡ Held.Refused → ⊥ }
+{
+    match summary(graph, alloc, &proof) {
+        Ok(summary) => (Outcome::Introduced { summary, shorter }, Held::Proof(proof)),
+        Err(_) => (Outcome::Memory, Held::Unheld),
+    }
+}
+
 // What is replied to a job whose operation is done, with what the job holds.
 fn hold(graph: &Graph, alloc: Global, made: Made) -> (Outcome, Held)
     requires { FitsMade graph.now made }
@@ -203,6 +217,8 @@ fn hold(graph: &Graph, alloc: Global, made: Made) -> (Outcome, Held)
             first,
             second,
         } => hold_interpolant(graph, alloc, formula, first, second),
+        Made::Herbrand { count, sequent } => (Outcome::Herbrand { count, sequent }, Held::Nothing),
+        Made::Introduced { proof, shorter } => hold_introduced(graph, alloc, proof, shorter),
     }
 }
 

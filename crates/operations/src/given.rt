@@ -4,7 +4,8 @@ ghost use Rattle.std.specs.List.{All};
 ghost use Rattle.proof_graph.specs.declared.graph.Graph.{Graph};
 ghost use Rattle.proof_graph.specs.Graphs.{IsOf};
 ghost use Rattle.operation_laws.specs.declared.refusals.Refusal.TheVariants.{UnknownName, Kind as OtherKind};
-ghost use Rattle.operation_laws.specs.Given.{names_in, without as without_suffix, first_name, second_name, pair_name as pair_of, base_name as base_of, one_of as one_named, proof_given as proof_found, problem_given as problem_found, shown_given as shown_found, first_of, second_of};
+ghost use Rattle.exp_tree.specs.Reads.{expansion_of};
+ghost use Rattle.operation_laws.specs.Given.{names_in, without as without_suffix, first_name, second_name, pair_name as pair_of, base_name as base_of, one_of as one_named, proof_given as proof_found, problem_given as problem_found, expansion_given as expansion_found, shown_given as shown_found, first_of, second_of};
 ghost use Rattle.operations.specs.Means.{sense, Fits, FitsShown, Finds, shown_as, IsAbsent};
 ghost use Rattle.operations.specs.declared.held.Held.TheVariants.{Problem as ProblemHeld};
 
@@ -33,7 +34,14 @@ pub fn name_at(op: &Op, place: usize) -> Option<&str>
         | Op::Measure { proof: text }
         | Op::Subst { proof: text, .. }
         | Op::Cutelim { proof: text, .. }
+        | Op::Expand { proof: text, .. }
+        | Op::Fromexp {
+            expansion: text,
+            ..
+        }
         | Op::Interpolate { proof: text, .. }
+        | Op::Herbrand { proof: text, .. }
+        | Op::Cutintro { proof: text, .. }
         | Op::Resolution { problem: text, .. } => match place {
             0 => Some(text.as_str()),
             _ => None,
@@ -175,6 +183,29 @@ pub fn problem_given<'h>(
         }
         Held::Nothing | Held::Refused | Held::Proof(_) | Held::Pair(_, _) | Held::Expansion(_) =>
             Err(other_kind(alloc, text)),
+    }
+}
+
+/// The expansion trees that a field with this text is given, or why there are none.
+pub fn expansion_given<'h>(
+    alloc: Global,
+    text: &Utf8Text,
+    value: &'h Held,
+) -> Result<&'h CheckedExp, Absent>
+    ensures { Finds (λ e. expansion_of e.now) result (expansion_found text.now (sense value.now)) }
+{
+    match value {
+        Held::Unknown => Err(unknown(alloc, text)),
+        Held::Unheld => Err(Absent::Wanting),
+        Held::Expansion(trees) => {
+            if is_of_pair(text) {
+                return Err(other_kind(alloc, text));
+            }
+            Ok(trees)
+        }
+        Held::Nothing | Held::Refused | Held::Proof(_) | Held::Pair(_, _) | Held::Problem(_) => {
+            Err(other_kind(alloc, text))
+        }
     }
 }
 

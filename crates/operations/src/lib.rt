@@ -3,11 +3,15 @@
 
 mod answering;
 mod answers;
+mod building;
 mod concluding;
 mod expanding;
+mod extracting;
 mod given;
 mod held;
+mod instancing;
 mod interpolating;
+mod introducing;
 mod proofs;
 mod readings;
 mod refuting;

@@ -9,6 +9,7 @@ use command_words::{WordsError, read_words};
 use edge_io::{Sink, Source, write_whole};
 use std::alloc::Global;
 use std::sync::Wait;
+use std::thread::Threads;
 
 /// The status of a command line that isn't taken.
 const USAGE: u8 = 2;
@@ -53,7 +54,7 @@ fn workers_of(alloc: Global, words: &[String]) -> Result<u64, WordsError>
 }
 
 /// Serves the source, if the words ask for that.
-fn run<R: Wait, S: Source, K: Sink>(
+fn run<R: Wait + Threads + Sync, S: Source, K: Sink>(
     rt: &R,
     alloc: Global,
     words: &[String],
@@ -89,7 +90,7 @@ fn run<R: Wait, S: Source, K: Sink>(
 /// - 6: the input has more than 2^32 bytes, and the replies to the whole lines within these were written and flushed.
 ///
 /// A status above 1 is noted on `notes` by one line. A failed write there changes no status.
-pub fn top<R: Wait, S: Source, K: Sink, E: Sink, G: Gate>(
+pub fn top<R: Wait + Threads + Sync, S: Source, K: Sink, E: Sink, G: Gate>(
     rt: &R,
     alloc: Global,
     words: &[String],

@@ -15,6 +15,7 @@ use operations::Held;
 use reply_lines::{Outcome, Reply, reply_line};
 use std::alloc::{AllocError, Global};
 use std::sync::Wait;
+use std::thread::Threads;
 use text_tables::{FormulaTexts, TextTables};
 
 /// A reply line with its newline, whether it is no error, and whether it reports want of memory.
@@ -34,7 +35,7 @@ pub struct Shown {
 }
 
 /// Runs a job that is read, if its name is its own.
-fn run_job<R: Wait>(
+fn run_job<R: Wait + Threads + Sync>(
     store: &mut Store,
     rt: &R,
     alloc: Global,
@@ -55,7 +56,7 @@ fn run_job<R: Wait>(
 }
 
 /// What came of a job whose line isn't too long: its name, where it has one, and its conclusion.
-fn conclude_line<R: Wait>(
+fn conclude_line<R: Wait + Threads + Sync>(
     store: &mut Store,
     rt: &R,
     alloc: Global,
@@ -100,7 +101,7 @@ fn learn(
 }
 
 /// The answer to a job whose line isn't too long.
-fn answer_line<R: Wait>(
+fn answer_line<R: Wait + Threads + Sync>(
     store: &mut Store,
     rt: &R,
     alloc: Global,
@@ -127,7 +128,7 @@ fn answer_line<R: Wait>(
 }
 
 /// The answer to a job. A line that is too long is `None`.
-fn answer<R: Wait>(
+fn answer<R: Wait + Threads + Sync>(
     store: &mut Store,
     rt: &R,
     alloc: Global,
@@ -151,7 +152,7 @@ fn answer<R: Wait>(
 }
 
 /// The reply line of a job that comes after `count` others. A line that is too long is `None`.
-pub fn reply_to<R: Wait>(
+pub fn reply_to<R: Wait + Threads + Sync>(
     store: &mut Store,
     rt: &R,
     alloc: Global,

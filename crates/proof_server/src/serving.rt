@@ -10,6 +10,7 @@ use crate::session::{Session, Stop};
 use edge_io::{LineReader, Next, Sink, Source, next_line};
 use std::alloc::Global;
 use std::sync::Wait;
+use std::thread::Threads;
 
 const MAX_LINE: u64 = 16_777_216;
 
@@ -38,7 +39,7 @@ fn finish<K: Sink>(sink: &mut K, ended: Ended) -> Ended
 }
 
 // All lines of the source, by a new reader and a new session.
-fn serve_lines<R: Wait, S: Source, K: Sink>(
+fn serve_lines<R: Wait + Threads + Sync, S: Source, K: Sink>(
     rt: &R,
     alloc: Global,
     reader: &mut LineReader,
@@ -72,7 +73,7 @@ fn serve_lines<R: Wait, S: Source, K: Sink>(
 }
 
 /// A whole session: every job of the source gets its reply on the sink, in order.
-pub fn serve<R: Wait, S: Source, K: Sink>(
+pub fn serve<R: Wait + Threads + Sync, S: Source, K: Sink>(
     rt: &R,
     alloc: Global,
     source: &mut S,

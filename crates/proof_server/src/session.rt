@@ -10,6 +10,7 @@ use crate::store::Store;
 use edge_io::{Sink, write_whole};
 use std::alloc::{AllocError, Global};
 use std::sync::Wait;
+use std::thread::Threads;
 use text_tables::TextTables;
 
 /// Where a session stands: how many jobs it has answered, what they hold, the texts that were read and printed, and whether no reply was
@@ -58,7 +59,7 @@ impl Session {
 
     /// Answers a line, `None` for one that is too long: a job gets its reply, and an empty line has all replies
     /// so far flushed.
-    pub fn take<R: Wait, K: Sink>(
+    pub fn take<R: Wait + Threads + Sync, K: Sink>(
         &mut self,
         rt: &R,
         alloc: Global,
@@ -87,7 +88,7 @@ impl Session {
         self.answer(rt, alloc, sink, line)
     }
 
-    fn answer<R: Wait, K: Sink>(
+    fn answer<R: Wait + Threads + Sync, K: Sink>(
         &mut self,
         rt: &R,
         alloc: Global,

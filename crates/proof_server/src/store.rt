@@ -18,6 +18,7 @@ use operations::{Held, answer, base_name, name_at};
 use reply_lines::Outcome;
 use std::alloc::{AllocError, Global};
 use std::sync::Wait;
+use std::thread::Threads;
 
 /// The proofs of a session: the desk with the graph that they share, and the names of jobs with what these hold.
 #[derive(Drop)]
@@ -92,7 +93,12 @@ impl Store {
 
     /// Runs an operation over what the jobs that it names hold. Want of memory is answered where a name can't be looked up, or can't be
     /// shown in a refusal; where memory runs out later, the operation has lacked it.
-    pub fn run<R: Wait>(&mut self, rt: &R, alloc: Global, op: &Op) -> Result<Conclusion, AllocError>
+    pub fn run<R: Wait + Threads + Sync>(
+        &mut self,
+        rt: &R,
+        alloc: Global,
+        op: &Op,
+    ) -> Result<Conclusion, AllocError>
         requires store { IsSomeStore self.old }
         requires op { IsFormedOp op.now }
         ensures ran { (earlier : List Past) → IsStore self.old earlier

@@ -9,6 +9,8 @@ mod definitions;
 #[cfg(test)]
 mod inferences;
 #[cfg(test)]
+mod merges;
+#[cfg(test)]
 mod messages;
 #[cfg(test)]
 mod samples;

@@ -25,6 +25,8 @@ text_tells (outcomes.Measure cuts nodes quants size) name n = refl
 text_tells (outcomes.Expansion summary) name n = refl
 text_tells (outcomes.Nodes flat) name n = refl
 text_tells (outcomes.Interpolant first f second) name n = refl
+text_tells (outcomes.Herbrand k s) name n = refl
+text_tells (outcomes.Introduced summary shorter) name n = refl
 text_tells outcomes.LineTooLong name n = refl
 text_tells (outcomes.Reading causes.Json) name n = refl
 text_tells (outcomes.Reading (causes.Field field)) name n = refl
@@ -52,6 +54,8 @@ text_tells (outcomes.Cycle vars) name n = refl
 text_tells (outcomes.Cut step) name n = refl
 text_tells (outcomes.Defined f side) name n = refl
 text_tells (outcomes.Partition f side) name n = refl
+text_tells (outcomes.NotPrenex f side) name n = refl
+text_tells (outcomes.TooMany k) name n = refl
 text_tells outcomes.Budget name n = refl
 text_tells outcomes.Memory name n = refl
 

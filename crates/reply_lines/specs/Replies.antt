@@ -34,7 +34,7 @@ use Rattle.reply_lines.specs.declared.replies.StepShown.TheVariants.{Reference, 
 use Rattle.reply_lines.specs.declared.replies.RefutationShown.{RefutationShown}
 use Rattle.reply_lines.specs.declared.replies.RefutationShown.TheVariants as refutations
 use Rattle.reply_lines.specs.declared.replies.Outcome.{Outcome}
-use Rattle.reply_lines.specs.declared.replies.Outcome.TheVariants.{Proof, Reduced, Entries, Proves, Steps, Measure, Expansion, Nodes, Interpolant, LineTooLong, Reading, NameTaken, UnknownName, Kind, Empty, Step as Faulty, Refutation, Quantified, Falsified, Node, Root, EigenTwice, EigenFree, Cycle, Cut, Defined, Partition, Budget, Memory}
+use Rattle.reply_lines.specs.declared.replies.Outcome.TheVariants.{Proof, Reduced, Entries, Proves, Steps, Measure, Expansion, Nodes, Interpolant, Herbrand, Introduced, LineTooLong, Reading, NameTaken, UnknownName, Kind, Empty, Step as Faulty, Refutation, Quantified, Falsified, Node, Root, EigenTwice, EigenFree, Cycle, Cut, Defined, Partition, NotPrenex, TooMany, Budget, Memory}
 use Rattle.reply_lines.specs.declared.replies.Reply.{Reply}
 use Rattle.job_words.specs.RuleKinds.{kind_of, kind_name}
 use Rattle.job_words.specs.declared.node_kinds.NodeKind.{NodeKind}
@@ -170,6 +170,17 @@ abbrev pub interpolant_data : Summary → Formula → Summary → Data
 interpolant_data first f second = object (member (codes "first") (summary_data first) (member (codes "formula") (string (canonical f))
     (member (codes "second") (summary_data second) no_members)))
 
+-- the Herbrand sequent of a proof, and how many tuples its quantified formulas have
+abbrev pub herbrand_data : ℕ → Sequent → Data
+herbrand_data n s = object (member (codes "count") (count_data n) (member (codes "left") (side_data s.left)
+    (member (codes "right") (side_data s.right) no_members)))
+
+-- a proof in short, and whether it is shorter than the given one
+abbrev pub introduced_data : Summary → Bool → Data
+introduced_data s shorter = object (member (codes "cuts") (count_data s.cuts) (member (codes "left") (side_data s.end.left)
+    (member (codes "quants") (count_data s.quants) (member (codes "right") (side_data s.end.right)
+    (member (codes "shorter") (boolean shorter) no_members)))))
+
 -- an error that says no more than its kind
 abbrev pub plain : List ℕ → Data
 plain kind = object (member (codes "kind") (string kind) no_members)
@@ -259,6 +270,10 @@ side_fault kind f side = object (member (codes "formula") (string (canonical f))
 abbrev pub cut_data : ℕ → Data
 cut_data step = object (member (codes "kind") (string (codes "cut")) (member (codes "step") (count_data step) no_members))
 
+-- there are more tuples than candidates for a cut are looked for
+abbrev pub too_many_data : ℕ → Data
+too_many_data n = object (member (codes "count") (count_data n) (member (codes "kind") (string (codes "too_many")) no_members))
+
 -- the atoms that are true where a sequent is false
 abbrev pub falsified_data : FormulaSet → Data
 falsified_data atoms = object (member (codes "kind") (string (codes "falsified")) (member (codes "true") (side_data atoms) no_members))
@@ -312,6 +327,8 @@ answer_data (Measure cuts nodes quants size) = Ok (measure_data cuts nodes quant
 answer_data (Expansion summary) = Ok (expansion_data summary)
 answer_data (Nodes flat) = Ok (nodes_data flat)
 answer_data (Interpolant first f second) = Ok (interpolant_data first f second)
+answer_data (Herbrand n s) = Ok (herbrand_data n s)
+answer_data (Introduced summary shorter) = Ok (introduced_data summary shorter)
 answer_data LineTooLong = Err (plain (codes "line_too_long"))
 answer_data (Reading cause) = Err (reading_data cause)
 answer_data NameTaken = Err (plain (codes "name_taken"))
@@ -330,6 +347,8 @@ answer_data (Cycle vars) = Err (cycle_data vars)
 answer_data (Cut step) = Err (cut_data step)
 answer_data (Defined f side) = Err (side_fault (codes "defined") f side)
 answer_data (Partition f side) = Err (side_fault (codes "partition") f side)
+answer_data (NotPrenex f side) = Err (side_fault (codes "not_prenex") f side)
+answer_data (TooMany n) = Err (too_many_data n)
 answer_data Budget = Err (plain (codes "budget"))
 answer_data Memory = Err (plain (codes "memory"))
 

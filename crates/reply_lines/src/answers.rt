@@ -1,7 +1,7 @@
 //! What came of a job: the object of an Ok reply, or that of an error.
 ghost use Rattle.std.specs.Prelude.{◌≡◌, [], ◌∷◌};
 ghost use Rattle.fol.specs.Formed.{IsFormed};
-ghost use Rattle.reply_lines.specs.Replies.{summary_data, reduced_data, interpolant_data, cut_data, entries_data, proves_data, measure_data, named as named_data, plain as plain_data, field_data, text_kind as kind_text, problem_kind as problem_kind_text, formula_data, tptp_data, reading_data, premise_fault as premise_fault_data, step_data, refutation_cause as refutation_cause_text, refutation_data, answer_data};
+ghost use Rattle.reply_lines.specs.Replies.{summary_data, reduced_data, interpolant_data, herbrand_data, introduced_data, cut_data, too_many_data, entries_data, proves_data, measure_data, named as named_data, plain as plain_data, field_data, text_kind as kind_text, problem_kind as problem_kind_text, formula_data, tptp_data, reading_data, premise_fault as premise_fault_data, step_data, refutation_cause as refutation_cause_text, refutation_data, answer_data};
 ghost use Rattle.reply_lines.specs.Tokens.{data_tokens, Adds, said, fault_data};
 ghost use Rattle.reply_lines.specs.declared.replies.StepShown.TheVariants.{Rule};
 
@@ -68,6 +68,41 @@ fn put_interpolant(
     put_formula(out, alloc, texts, formula);
     out.key("second");
     put_summary(out, alloc, texts, second);
+    out.end_object();
+}
+
+fn put_herbrand(
+    out: &mut JsonText,
+    alloc: Global,
+    texts: &mut CanonicalTexts,
+    count: u64,
+    sequent: &Sequent,
+)
+    ensures { Adds out.old out.new (data_tokens (herbrand_data count sequent.now)) }
+{
+    out.begin_object();
+    put_number(out, "count", count);
+    put_side(out, alloc, texts, "left", &sequent.left);
+    put_side(out, alloc, texts, "right", &sequent.right);
+    out.end_object();
+}
+
+fn put_introduced(
+    out: &mut JsonText,
+    alloc: Global,
+    texts: &mut CanonicalTexts,
+    summary: &Summary,
+    shorter: bool,
+)
+    ensures { Adds out.old out.new (data_tokens (introduced_data summary.now shorter)) }
+{
+    out.begin_object();
+    put_number(out, "cuts", summary.cuts);
+    put_side(out, alloc, texts, "left", &summary.end.left);
+    put_number(out, "quants", summary.quants);
+    put_side(out, alloc, texts, "right", &summary.end.right);
+    out.key("shorter");
+    out.boolean(shorter);
     out.end_object();
 }
 
@@ -263,6 +298,15 @@ fn put_cut(out: &mut JsonText, step: u64)
     out.end_object();
 }
 
+fn put_too_many(out: &mut JsonText, count: u64)
+    ensures { Adds out.old out.new (data_tokens (too_many_data count)) }
+{
+    out.begin_object();
+    put_number(out, "count", count);
+    put_text(out, "kind", "too_many");
+    out.end_object();
+}
+
 /// What came of a job, be it the object of an Ok reply or of an error.
 pub fn put_answer(out: &mut JsonText, alloc: Global, texts: &mut CanonicalTexts, outcome: &Outcome)
     ensures { Adds out.old out.new (data_tokens (said (answer_data outcome.now))) }
@@ -288,6 +332,10 @@ pub fn put_answer(out: &mut JsonText, alloc: Global, texts: &mut CanonicalTexts,
             formula,
             second,
         } => put_interpolant(out, alloc, texts, first, formula.get(), second),
+        Outcome::Herbrand { count, sequent } => put_herbrand(out, alloc, texts, *count, sequent),
+        Outcome::Introduced { summary, shorter } => {
+            put_introduced(out, alloc, texts, summary, *shorter)
+        }
         Outcome::LineTooLong => put_plain(out, "line_too_long"),
         Outcome::Reading(cause) => put_reading(out, cause),
         Outcome::NameTaken => put_plain(out, "name_taken"),
@@ -312,6 +360,10 @@ pub fn put_answer(out: &mut JsonText, alloc: Global, texts: &mut CanonicalTexts,
         Outcome::Partition { formula, side } => {
             put_side_fault(out, alloc, texts, "partition", formula.get(), *side)
         }
+        Outcome::NotPrenex { formula, side } => {
+            put_side_fault(out, alloc, texts, "not_prenex", formula.get(), *side)
+        }
+        Outcome::TooMany(count) => put_too_many(out, *count),
         Outcome::Budget => put_plain(out, "budget"),
         Outcome::Memory => put_plain(out, "memory"),
     }

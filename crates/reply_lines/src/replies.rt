@@ -74,6 +74,16 @@ pub enum Outcome {
         formula: FormedFormula,
         second: Summary,
     },
+    /// The Herbrand sequent of a proof, and how many tuples its quantified formulas have.
+    Herbrand {
+        count: u64,
+        sequent: Sequent,
+    },
+    /// The job is a proof with one cut, and whether it is shorter than the given one; else it is that one.
+    Introduced {
+        summary: Summary,
+        shorter: bool,
+    },
     /// The line has more bytes than a job may have.
     LineTooLong,
     /// The line isn't a job.
@@ -131,6 +141,14 @@ pub enum Outcome {
         formula: FormedFormula,
         side: Side,
     },
+    /// The first formula of a sequent that isn't weak quantifiers over a formula without quantifiers and without predicate symbols that have
+    /// a definition, where each has to be, and its side.
+    NotPrenex {
+        formula: FormedFormula,
+        side: Side,
+    },
+    /// The quantified formulas have more tuples than candidates for a cut are looked for: this many.
+    TooMany(u64),
     /// The work takes more than the budget allows.
     Budget,
     /// Memory ran out while the job was run.
@@ -141,10 +159,15 @@ impl Drop for Outcome {
     fn drop(self) {
         match self {
             Outcome::Proof(summary) | Outcome::Reduced(summary, _) => drop(summary),
+            Outcome::Introduced {
+                summary,
+                shorter: _,
+            } => drop(summary),
             Outcome::Entries {
                 entries: _,
                 sequent,
             } => drop(sequent),
+            Outcome::Herbrand { count: _, sequent } => drop(sequent),
             Outcome::Steps(steps) => drop(steps),
             Outcome::Expansion(summary) => drop(summary),
             Outcome::Nodes(flat) => drop(flat),
@@ -159,7 +182,8 @@ impl Drop for Outcome {
             }
             Outcome::Quantified { formula, side: _ }
             | Outcome::Defined { formula, side: _ }
-            | Outcome::Partition { formula, side: _ } => drop(formula),
+            | Outcome::Partition { formula, side: _ }
+            | Outcome::NotPrenex { formula, side: _ } => drop(formula),
             Outcome::Falsified(atoms) => drop(atoms),
             Outcome::EigenTwice(var) | Outcome::EigenFree(var) => drop(var),
             Outcome::Cycle(vars) => drop(vars),
@@ -177,6 +201,7 @@ impl Drop for Outcome {
             | Outcome::Node { node: _, cause: _ }
             | Outcome::Root { root: _, cause: _ }
             | Outcome::Cut(_)
+            | Outcome::TooMany(_)
             | Outcome::LineTooLong
             | Outcome::NameTaken
             | Outcome::Empty
@@ -204,6 +229,8 @@ impl Outcome {
                 | Outcome::Expansion(_)
                 | Outcome::Nodes(_)
                 | Outcome::Interpolant { .. }
+                | Outcome::Herbrand { .. }
+                | Outcome::Introduced { .. }
         )
     }
 }

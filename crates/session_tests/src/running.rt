@@ -5,6 +5,7 @@ use std::alloc::{AllocError, Global};
 use std::process::Abort;
 use std::sync::Wait;
 use std::test::Fail;
+use std::thread::Threads;
 
 /// The axiom of p as a proof with the name `a`.
 pub const JOB: &str =
@@ -38,7 +39,7 @@ pub struct Ran {
 }
 
 /// A session with these words, over ends that move `piece` bytes a call.
-pub fn run<R: Wait>(
+pub fn run<R: Wait + Threads + Sync>(
     rt: &R,
     alloc: Global,
     words: &[String],
@@ -71,7 +72,7 @@ pub fn run<R: Wait>(
 }
 
 /// Sees that a session over these bytes writes these replies and notes nothing.
-pub fn expect<R: Abort + Wait>(
+pub fn expect<R: Abort + Wait + Threads + Sync>(
     rt: &R,
     alloc: Global,
     input: &[u8],

@@ -1,7 +1,7 @@
 -- The laws of interpolation, for what it comes to.
 use Rattle.std.proofs.Common.{sym, subst}
 use Rattle.fol.specs.Formed.{IsFormed}
-use Rattle.interp_laws.specs.Interpolation.{Interpolation, itp}
+use Rattle.interp_laws.specs.Interpolation.{Interpolation}
 use Rattle.operation_laws.specs.Claims.{IsInterpolated}
 use Rattle.operation_laws.proofs.laws.interpolations.Goals as goal
 

@@ -8,7 +8,7 @@ use Rattle.proof_server.proofs.Concluding.{job_named, job_run, fault_named, faul
 use Rattle.proof_server.proofs.reply.conclude_line.Goals as goal
 
 pub run_job-requires-clause-op : goal.run_job-requires-clause-op
-run_job-requires-clause-op g c = c.formed_readings.ensures c.args.line.now c.in-Ok.field-0.op c.in-Ok.ensures.1
+run_job-requires-clause-op g c κs within = c.formed_readings.ensures c.args.line.now c.in-Ok.field-0.op c.in-Ok.ensures.1
 
 pub returns-in_ok-conclusion-in-Ok-clause-name : goal.returns-in_ok-conclusion-in-Ok-clause-name
 returns-in_ok-conclusion-in-Ok-clause-name g c = job_named c.args.line.now c.in-Ok.field-0 c.requires.short c.in-Ok.ensures

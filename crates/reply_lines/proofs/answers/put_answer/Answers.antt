@@ -32,3 +32,8 @@ pub returns-in-Partition : goal.returns-in-Partition
 returns-in-Partition c =
     subst (λ (outcome : Outcome). Adds c.args.out.now c.put_side_fault-in-Partition.new.out (data_tokens (said (answer_data outcome)))) (sym c.in-Partition.is)
     (subst (λ (f : Formula). Adds c.args.out.now c.put_side_fault-in-Partition.new.out (data_tokens (side_fault (codes "partition") f c.in-Partition.side))) c.get-in-Partition.ensures.formula c.put_side_fault-in-Partition.ensures)
+
+pub returns-in-NotPrenex : goal.returns-in-NotPrenex
+returns-in-NotPrenex c =
+    subst (λ (outcome : Outcome). Adds c.args.out.now c.put_side_fault-in-NotPrenex.new.out (data_tokens (said (answer_data outcome)))) (sym c.in-NotPrenex.is)
+    (subst (λ (f : Formula). Adds c.args.out.now c.put_side_fault-in-NotPrenex.new.out (data_tokens (side_fault (codes "not_prenex") f c.in-NotPrenex.side))) c.get-in-NotPrenex.ensures.formula c.put_side_fault-in-NotPrenex.ensures)

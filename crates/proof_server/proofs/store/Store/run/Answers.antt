@@ -10,12 +10,12 @@ use Rattle.proof_server.proofs.Standing.{values_mean, values_fit}
 use Rattle.proof_server.proofs.store.Store.run.Goals as goal
 
 pub answer-requires-clause-count : goal.answer-requires-clause-count
-answer-requires-clause-count g c =
+answer-requires-clause-count g c κs within =
     ap (λ (hs : List Held). length hs) (c.deref.ensures.value ∙ c.in_ok-given.ensures)
     ∙ length-map (names_in c.args.op.now) (λ text. value_named c.args.self.now.names (base_name text))
 
 pub answer-requires-clause-fits : goal.answer-requires-clause-fits
-answer-requires-clause-fits g c =
+answer-requires-clause-fits g c κs within =
     values_fit (graph_in c.args.self.now) c.args.self.now.names c.requires.store.0 c.requires.store.1.known c.args.op.now _ (c.deref.ensures.value ∙ c.in_ok-given.ensures)
 
 pub returns-clause-ran : goal.returns-clause-ran

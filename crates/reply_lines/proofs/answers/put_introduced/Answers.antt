@@ -1,0 +1,6 @@
+use Rattle.reply_lines.proofs.Adding.{adds_then}
+use Rattle.reply_lines.proofs.answers.put_introduced.Goals as goal
+
+pub returns : goal.returns
+returns c =
+    adds_then c.begin_object.ensures (adds_then c.put_number.ensures (adds_then c.put_side.ensures (adds_then c.put_number-2.ensures (adds_then c.put_side-2.ensures (adds_then c.key.ensures (adds_then c.boolean.ensures c.end_object.ensures))))))

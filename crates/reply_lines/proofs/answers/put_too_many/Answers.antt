@@ -1,0 +1,5 @@
+use Rattle.reply_lines.proofs.Adding.{adds_then}
+use Rattle.reply_lines.proofs.answers.put_too_many.Goals as goal
+
+pub returns : goal.returns
+returns c = adds_then c.begin_object.ensures (adds_then c.put_number.ensures (adds_then c.put_text.ensures c.end_object.ensures))
