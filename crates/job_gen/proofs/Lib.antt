@@ -1,0 +1,6 @@
+pub mod Adding
+pub mod JobTexts
+mod Examples
+pub mod PlainTexts
+pub mod ShortJobs
+pub mod LineLaws

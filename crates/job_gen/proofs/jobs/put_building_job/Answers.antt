@@ -1,0 +1,7 @@
+use Rattle.job_gen.proofs.Adding.{adds_then}
+use Rattle.job_gen.proofs.jobs.put_building_job.Goals as goal
+
+pub returns : goal.returns
+returns c =
+    adds_then c.begin_object.ensures (adds_then c.key.ensures (adds_then c.put_name.ensures (adds_then c.key-2.ensures (adds_then c.put_name-2.ensures
+    (adds_then c.put_text.ensures c.end_object.ensures)))))

@@ -1,0 +1,12 @@
+-- The laws are lemmas.
+use Rattle.job_gen.proofs.LineLaws.{line_printable, length-generated_line, length-generated}
+use Rattle.job_gen.proofs.laws.lines.Goals as goal
+
+pub returns-clause-one : goal.returns-clause-one
+returns-clause-one c i = line_printable i
+
+pub returns-clause-short : goal.returns-clause-short
+returns-clause-short c i = length-generated_line i
+
+pub returns-clause-few : goal.returns-clause-few
+returns-clause-few c n = length-generated n

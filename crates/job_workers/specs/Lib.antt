@@ -1,0 +1,7 @@
+pub mod Events
+pub mod Records
+pub mod Needs
+pub mod Machine
+pub mod Tickets
+pub mod Desks
+pub mod Boards

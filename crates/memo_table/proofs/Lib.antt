@@ -1,0 +1,2 @@
+mod Finds
+pub mod Listed

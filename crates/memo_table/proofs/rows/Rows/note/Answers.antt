@@ -1,0 +1,11 @@
+use Rattle.std.proofs.Common.{sym, subst}
+use Rattle.std.proofs.lemmas.Result.{on_ok_weaker}
+use Rattle.memo_table.specs.Pairs.{IsIn}
+use Rattle.memo_table.proofs.Finds.{in_pushed}
+use Rattle.memo_table.proofs.rows.Rows.note.Goals as goal
+
+pub returns-clause-stands : goal.returns-clause-stands
+returns-clause-stands g c =
+    on_ok_weaker c.put.result
+    (λ e. subst (λ ps. IsIn g.L.Key.Ord.cmp ps c.args.key) (sym e) (in_pushed g.L.Key.Ord.cmp g.met.L.Key.Ord.total c.args.self.now.pairs c.args.key c.args.val))
+    c.put.ensures.ok

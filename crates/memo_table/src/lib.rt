@@ -1,0 +1,10 @@
+//! A table of true pairs that threads share. A look-up finds what any of them has noted.
+#![tactic(auto)]
+
+mod law;
+mod memo;
+mod rows;
+
+pub use law::Law;
+pub use memo::{Memo, MemoOf, MemoPass};
+pub use rows::Pair;
