@@ -1,12 +1,12 @@
 -- An index with one more reference.
-use Rattle.std.proofs.Common.{◌≡◌, ◌≢◌, ℕ, ◌+◌, ◌<◌, ◌≤◌, ◌⊎◌, Bool, true, false, List, [], ◌∷◌, ◌++◌, map, length, get_or, refl, sym, ap, ◌∙◌, subst, arith, inl, inr, length-append}
+use Rattle.std.proofs.Common.{◌≡◌, ◌≢◌, ℕ, ◌+◌, ◌<◌, ◌≤◌, ◌⊎◌, Bool, true, false, List, [], ◌∷◌, ◌++◌, length, get_or, refl, sym, ap, ◌∙◌, subst, arith, inl, inr, length-append}
 use Rattle.std.specs.Prelude.{Some}
 use Rattle.std.specs.List.{All, AllPairs}
 use Rattle.std.specs.HashMap as hash
 use Rattle.std.specs.HashMap.{HashMap, Updates}
 use Rattle.std.specs.Map.{lookup}
 use Rattle.std.proofs.lemmas.Bool.{cases_lt}
-use Rattle.std.proofs.lemmas.List.{get_or-map, length-map, get_or_append_left, get_or_at, map-append}
+use Rattle.std.proofs.lemmas.List.{get_or_append_left, get_or_at}
 use Rattle.std.proofs.lemmas.List.Elements.{All-push, All-weaker}
 use Rattle.std.proofs.lemmas.List.Quantifiers.{all_pairs_push}
 use Rattle.proof_trees.specs.Trees.{IsValid}
@@ -15,14 +15,8 @@ use Rattle.proof_graph.specs.declared.index.Index.TheInside.{Inside}
 use Rattle.proof_graph.specs.SameCodes.{same_by_decides}
 use Rattle.proof_graph.specs.Keys.{coded_node, same_node}
 use Rattle.proof_graph.specs.References.{Reference, key_of}
-use Rattle.proof_graph.specs.History.{entry_of, IsAbsent}
-use Rattle.proof_graph.specs.Indexed.{recorded, IsIndexed}
-
--- what holds of the entries of references holds of the references
-pub All-unmap : {X Y : Type 0} (P : Y → Type 0) (f : X → Y) (xs : List X) → All P (map f xs) → All (λ x. P (f x)) xs
-All-unmap P f xs h k d within =
-    let inside : k < length (map f xs) = subst (λ (n : ℕ). k < n) (sym (length-map xs f)) within in
-    subst P (get_or-map f xs k d (f d) within) (h k (f d) inside)
+use Rattle.proof_graph.specs.History.{IsAbsent}
+use Rattle.proof_graph.specs.Indexed.{IsIndexed}
 
 some_same : {X : Type 0} (x y : X) → Some x ≡ Some y → x ≡ y
 some_same x y h = cc
@@ -67,13 +61,11 @@ module _ {S : Type 0} (places grown : HashMap Node ℕ S) (key : Node) (place : 
 -- one more reference of another key and another number
 pub indexed_more : (i j : Inside) (r : Reference) (key : Node) (place : ℕ) → IsIndexed i → j.home.value ≡ i.home.value → j.refs.items ≡ i.refs.items ++ r ∷ []
     → place ≡ length i.refs.items → Updates same_node i.places j.places key (Some place) → i.top ≤ j.top → r.number ≤ j.top
-    → r.home ≡ i.home.value → IsValid r.tree → key_of r ≡ key → IsAbsent (recorded i).history key → All (λ e. e.number ≢ r.number) (recorded i).history → IsIndexed j
-indexed_more i j r key place h homes items placed changes tops top home valid is absent fresh =
+    → r.home ≡ i.home.value → IsValid r.tree → key_of r ≡ key → IsAbsent i.refs.items key → All (λ s. s.number ≢ r.number) i.refs.items → IsIndexed j
+indexed_more i j r key place h homes items placed changes tops top home valid is others apart =
     let rs = i.refs.items in
     let updates : Updates same_node i.places j.places key (Some (length i.refs.items)) = subst (λ (n : ℕ). Updates same_node i.places j.places key (Some n)) placed changes in
     let Of : List Reference → Type 0 = λ xs. All (λ s. s.home ≡ j.home.value) xs in
-    let others : All (λ s. key_of s ≢ key) rs = All-unmap (λ e. e.key ≢ key) entry_of rs absent in
-    let apart : All (λ s. s.number ≢ r.number) rs = All-unmap (λ e. e.number ≢ r.number) entry_of rs fresh in
     record {
       home = subst Of (sym items) (All-push (λ s. s.home ≡ j.home.value) rs r (All-weaker (λ s. s.home ≡ i.home.value) (λ s. s.home ≡ j.home.value) (λ s e. e ∙ sym homes) rs h.home) (home ∙ sym homes));
       valid = subst (All (λ s. IsValid s.tree)) (sym items) (All-push (λ s. IsValid s.tree) rs r h.valid valid);
@@ -119,11 +111,9 @@ indexed_more i j r key place h homes items placed changes tops top home valid is
               )
         ]
 
-pub recorded_more : (i j : Inside) (r : Reference) → j.refs.items ≡ i.refs.items ++ r ∷ [] → (recorded j).history ≡ (recorded i).history ++ entry_of r ∷ []
-recorded_more i j r items = ap (map entry_of) items ∙ map-append entry_of i.refs.items (r ∷ [])
-
--- an index with other room for the same references
-pub indexed_same : (i j : Inside) → IsIndexed i → j.home.value ≡ i.home.value → j.refs.items ≡ i.refs.items → j.places.entries ≡ i.places.entries → j.top ≡ i.top → IsIndexed j
+-- an index with other room for the same references, whose map gives the same places
+pub indexed_same : (i j : Inside) → IsIndexed i → j.home.value ≡ i.home.value → j.refs.items ≡ i.refs.items → ((n : Node) → hash.get same_node j.places n ≡ hash.get same_node i.places n)
+    → j.top ≡ i.top → IsIndexed j
 indexed_same i j h homes items places tops = record {
   home = subst (All (λ s. s.home ≡ j.home.value)) (sym items) (subst (λ v. All (λ s. s.home ≡ v) i.refs.items) (sym homes) h.home);
   valid = subst (All (λ s. IsValid s.tree)) (sym items) h.valid;
@@ -131,8 +121,12 @@ indexed_same i j h homes items places tops = record {
   numbers = subst (AllPairs (λ s t. s.number ≢ t.number)) (sym items) h.numbers;
   found =
       subst (λ (xs : List Reference). (k : ℕ) (d : Reference) → k < length xs → hash.get same_node j.places (key_of (get_or xs k d)) ≡ Some k) (sym items)
-      (λ k d within. ap (lookup (same_node (key_of (get_or i.refs.items k d)))) places ∙ h.found k d within);
+      (λ k d within. places (key_of (get_or i.refs.items k d)) ∙ h.found k d within);
   listed =
       subst (λ (xs : List Reference). (n : Node) (k : ℕ) → hash.get same_node j.places n ≡ Some k → (k < length xs) × ((d : Reference) → key_of (get_or xs k d) ≡ n)) (sym items)
-      (λ n k there. h.listed n k (ap (lookup (same_node n)) (sym places) ∙ there));
+      (λ n k there. h.listed n k (sym (places n) ∙ there));
 }
+
+-- a map with the same entries gives the same
+pub same_places : {S : Type 0} (places grown : HashMap Node ℕ S) → grown.entries ≡ places.entries → (n : Node) → hash.get same_node grown n ≡ hash.get same_node places n
+same_places places grown same n = ap (lookup (same_node n)) same

@@ -1,6 +1,6 @@
-pub mod Prefixes
 pub mod Agreement
 pub mod Entries
+pub mod Histories
 pub mod Linked
 pub mod Counting
 pub mod Growth

@@ -1,21 +1,18 @@
 -- At which numbers keys stand after an index was asked, and references with the same numbers.
-use Rattle.std.proofs.Common.{◌≡◌, ℕ, ◌+◌, ◌<◌, List, [], ◌∷◌, ◌++◌, length, get_or, take, Result, Ok, Err, IfOk, refl, sym, ap, ◌∙◌, subst}
+use Rattle.std.proofs.Common.{◌≡◌, ℕ, ◌+◌, ◌<◌, List, [], ◌∷◌, ◌++◌, length, get_or, take, refl, sym, ap, ◌∙◌, subst, inl, inr, arith}
 use Rattle.std.specs.List.{Contains}
-use Rattle.std.proofs.lemmas.List.{get_or-map, length-map, take_more}
+use Rattle.std.proofs.lemmas.Bool.{cases_lt}
+use Rattle.std.proofs.lemmas.List.{get_or-map, get_or_default, length-map, take_more}
 use Rattle.std.proofs.lemmas.List.Elements.{Contains-push}
+use mathlib.Core.List.{IsPrefix}
+use Rattle.turn_log.proofs.Prefixes.{prefix_trans, prefix_contains}
 use Rattle.proof_graph.specs.declared.node.Node.{Node}
 use Rattle.proof_graph.specs.References.{Reference, key_of, numbers_of}
-use Rattle.proof_graph.specs.History.{Entry, entry_of, StandsAt}
+use Rattle.proof_graph.specs.History.{IsLegal, StandsAt, AddsAtMost}
 
-pub stands_known : {E : Type 0} (r : Result Reference E) (history : List Entry) (key : Node) (found : Reference) → IfOk r (λ x. x ≡ found) → key_of found ≡ key
-    → Contains history (entry_of found) → IfOk r (λ x. StandsAt history key x.number)
-stands_known (Ok x) history key found same is there = (entry_of found, there, is, ap (λ (y : Reference). y.number) (sym same))
-stands_known (Err e) history key found same is there = tt
-
-pub stands_added : {E : Type 0} (r : Result Reference E) (old new : List Entry) (key : Node) → IfOk r (λ x. key_of x ≡ key) → IfOk r (λ x. new ≡ old ++ entry_of x ∷ [])
-    → IfOk r (λ x. StandsAt new key x.number)
-stands_added (Ok x) old new key is grown = (entry_of x, subst (λ (h : List Entry). Contains h (entry_of x)) (sym grown) (Contains-push old (entry_of x)), is, refl)
-stands_added (Err e) old new key is grown = tt
+-- a reference of a list stands there
+pub stands_there : (history : List Reference) (key : Node) (r : Reference) → key_of r ≡ key → Contains history r → StandsAt history key r.number
+stands_there history key r is there = (r, there, is, refl)
 
 -- one more place at which two lists are the same
 pub take_same : (xs ys : List Reference) (i : ℕ) (d : Reference) → i < length xs → i < length ys → take i xs ≡ take i ys → get_or xs i d ≡ get_or ys i d
@@ -31,3 +28,37 @@ number_same xs ys i d numbers in_xs in_ys =
 
 pub lengths_same : (xs ys : List Reference) → numbers_of xs ≡ numbers_of ys → length xs ≡ length ys
 lengths_same xs ys numbers = sym (length-map xs (λ (r : Reference). r.number)) ∙ ap length numbers ∙ length-map ys (λ (r : Reference). r.number)
+
+-- in a legal history each key is that of one entry
+one_entry : (history : List Reference) (r s : Reference) → IsLegal history → key_of r ≡ key_of s → Contains history r → Contains history s → r ≡ s
+one_entry history r s legal same p q =
+    let at_r : get_or history p.0 s ≡ r = get_or_default history p.0 s r p.1 ∙ p.2 in
+    let at_s : get_or history q.0 s ≡ s = q.2 in
+    elim (cases_lt p.0 q.0) [
+      | inl before ↦ absurd (legal.keys p.0 q.0 s before q.1 (ap key_of at_r ∙ same ∙ ap key_of (sym at_s)))
+      | inr after ↦ elim (cases_lt q.0 p.0) [
+        | inl before ↦ absurd (legal.keys q.0 p.0 s before p.1 (ap key_of at_s ∙ sym same ∙ ap key_of (sym at_r)))
+        | inr not_after ↦ let place : p.0 ≡ q.0 = omega arith in sym at_r ∙ ap (λ (k : ℕ). get_or history k s) place ∙ at_s
+      ]
+    ]
+
+-- a key that stood at a number stands at no other in a legal history that goes on
+pub known_number : (old new : List Reference) (key : Node) (m n : ℕ) → IsLegal new → IsPrefix old new → StandsAt new key m → StandsAt old key n → m ≡ n
+known_number old new key m n legal grown there before =
+    let same : there.0 ≡ before.0 = one_entry new there.0 before.0 legal (there.2 ∙ sym before.2) there.1 (prefix_contains old new before.0 grown before.1) in
+    sym there.3 ∙ ap (λ (r : Reference). r.number) same ∙ before.3
+
+-- a key that was found
+pub found_adds : (old new : List Reference) (key : Node) (r : Reference) → key_of r ≡ key → Contains new r → IsPrefix old new → AddsAtMost old key r new
+found_adds old new key r is there grown = (new, grown, inl (stands_there new key r is there, refl))
+
+-- a key stands at the number of its reference, whether it was added or stood there
+pub stands_after : (old new : List Reference) (key : Node) (r : Reference) → key_of r ≡ key → AddsAtMost old key r new → StandsAt new key r.number
+stands_after old new key r is adds = elim adds.2 [
+  | inl known ↦ subst (λ (h : List Reference). StandsAt h key r.number) (sym known.1) known.0
+  | inr added ↦ stands_there new key r is (subst (λ (h : List Reference). Contains h r) (sym added.1) (Contains-push adds.0 r))
+]
+
+-- what is added after an earlier history is added after one that begins it
+pub adds_later : (old later new : List Reference) (key : Node) (r : Reference) → IsPrefix old later → AddsAtMost later key r new → AddsAtMost old key r new
+adds_later old later new key r grown adds = (adds.0, prefix_trans old later adds.0 grown adds.1, adds.2)

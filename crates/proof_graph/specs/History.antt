@@ -1,55 +1,43 @@
--- The history of a graph: which node stands at which number, in the order in which they were interned.
---     Entry, entry_of      an entry, and the entry of a reference
---     IsLegal      keys differ, numbers differ, and each tree is valid, with the rule and the end sequent of its key
---     StandsAt      a key stands at a number
-use Rattle.std.specs.Prelude.{◌≡◌, ◌≢◌, ℕ, List}
+-- The history of a graph: the references that were interned, in their order.
+--     IsLegal      keys differ, numbers differ, and each tree is valid
+--     StandsAt, IsAbsent      a key stands at a number, or nowhere
+--     AddsAtMost      what one call adds
+use Rattle.std.specs.Prelude.{◌≡◌, ◌≢◌, ◌⊎◌, ℕ, List, [], ◌∷◌, ◌++◌}
 use Rattle.std.specs.List.{All, AllPairs, Contains}
 use Rattle.std.specs.Coded.{Coded}
-use base.Stored.{coded×, coded_ℕ, coded_list, coded_via}
+use base.Stored.{coded×, coded_list, coded_via}
+use mathlib.Core.List.{IsPrefix}
 use Rattle.boxcar.specs.Table.{Shelves, shelves_coded}
-use Rattle.proof_trees.specs.Trees.{Tree, rule_of, concl, IsValid}
+use Rattle.proof_trees.specs.Trees.{IsValid}
 use Rattle.proof_graph.specs.declared.node.Node.{Node}
-use Rattle.proof_graph.specs.contracts.node.Node as node
-use Rattle.proof_graph.specs.Codes.{coded_tree}
-use Rattle.proof_graph.specs.References.{Reference, key_of}
+use Rattle.proof_graph.specs.References.{Reference, coded_reference, key_of}
 
--- a key is a rule, an end sequent and the numbers of premises; it stands at a number, for a tree
-pub record Entry : Type 0 where
-  pub key : Node
-  pub number : ℕ
-  pub tree : Tree
-
-abbrev pub coded_entry : Coded Entry
-coded_entry =
-    coded_via (coded× node.the_row.coded (coded× coded_ℕ coded_tree)) (λ (e : Entry). (e.key, (e.number, e.tree)))
-    (λ x y e i. record { key = (e i).0; number = (e i).1.0; tree = (e i).1.1 })
-
-abbrev pub entry_of : Reference → Entry
-entry_of r = record { key = key_of r; number = r.number; tree = r.tree }
-
--- the tree of an entry is valid, and has the rule and the end sequent of its key
-pub record IsRight (e : Entry) : Type 0 where
-  pub valid : IsValid e.tree
-  pub rule : rule_of e.tree ≡ e.key.rule
-  pub end : concl e.tree ≡ e.key.end
-
-pub record IsLegal (history : List Entry) : Type 0 where
-  pub keys : AllPairs (λ d e. d.key ≢ e.key) history
-  pub numbers : AllPairs (λ d e. d.number ≢ e.number) history
-  pub trees : All IsRight history
+-- no two entries have one key or one number. The tree of each is valid; its root has the rule and the end sequent of the key
+pub record IsLegal (history : List Reference) : Type 0 where
+  pub keys : AllPairs (λ r s. key_of r ≢ key_of s) history
+  pub numbers : AllPairs (λ r s. r.number ≢ s.number) history
+  pub trees : All (λ r. IsValid r.tree) history
 
 -- an entry with this key has this number
-abbrev pub StandsAt : List Entry → Node → ℕ → Type 0
-StandsAt history key n = (e : Entry) × Contains history e × (e.key ≡ key) × (e.number ≡ n)
+abbrev pub StandsAt : List Reference → Node → ℕ → Type 0
+StandsAt history key n = (r : Reference) × Contains history r × (key_of r ≡ key) × (r.number ≡ n)
 
 -- no entry has this key
-abbrev pub IsAbsent : List Entry → Node → Type 0
-IsAbsent history key = All (λ e. e.key ≢ key) history
+abbrev pub IsAbsent : List Reference → Node → Type 0
+IsAbsent history key = All (λ r. key_of r ≢ key) history
+
+-- a history that has the key stays as it is, for the reference's number; to one that hasn't the reference is added at the end
+abbrev pub Adds : List Reference → Node → Reference → List Reference → Type 0
+Adds history key r new = (StandsAt history key r.number × (new ≡ history)) ⊎ (IsAbsent history key × (new ≡ history ++ r ∷ []))
+
+-- a history goes on from an old one, perhaps by entries of others, and then by the reference where the key wasn't there
+abbrev pub AddsAtMost : List Reference → Node → Reference → List Reference → Type 0
+AddsAtMost old key r new = (history : List Reference) × IsPrefix old history × Adds history key r new
 
 -- what contracts see of an index: the graph that its entries are of, and the history
 pub record Recorded : Type 0 where
   pub home : Shelves
-  pub history : List Entry
+  pub history : List Reference
 
 abbrev pub coded_recorded : Coded Recorded
-coded_recorded = coded_via (coded× shelves_coded (coded_list coded_entry)) (λ (r : Recorded). (r.home, r.history)) (λ x y e i. record { home = (e i).0; history = (e i).1 })
+coded_recorded = coded_via (coded× shelves_coded (coded_list coded_reference)) (λ (r : Recorded). (r.home, r.history)) (λ x y e i. record { home = (e i).0; history = (e i).1 })

@@ -1,5 +1,5 @@
 -- What an index keeps.
-use Rattle.std.specs.Prelude.{◌≡◌, ◌≢◌, ℕ, ◌<◌, ◌≤◌, length, map, Some, slice_index_or}
+use Rattle.std.specs.Prelude.{◌≡◌, ◌≢◌, ℕ, ◌<◌, ◌≤◌, length, Some, slice_index_or}
 use Rattle.std.specs.List.{All, AllPairs}
 use Rattle.std.specs.HashMap as hash
 use Rattle.proof_trees.specs.Trees.{IsValid}
@@ -7,10 +7,10 @@ use Rattle.proof_graph.specs.declared.node.Node.{Node}
 use Rattle.proof_graph.specs.declared.index.Index.TheInside.{Inside}
 use Rattle.proof_graph.specs.Keys.{same_node}
 use Rattle.proof_graph.specs.References.{Reference, key_of}
-use Rattle.proof_graph.specs.History.{Recorded, entry_of}
+use Rattle.proof_graph.specs.History.{Recorded}
 
 abbrev pub recorded : Inside → Recorded
-recorded i = record { home = i.home.value; history = map entry_of i.refs.items }
+recorded i = record { home = i.home.value; history = i.refs.items }
 
 -- the references are of one graph, with numbers that differ and are at most `top`, and the map gives for the key of each its place
 pub record IsIndexed (i : Inside) : Type 0 where

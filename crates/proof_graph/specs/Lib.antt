@@ -5,6 +5,9 @@ pub mod Shown
 pub mod References
 pub mod Counts
 pub mod Kept
+pub mod Drafts
 pub mod History
+pub mod Unique
+pub mod Events
 pub mod Indexed
 pub mod Graphs

@@ -1,43 +1,57 @@
 //! Graphs of proofs.
-ghost use Rattle.std.specs.Prelude.{◌≡◌, ◌↔◌, ◌<◌, ℕ, [], length, slice_index, Some, IsTrue, IfOk};
-ghost use Rattle.std.specs.List.{All};
+ghost use Rattle.std.specs.Prelude.{◌≡◌, ◌↔◌, ◌<◌, ℕ, [], length, slice_index, Some, IsTrue, IfOk, IfSome};
+ghost use Rattle.std.specs.List.{All, Contains};
 ghost use mathlib.Core.List.{IsPrefix};
+ghost use Rattle.turn_log.specs.Rules.{longer};
+ghost use Rattle.turn_log.specs.Logs.{opening};
+ghost use Rattle.turn_log.specs.Passes.{seen};
+ghost use Rattle.boxcar.specs.Table.{shelves_coded};
+ghost use Rattle.std.specs.Coded.{Coded-set};
 ghost use Rattle.proof_trees.specs.Trees.{node, below, IsInference};
 ghost use Rattle.proof_graph.specs.Shown.{tree_at};
 ghost use Rattle.proof_graph.specs.References.{key_of, key_over, trees_of, numbers_of};
-ghost use Rattle.proof_graph.specs.History.{IsLegal, StandsAt};
-ghost use Rattle.proof_graph.specs.Graphs.{IsOf, IsPassOf, history};
+ghost use Rattle.proof_graph.specs.History.{IsLegal, StandsAt, AddsAtMost};
+ghost use Rattle.proof_graph.specs.Unique.{legal_prop};
+ghost use Rattle.proof_graph.specs.Drafts.{IsDraftOf};
 
-use crate::index::Index;
+use crate::index::{Index, see_trees};
+use crate::key::Key;
 use crate::node::Node;
-use crate::reference::ProofRef;
+use crate::reference::{Draft, ProofRef};
 use crate::tree::Nodes;
 use lk_rules::{Numbers, Rule, Sequent};
 use std::alloc::{AllocError, Global};
 use std::sync::Wait;
+use turn_log::{Pass, TurnLog};
 
-/// A graph: proofs as shared trees, in which each node stands once. It only grows, and what stands at a number stays.
-#[derive(Drop)]
+/// A graph: proofs as shared trees, in which each node stands once. It only grows, and what stands at a number stays. Threads share it:
+/// each puts nodes in by a pass of its own. It can't be dropped, and is ended by `close`.
 pub struct Graph {
     nodes: Nodes,
+    index: TurnLog<Index>,
+    // The references of the index are of this graph.
+    ghost home: { (opening index).home ≡ nodes } by { Coded-set shelves_coded _ _ },
 }
 
-/// What is needed to put nodes into a graph: the history of the graph.
+/// What a thread needs to put nodes into a graph. It has seen a beginning of the graph's history.
 #[derive(Drop)]
 pub struct GraphPass {
-    index: Index,
+    pass: Pass<Index>,
+    ghost legal: { IsLegal (seen pass) } by { legal_prop _ },
 }
 
 impl GraphPass {
+    ghost use Rattle.proof_graph.specs.Graphs.{history};
+
     /// A history is legal.
     pub fn known(&self)
         ensures { IsLegal (history self.now) }
-    {
-        self.index.known();
-    }
+    {}
 }
 
 impl Graph {
+    ghost use Rattle.proof_graph.specs.Graphs.{IsOf, IsPassOf, history};
+
     /// A graph with no node, and its pass.
     pub fn new(alloc: Global) -> Result<(Graph, GraphPass), AllocError>
         ensures pass { IfOk result (λ made. IsPassOf made.0 made.1) }
@@ -45,12 +59,15 @@ impl Graph {
     {
         let nodes = boxcar::Vec::new(alloc)?;
         let index = Index::new(alloc, &nodes);
-        Ok((Graph { nodes }, GraphPass { index }))
+        index.known();
+        let (index, pass) = TurnLog::new(alloc, index)?;
+        Ok((Graph { nodes, index }, GraphPass { pass }))
     }
 
     /// The reference of the tree whose last inference has this rule and this end sequent over the trees of the premises. Its key is the
-    /// rule, the end sequent and the numbers of the premises. A key that was interned before keeps its number. It takes one
-    /// look-up by the hash of the key.
+    /// rule, the end sequent and the numbers of the premises. A key that is there keeps its number, whoever interned it, and takes one
+    /// short turn with one look-up by its hash. A new one takes another turn, in which it is looked for once more: between the two
+    /// another thread may have interned it.
     pub fn intern<R: Wait>(
         &self,
         rt: &R,
@@ -66,7 +83,8 @@ impl Graph {
         ensures tree { IfOk result (λ r. r.tree ≡ node rule end (trees_of premises.now)) }
         ensures of { IfOk result (IsOf self.now) }
         ensures stands { IfOk result (λ r. StandsAt (history pass.new) (key_over rule end premises.now) r.number) }
-        ensures known { IfOk result (λ _. (n : ℕ) → StandsAt (history pass.old) (key_over rule end premises.now) n → history pass.new ≡ history pass.old) }
+        ensures known { IfOk result (λ r. (n : ℕ) → StandsAt (history pass.old) (key_over rule end premises.now) n → r.number ≡ n) }
+        ensures adds { IfOk result (λ r. AddsAtMost (history pass.old) (key_over rule end premises.now) r (history pass.new)) }
         ensures grown { IsPrefix (history pass.old) (history pass.new) }
         ensures pass_stays { IsPassOf self.now pass.new }
     {
@@ -75,7 +93,92 @@ impl Graph {
             end,
             premises: numbers_of_all(alloc, premises)?,
         };
-        pass.index.intern(rt, alloc, &self.nodes, root, premises)
+        let key = Key::new(alloc, root)?;
+        if let Some(found) = self.look_up(rt, pass, &key)? {
+            see_trees(&self.nodes, &found, premises);
+            return Ok(found);
+        }
+        let draft = Draft::new(alloc, &key, premises)?;
+        let made = self.add(rt, alloc, pass, key, draft)?;
+        see_trees(&self.nodes, &made, premises);
+        Ok(made)
+    }
+
+    // The reference whose key this is, looked for in a turn.
+    fn look_up<R: Wait>(
+        &self,
+        rt: &R,
+        pass: &mut GraphPass,
+        key: &Key,
+    ) -> Result<Option<ProofRef>, AllocError>
+        requires pass_of { IsPassOf self.now pass.old }
+        ensures found { IfOk result (λ o. IfSome o (λ r. (key_of r ≡ key.now) × Contains (history pass.new) r × IsOf self.now r)) }
+        ensures grown { IsPrefix (history pass.old) (history pass.new) }
+        ensures pass_stays { IsPassOf self.now pass.new }
+    {
+        let turn = self.index.take(rt, &mut pass.pass);
+        let found = turn.value().look_up(key);
+        self.index.give(&mut pass.pass, turn);
+        found
+    }
+
+    // The reference of a key, which is added in a turn where it isn't there.
+    fn add<R: Wait>(
+        &self,
+        rt: &R,
+        alloc: Global,
+        pass: &mut GraphPass,
+        key: Key,
+        draft: Draft,
+    ) -> Result<ProofRef, AllocError>
+        requires pass_of { IsPassOf self.now pass.old }
+        requires draft { IsDraftOf self.now.nodes key draft }
+        ensures of { IfOk result (IsOf self.now) }
+        ensures key { IfOk result (λ r. key_of r ≡ key) }
+        ensures adds { IfOk result (λ r. AddsAtMost (history pass.old) key r (history pass.new)) }
+        ensures grown { IsPrefix (history pass.old) (history pass.new) }
+        ensures pass_stays { IsPassOf self.now pass.new }
+    {
+        let mut turn = self.index.take(rt, &mut pass.pass);
+        let made = turn.value_mut().intern(rt, alloc, &self.nodes, key, draft);
+        self.index.give(&mut pass.pass, turn);
+        made
+    }
+
+    /// Another pass of the graph, as for another thread. Both have seen the same.
+    pub fn split(&self, pass: &mut GraphPass) -> GraphPass
+        requires { IsPassOf self.now pass.old }
+        ensures of { IsPassOf self.now result }
+        ensures seen { history result ≡ history pass.old }
+        ensures same { history pass.new ≡ history pass.old }
+        ensures pass_stays { IsPassOf self.now pass.new }
+    {
+        GraphPass {
+            pass: self.index.split(&mut pass.pass),
+        }
+    }
+
+    /// Takes another pass of the graph in. Of the two histories the one begins the other, and the pass has then seen the longer.
+    pub fn join(&self, pass: &mut GraphPass, other: GraphPass)
+        requires pass_of { IsPassOf self.now pass.old }
+        requires other_of { IsPassOf self.now other }
+        ensures longer { history pass.new ≡ longer (history pass.old) (history other) }
+        ensures first { IsPrefix (history pass.old) (history pass.new) }
+        ensures second { IsPrefix (history other) (history pass.new) }
+        ensures pass_stays { IsPassOf self.now pass.new }
+    {
+        let GraphPass { pass: other } = other;
+        self.index.join(&mut pass.pass, other);
+    }
+
+    /// Ends the graph, after a last turn on its index.
+    pub fn close<R: Wait>(self, rt: &R, pass: GraphPass)
+        requires { IsPassOf self pass }
+    {
+        let Graph { nodes, index } = self;
+        let GraphPass { pass } = pass;
+        drop(index.close(rt, pass));
+        drop(nodes);
     }
 
     /// The root of the tree that the reference means, with the numbers of its premises.

@@ -1,20 +1,21 @@
 //! The index of a graph: which key stands at which number.
-ghost use Rattle.std.specs.Prelude.{◌≡◌, ◌≢◌, ℕ, ◌++◌, ◌∷◌, [], IfOk, IfErr, OnOk, OnErr, IfSome, IsNone};
+ghost use Rattle.std.specs.Prelude.{◌≡◌, ◌≢◌, ◌++◌, ◌∷◌, [], IfOk, OnOk, OnErr, IfSome, IsNone};
 ghost use Rattle.std.specs.List.{All, Contains};
 ghost use mathlib.Core.List.{IsPrefix};
-ghost use Rattle.proof_trees.specs.Trees.{node, IsInference};
+ghost use Rattle.proof_trees.specs.Trees.{below};
 ghost use Rattle.proof_graph.specs.References.{key_of, trees_of, numbers_of};
-ghost use Rattle.proof_graph.specs.History.{entry_of, IsLegal, StandsAt, IsAbsent};
+ghost use Rattle.proof_graph.specs.History.{IsLegal, IsAbsent, Adds};
+ghost use Rattle.proof_graph.specs.Drafts.{IsDraftOf};
 
 use crate::key::Key;
-use crate::node::Node;
-use crate::reference::{ProofRef, make};
+use crate::reference::{Draft, ProofRef};
 use crate::tree::Nodes;
 use std::alloc::{AllocError, Global};
 use std::collections::HashMap;
 use std::marker::Model;
 use std::snapshot::Snapshot;
 use std::sync::Wait;
+use turn_log::Grows;
 
 /// The references of a graph in the order in which they were interned, and for the key of each its place.
 #[derive(Drop)]
@@ -40,6 +41,22 @@ impl Model for Index {
     ghost invariant = { IsIndexed };
 }
 
+impl Grows for Index {
+    ghost use Rattle.boxcar.specs.Table.{Shelves};
+
+    type Entry = ProofRef;
+
+    ghost Home = { Shelves };
+
+    ghost entries = { λ i. i.history };
+
+    ghost home = { λ i. i.home };
+
+    fn count(&self) -> u64 {
+        self.refs.len() as u64
+    }
+}
+
 impl Index {
     /// An index with no entry.
     pub fn new(alloc: Global, nodes: &Nodes) -> Index
@@ -63,7 +80,7 @@ impl Index {
 
     // The reference whose key this is.
     fn find(&self, key: &Key) -> Option<&ProofRef>
-        ensures found { IfSome result (λ r. (key_of r.now ≡ key.now) × Contains self.now.history (entry_of r.now) × (r.now.home ≡ self.now.home)) }
+        ensures found { IfSome result (λ r. (key_of r.now ≡ key.now) × Contains self.now.history r.now × (r.now.home ≡ self.now.home)) }
         ensures absent { IsNone result → IsAbsent self.now.history key.now }
     {
         match self.places.get(key) {
@@ -72,59 +89,79 @@ impl Index {
         }
     }
 
-    /// The reference of a node whose premises are these. A key that stands in the history keeps its number.
+    /// The reference whose key this is, once more.
+    pub fn look_up(&self, key: &Key) -> Result<Option<ProofRef>, AllocError>
+        ensures found { IfOk result (λ o. IfSome o (λ r. (key_of r ≡ key.now) × Contains self.now.history r × (r.home ≡ self.now.home))) }
+        ensures absent { IfOk result (λ o. IsNone o → IsAbsent self.now.history key.now) }
+        ensures legal { IsLegal self.now.history }
+    {
+        self.known();
+        match self.find(key) {
+            Some(found) => Ok(Some(found.keep()?)),
+            None => Ok(None),
+        }
+    }
+
+    /// The reference of a key, which is added with its node at the end where it isn't there.
     pub fn intern<R: Wait>(
         &mut self,
         rt: &R,
         alloc: Global,
         nodes: &Nodes,
-        root: Node,
-        premises: &[ProofRef],
+        key: Key,
+        draft: Draft,
     ) -> Result<ProofRef, AllocError>
         requires home { self.old.home ≡ nodes.now }
-        requires premises { All (λ p. p.home ≡ nodes.now) premises.now }
-        requires numbers { root.premises ≡ numbers_of premises.now }
-        requires inference { IsInference root.rule root.end (trees_of premises.now) }
-        ensures tree { IfOk result (λ r. r.tree ≡ node root.rule root.end (trees_of premises.now)) }
+        requires draft { IsDraftOf nodes.now key draft }
         ensures of { IfOk result (λ r. r.home ≡ nodes.now) }
-        ensures stands { IfOk result (λ r. StandsAt self.new.history root r.number) }
-        ensures known { IfOk result (λ _. (n : ℕ) → StandsAt self.old.history root n → self.new.history ≡ self.old.history) }
+        ensures key { IfOk result (λ r. key_of r ≡ key) }
+        ensures adds { IfOk result (λ r. Adds self.old.history key r self.new.history) }
+        ensures err { OnErr result (self.new.history ≡ self.old.history) }
         ensures grown { IsPrefix self.old.history self.new.history }
+        ensures legal { IsLegal self.new.history }
         ensures home { self.new.home ≡ self.old.home }
     {
-        let key = Key::new(alloc, root)?;
-        match self.find(&key) {
-            Some(found) => keep_known(nodes, &key, found, premises),
-            None => self.add(rt, alloc, nodes, key, premises),
+        if let Some(found) = self.look_up(&key)? {
+            return Ok(found);
         }
+        let added = self.add(rt, alloc, nodes, key, draft);
+        self.known();
+        added
     }
 
-    // The reference of a node whose key isn't there, which is added at the end.
+    // The reference of a node whose key isn't there, which is added at the end. Memory for it is taken before the node is put in.
     fn add<R: Wait>(
         &mut self,
         rt: &R,
         alloc: Global,
         nodes: &Nodes,
         key: Key,
-        premises: &[ProofRef],
+        draft: Draft,
     ) -> Result<ProofRef, AllocError>
         requires home { self.old.home ≡ nodes.now }
-        requires premises { All (λ p. p.home ≡ nodes.now) premises.now }
-        requires numbers { key.premises ≡ numbers_of premises.now }
-        requires inference { IsInference key.rule key.end (trees_of premises.now) }
+        requires draft { IsDraftOf nodes.now key draft }
         requires absent { IsAbsent self.old.history key }
-        ensures tree { IfOk result (λ r. r.tree ≡ node key.rule key.end (trees_of premises.now)) }
         ensures of { IfOk result (λ r. r.home ≡ nodes.now) }
         ensures key { IfOk result (λ r. key_of r ≡ key) }
-        ensures ok { IfOk result (λ r. self.new.history ≡ self.old.history ++ entry_of r ∷ []) }
-        ensures err { IfErr result (λ _. self.new.history ≡ self.old.history) }
+        ensures ok { IfOk result (λ r. self.new.history ≡ self.old.history ++ r ∷ []) }
+        ensures err { OnErr result (self.new.history ≡ self.old.history) }
         ensures home { self.new.home ≡ self.old.home }
     {
-        let made = make(rt, alloc, nodes, &key, premises)?;
+        self.make_room()?;
+        let made = draft.enter(rt, alloc, nodes, &key)?;
         self.see_new(nodes, &made);
         let kept = made.keep()?;
         self.put(key, made)?;
         Ok(kept)
+    }
+
+    // Makes room for one more entry.
+    fn make_room(&mut self) -> Result<(), AllocError>
+        ensures { self.new ≡ self.old }
+    {
+        self.refs.reserve(1)?;
+        self.places.reserve(1)?;
+        Ok(())
     }
 
     // The number of a new reference is that of no entry. Numbers rise, so that mostly it is above all of them; else it is compared
@@ -133,7 +170,7 @@ impl Index {
         requires home { self.now.home ≡ nodes.now }
         requires of { made.now.home ≡ nodes.now }
         requires absent { IsAbsent self.now.history (key_of made.now) }
-        ensures { All (λ e. e.number ≢ made.now.number) self.now.history }
+        ensures { All (λ r. r.number ≢ made.now.number) self.now.history }
     {
         if made.number() > self.top {
             return;
@@ -146,8 +183,8 @@ impl Index {
         requires of { made.home ≡ self.old.home }
         requires key { key_of made ≡ key }
         requires absent { IsAbsent self.old.history key }
-        requires number { All (λ e. e.number ≢ made.number) self.old.history }
-        ensures ok { OnOk result (self.new.history ≡ self.old.history ++ entry_of made ∷ []) }
+        requires number { All (λ r. r.number ≢ made.number) self.old.history }
+        ensures ok { OnOk result (self.new.history ≡ self.old.history ++ made ∷ []) }
         ensures err { OnErr result (self.new.history ≡ self.old.history) }
         ensures home { self.new.home ≡ self.old.home }
     {
@@ -161,23 +198,14 @@ impl Index {
     }
 }
 
-// A reference whose key has the numbers of these premises means the tree over their trees.
-fn keep_known(
-    nodes: &Nodes,
-    key: &Key,
-    found: &ProofRef,
-    premises: &[ProofRef],
-) -> Result<ProofRef, AllocError>
+/// A reference whose key has the numbers of these premises has their trees below the root of its own.
+pub(crate) fn see_trees(nodes: &Nodes, found: &ProofRef, premises: &[ProofRef])
     requires of { found.now.home ≡ nodes.now }
     requires premises { All (λ p. p.home ≡ nodes.now) premises.now }
-    requires key { key_of found.now ≡ key.now }
-    requires numbers { key.now.premises ≡ numbers_of premises.now }
-    ensures same { IfOk result (λ r. r ≡ found.now) }
-    ensures tree { IfOk result (λ r. r.tree ≡ node key.now.rule key.now.end (trees_of premises.now)) }
+    requires numbers { found.now.premises ≡ numbers_of premises.now }
+    ensures { below found.now.tree ≡ trees_of premises.now }
 {
-    let _key = key;
     see_same(nodes, found.premises(), premises);
-    found.keep()
 }
 
 // References with the same numbers are the same references.

@@ -1,10 +1,11 @@
-//! Proofs as shared trees: each node stands once, and a reference to it means a valid tree.
+//! Proofs as shared trees: each node stands once, and a reference to it means a valid tree. Threads share a graph of them.
 #![tactic(auto)]
 
 mod counts;
 mod graph;
 mod index;
 mod key;
+pub mod laws;
 mod node;
 mod reference;
 mod tree;

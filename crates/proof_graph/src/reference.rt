@@ -1,8 +1,7 @@
 //! References to proofs.
-ghost use Rattle.std.specs.Prelude.{◌≡◌, ◌↔◌, ◌<◌, IsTrue, IfOk, length, map};
+ghost use Rattle.std.specs.Prelude.{◌≡◌, ◌↔◌, IsTrue, IfOk, length, map};
 ghost use Rattle.std.specs.List.{All};
-ghost use Rattle.boxcar.specs.Table.{Shows};
-ghost use Rattle.proof_trees.specs.Trees.{node, below, count, IsValid, IsInference};
+ghost use Rattle.proof_trees.specs.Trees.{below, count, IsValid, IsInference};
 ghost use Rattle.proof_graph.specs.References.{key_of, trees_of, numbers_of};
 ghost use Rattle.proof_graph.specs.Counts.{AreCountsOf};
 
@@ -147,65 +146,73 @@ fn keep_trees(alloc: Global, proofs: &[ProofRef]) -> Result<Vec<ProofTree>, Allo
     Ok(kept)
 }
 
-/// Puts a node into the graph, and answers its reference. The caller sees to it that the key isn't there yet.
-pub(crate) fn make<R: Wait>(
-    rt: &R,
-    alloc: Global,
-    nodes: &Nodes,
-    key: &Key,
-    premises: &[ProofRef],
-) -> Result<ProofRef, AllocError>
-    requires home { All (λ p. p.home ≡ nodes.now) premises.now }
-    requires numbers { key.now.premises ≡ numbers_of premises.now }
-    requires inference { IsInference key.now.rule key.now.end (trees_of premises.now) }
-    ensures home { IfOk result (λ r. r.home ≡ nodes.now) }
-    ensures premises { IfOk result (λ r. r.premises ≡ key.now.premises) }
-    ensures tree { IfOk result (λ r. r.tree ≡ node key.now.rule key.now.end (trees_of premises.now)) }
-{
-    let trees = keep_trees(alloc, premises)?;
-    let root = key.node();
-    let tree = ProofTree::new(alloc, &root.rule, &root.end, trees)?;
-    let counts = counts_over(&root.rule, premises);
-    let premises = keep_all(alloc, premises)?;
-    let stamp = Stamp {
-        key: key.keep()?,
-        tree: Snapshot::of(&tree),
-    };
-    let Ok(token) = nodes.push_shown(rt, stamp) else {
-        return Err(AllocError);
-    };
-    link_to(alloc, nodes, key, token, tree, counts, premises)
-}
-
-// The reference to a node whose stamp is in.
-fn link_to(
-    alloc: Global,
-    nodes: &Nodes,
-    key: &Key,
-    token: Pushed<Stamp>,
+/// What a reference is made of but for its place in the graph: all that is needed of memory but that of the link, so that a node is put
+/// in soon.
+#[derive(Drop)]
+pub(crate) struct Draft {
+    stamp: Stamp,
     tree: ProofTree,
     counts: Counts,
     premises: Vec<ProofRef>,
-) -> Result<ProofRef, AllocError>
-    requires home { All (λ p. p.home ≡ nodes.now) premises.items }
-    requires numbers { key.now.premises ≡ numbers_of premises.items }
-    requires root { tree ≡ node key.now.rule key.now.end (trees_of premises.items) }
-    requires valid { IsValid tree }
-    requires shown { Shows nodes.now token }
-    requires stamp { (token.value.key ≡ key.now) × (token.value.tree.value ≡ tree) }
-    requires counts { AreCountsOf counts tree }
-    ensures home { IfOk result (λ r. r.home ≡ nodes.now) }
-    ensures premises { IfOk result (λ r. r.premises ≡ key.now.premises) }
-    ensures tree { IfOk result (λ r. r.tree ≡ tree) }
-{
-    let _key = key;
-    let link = RefLink {
-        home: Snapshot::of(nodes),
-        token,
-        tree,
-        counts,
-        premises,
-    };
-    let link = Arc::new(alloc, link)?;
-    Ok(ProofRef { link })
+}
+
+impl Draft {
+    ghost use Rattle.boxcar.specs.Table.{Shelves};
+    ghost use Rattle.proof_graph.specs.Drafts.{IsDraftOf};
+
+    /// The draft of the reference of a node whose premises are these.
+    pub fn new(alloc: Global, key: &Key, premises: &[ProofRef]) -> Result<Draft, AllocError>
+        requires numbers { key.now.premises ≡ numbers_of premises.now }
+        requires inference { IsInference key.now.rule key.now.end (trees_of premises.now) }
+        ensures { (home : Shelves) → All (λ p. p.home ≡ home) premises.now → IfOk result (IsDraftOf home key.now) }
+    {
+        let trees = keep_trees(alloc, premises)?;
+        let root = key.node();
+        let tree = ProofTree::new(alloc, &root.rule, &root.end, trees)?;
+        let counts = counts_over(&root.rule, premises);
+        let premises = keep_all(alloc, premises)?;
+        let stamp = Stamp {
+            key: key.keep()?,
+            tree: Snapshot::of(&tree),
+        };
+        Ok(Draft {
+            stamp,
+            tree,
+            counts,
+            premises,
+        })
+    }
+
+    /// Puts the node into the graph, and answers its reference. The caller sees to it that the key isn't there yet.
+    pub fn enter<R: Wait>(
+        self,
+        rt: &R,
+        alloc: Global,
+        nodes: &Nodes,
+        key: &Key,
+    ) -> Result<ProofRef, AllocError>
+        requires { IsDraftOf nodes.now key.now self }
+        ensures home { IfOk result (λ r. r.home ≡ nodes.now) }
+        ensures key { IfOk result (λ r. key_of r ≡ key.now) }
+    {
+        let _key = key;
+        let Draft {
+            stamp,
+            tree,
+            counts,
+            premises,
+        } = self;
+        let Ok(token) = nodes.push_shown(rt, stamp) else {
+            return Err(AllocError);
+        };
+        let link = RefLink {
+            home: Snapshot::of(nodes),
+            token,
+            tree,
+            counts,
+            premises,
+        };
+        let link = Arc::new(alloc, link)?;
+        Ok(ProofRef { link })
+    }
 }

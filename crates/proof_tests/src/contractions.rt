@@ -60,6 +60,32 @@ fn contracted<R: Abort + Wait, L: Ledger>(
     Ok(contract(rt, alloc, bench, pass, proof, steps)?)
 }
 
+// Sees on a bench what takes the place of the cut of a row.
+fn see_contraction<R: Abort + Wait, L: Ledger>(
+    rt: &R,
+    alloc: Global,
+    ledger: Blank,
+    bench: &Bench,
+    pass: &mut BenchPass,
+    row: &String,
+) -> Result<(), Fail>
+    requires name { ledger.name ≡ L.name }
+    requires parts { ledger.parts ≡ L.parts }
+    requires one_part { 0 < ledger.parts }
+    requires pass_of { IsBenchPassOf bench.now pass.old }
+    ensures { IsBenchPassOf bench.now pass.new }
+{
+    let (_case, rest) = row.as_str().split_once(": ").ok_or("no case")?;
+    let (text, contraction) = rest.split_once(" -> ").ok_or("no contraction")?;
+    let graph = bench.graph();
+    let cut = proof(rt, alloc, graph, Bench::graph_pass(pass), text)?;
+    let mut steps = Steps::<L>::new(ledger);
+    let made = contracted(rt, alloc, bench, pass, &cut, &mut steps)?;
+    steps.end();
+    let graph_pass = Bench::graph_pass(pass);
+    assert_proof(rt, alloc, graph, graph_pass, &made, contraction)
+}
+
 // Sees what takes the place of the cut of a row.
 fn assert_contraction<R: Abort + Wait, L: Ledger>(
     rt: &R,
@@ -71,16 +97,10 @@ fn assert_contraction<R: Abort + Wait, L: Ledger>(
     requires parts { ledger.parts ≡ L.parts }
     requires one_part { 0 < ledger.parts }
 {
-    let (_case, rest) = row.as_str().split_once(": ").ok_or("no case")?;
-    let (text, contraction) = rest.split_once(" -> ").ok_or("no contraction")?;
     let (bench, mut pass) = Bench::new(alloc)?;
-    let graph = bench.graph();
-    let cut = proof(rt, alloc, graph, Bench::graph_pass(&mut pass), text)?;
-    let mut steps = Steps::<L>::new(ledger);
-    let made = contracted(rt, alloc, &bench, &mut pass, &cut, &mut steps)?;
-    steps.end();
-    let graph_pass = Bench::graph_pass(&mut pass);
-    assert_proof(rt, alloc, graph, graph_pass, &made, contraction)
+    let seen = see_contraction::<R, L>(rt, alloc, ledger, &bench, &mut pass, row);
+    bench.close(rt, pass);
+    seen
 }
 
 // The same, with a ledger of its own.

@@ -5,10 +5,11 @@ ghost use Rattle.fol.specs.Formed.{IsFormed};
 ghost use Rattle.lk_rules.specs.Rules.{IsFormedRule};
 ghost use Rattle.proof_graph.specs.Graphs.{IsOf};
 ghost use Rattle.proof_subst.specs.Benches.{graph_of, IsBenchPassOf};
+ghost use Rattle.cut_elim.specs.Desks.{IsDeskPassOf};
 
 use crate::samples::{assert_proof, formula};
 use cut_contract::Steps;
-use cut_elim::{Desk, eliminate};
+use cut_elim::{Desk, DeskPass, eliminate};
 use fol::{Formula, FormulaNode, Predicate, well_formed};
 use lk_check::admit;
 use lk_rules::{Formulas, Numbers, Rule, Sequent, Step};
@@ -109,8 +110,42 @@ fn admitted<R: Wait>(
     Ok(admit(bench.graph(), rt, alloc, Bench::graph_pass(pass), list)?)
 }
 
-// Sees what the elimination of such a cut comes to: a cut on its unfolding takes the place of the cut, and a weakening that of the second
-// one.
+// Sees on a desk what the elimination of such a cut comes to: a cut on its unfolding takes the place of the cut, and a weakening that of
+// the second one.
+fn see_eliminated<R: Abort + Wait, L: Ledger>(
+    rt: &R,
+    alloc: Global,
+    ledger: Blank,
+    desk: &Desk,
+    pass: &mut DeskPass,
+) -> Result<(), Fail>
+    requires name { ledger.name ≡ L.name }
+    requires parts { ledger.parts ≡ L.parts }
+    requires one_part { 0 < ledger.parts }
+    requires pass_of { IsDeskPassOf desk.now pass.old }
+    ensures { IsDeskPassOf desk.now pass.new }
+{
+    let meant = formula(alloc, "p")?;
+    let atom = defined(alloc, "e", &meant)?;
+    let list = defined_steps(alloc, &atom, &meant)?;
+    let bench_pass = Desk::bench_pass(pass);
+    let cut = admitted(rt, alloc, desk.bench(), bench_pass, list.as_slice())?;
+    let mut steps = Steps::<L>::new(ledger);
+    let made = eliminate(rt, alloc, desk, pass, &cut, 2, &mut steps)?;
+    steps.end();
+    assert_eq!(rt; made.reductions, 2);
+    let graph_pass = Bench::graph_pass(Desk::bench_pass(pass));
+    assert_proof(
+        rt,
+        alloc,
+        desk.bench().graph(),
+        graph_pass,
+        &made.proof,
+        "ax p p/p;weak - p/p 0",
+    )
+}
+
+// The same, on a desk of its own.
 fn assert_eliminated<R: Abort + Wait, L: Ledger>(
     rt: &R,
     alloc: Global,
@@ -120,25 +155,10 @@ fn assert_eliminated<R: Abort + Wait, L: Ledger>(
     requires parts { ledger.parts ≡ L.parts }
     requires one_part { 0 < ledger.parts }
 {
-    let meant = formula(alloc, "p")?;
-    let atom = defined(alloc, "e", &meant)?;
-    let list = defined_steps(alloc, &atom, &meant)?;
     let (desk, mut pass) = Desk::new(alloc)?;
-    let bench_pass = Desk::bench_pass(&mut pass);
-    let cut = admitted(rt, alloc, desk.bench(), bench_pass, list.as_slice())?;
-    let mut steps = Steps::<L>::new(ledger);
-    let made = eliminate(rt, alloc, &desk, &mut pass, &cut, 2, &mut steps)?;
-    steps.end();
-    assert_eq!(rt; made.reductions, 2);
-    let graph_pass = Bench::graph_pass(Desk::bench_pass(&mut pass));
-    assert_proof(
-        rt,
-        alloc,
-        desk.bench().graph(),
-        graph_pass,
-        &made.proof,
-        "ax p p/p;weak - p/p 0",
-    )
+    let seen = see_eliminated::<R, L>(rt, alloc, ledger, &desk, &mut pass);
+    desk.close(rt, pass);
+    seen
 }
 
 // The same, with a ledger of its own.

@@ -18,3 +18,5 @@ mod samples;
 mod searches;
 #[cfg(test)]
 mod sharing;
+#[cfg(test)]
+mod tables;

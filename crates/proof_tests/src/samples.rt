@@ -228,8 +228,8 @@ fn step(alloc: Global, text: &str) -> Result<Step, Fail>
     })
 }
 
-// The steps of a text.
-fn steps(alloc: Global, text: &str) -> Result<Vec<Step>, Fail>
+/// The steps of a text.
+pub fn steps(alloc: Global, text: &str) -> Result<Vec<Step>, Fail>
     ensures { IfOk result (λ v. All (λ step. IsFormedRule step.rule) v.items) }
 {
     let mut list = Vec::new(alloc);

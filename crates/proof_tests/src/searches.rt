@@ -1,13 +1,15 @@
 //! Searches for proofs of small sequents, which were followed by hand.
 ghost use Rattle.std.specs.Prelude.{IfOk};
 ghost use Rattle.search_laws.specs.Truth.{IsPropositional};
+ghost use Rattle.proof_graph.specs.Graphs.{IsPassOf};
 
 use crate::samples::{assert_proof, sequent};
 use lk_rules::Sequent;
-use proof_graph::Graph;
+use proof_graph::{Graph, GraphPass};
 use prop_search::{SearchFault, decide, is_propositional, search};
 use std::alloc::Global;
 use std::process::Abort;
+use std::sync::Wait;
 use std::test::Fail;
 
 // How many sequents the search visits, the sequent, and `valid` or an assignment under which it is false, as the left side of a sequent.
@@ -64,18 +66,31 @@ fn searches(rt: HostRuntime) -> Result<(), Fail> {
 }
 
 // Refused searches put nothing into the graph: the five nodes of the proof that comes next are its first.
-#[test]
-fn refused_searches_leave_the_graph(rt: HostRuntime) -> Result<(), Fail> {
-    let alloc = rt.alloc();
-    let (graph, mut pass) = Graph::new(alloc)?;
-    let wrong = sequent_of(&rt, alloc, "|/p")?;
-    let right = sequent_of(&rt, alloc, "|/{q|p}")?;
-    let refused = search(&rt, alloc, &graph, &mut pass, &wrong, 9);
+fn assert_refusals<R: Abort + Wait>(
+    rt: &R,
+    alloc: Global,
+    graph: &Graph,
+    pass: &mut GraphPass,
+) -> Result<(), Fail>
+    requires { IsPassOf graph.now pass.old }
+    ensures { IsPassOf graph.now pass.new }
+{
+    let wrong = sequent_of(rt, alloc, "|/p")?;
+    let right = sequent_of(rt, alloc, "|/{q|p}")?;
+    let refused = search(rt, alloc, graph, pass, &wrong, 9);
     assert!(rt; matches!(refused, Err(SearchFault::Falsified(_))));
-    let refused = search(&rt, alloc, &graph, &mut pass, &right, 4);
+    let refused = search(rt, alloc, graph, pass, &right, 4);
     assert!(rt; matches!(refused, Err(SearchFault::Budget)));
-    let proof = search(&rt, alloc, &graph, &mut pass, &right, 5)?;
+    let proof = search(rt, alloc, graph, pass, &right, 5)?;
     assert_eq!(rt; proof.number(), 4);
     let steps = "ax p p/pq;orR {q|p} p/{q|p} 0;ax q q/pq;orR {q|p} q/{q|p} 2;orL | |/{q|p} 1,3";
-    assert_proof(&rt, alloc, &graph, &mut pass, &proof, steps)
+    assert_proof(rt, alloc, graph, pass, &proof, steps)
+}
+
+#[test]
+fn refused_searches_leave_the_graph(rt: HostRuntime) -> Result<(), Fail> {
+    let (graph, mut pass) = Graph::new(rt.alloc())?;
+    let seen = assert_refusals(&rt, rt.alloc(), &graph, &mut pass);
+    graph.close(&rt, pass);
+    seen
 }

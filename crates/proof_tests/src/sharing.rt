@@ -1,19 +1,28 @@
 //! Proofs with shared parts.
+ghost use Rattle.proof_graph.specs.Graphs.{IsPassOf};
+
 use crate::samples::proof;
-use proof_graph::Graph;
+use proof_graph::{Graph, GraphPass};
+use std::alloc::Global;
 use std::process::Abort;
+use std::sync::Wait;
 use std::test::Fail;
 
 // A key that is interned again keeps its number, and another key gets another.
-#[test]
-fn one_key_has_one_number(rt: HostRuntime) -> Result<(), Fail> {
-    let alloc = rt.alloc();
-    let (graph, mut pass) = Graph::new(alloc)?;
-    let first = proof(&rt, alloc, &graph, &mut pass, "ax p p/p;orL = =/p 0,0")?;
+fn assert_one_number<R: Abort + Wait>(
+    rt: &R,
+    alloc: Global,
+    graph: &Graph,
+    pass: &mut GraphPass,
+) -> Result<(), Fail>
+    requires { IsPassOf graph.now pass.old }
+    ensures { IsPassOf graph.now pass.new }
+{
+    let first = proof(rt, alloc, graph, pass, "ax p p/p;orL = =/p 0,0")?;
     let text = "ax p p/p;ax p p/p;orL = =/p 1,0";
-    let again = proof(&rt, alloc, &graph, &mut pass, text)?;
+    let again = proof(rt, alloc, graph, pass, text)?;
     let text = "ax p p/p;orL = =/p 0,0;weak - q=/p 1";
-    let above = proof(&rt, alloc, &graph, &mut pass, text)?;
+    let above = proof(rt, alloc, graph, pass, text)?;
     assert!(rt; graph.same(&first, &again));
     assert!(rt; !graph.same(&first, &above));
     assert_eq!(rt; above.number(), 2);
@@ -23,4 +32,12 @@ fn one_key_has_one_number(rt: HostRuntime) -> Result<(), Fail> {
     let premise = graph.premise(&above, 0)?;
     assert!(rt; graph.same(&first, &graph.keep(&premise)?));
     Ok(())
+}
+
+#[test]
+fn one_key_has_one_number(rt: HostRuntime) -> Result<(), Fail> {
+    let (graph, mut pass) = Graph::new(rt.alloc())?;
+    let seen = assert_one_number(&rt, rt.alloc(), &graph, &mut pass);
+    graph.close(&rt, pass);
+    seen
 }

@@ -1,6 +1,6 @@
 -- The last inference that is left is right over the proof so far.
 use Rattle.std.proofs.Common.{ap, sym, subst, ◌∙◌}
-use Rattle.proof_graph.proofs.Prefixes.{prefix_trans}
+use Rattle.turn_log.proofs.Prefixes.{prefix_trans}
 use Rattle.proof_trees.specs.Trees.{Tree}
 use Rattle.cut_intro.specs.Branches.{over_each, AreInferences}
 use Rattle.cut_intro.proofs.BranchSteps.{popped_whole, popped_right, popped_rest}

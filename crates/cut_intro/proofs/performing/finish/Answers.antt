@@ -1,5 +1,6 @@
 -- The inferences are right over the proofs of what is searched.
 use Rattle.cut_intro.proofs.Performed.{left_right, right_right, root_right, is_performed}
+use Rattle.turn_log.proofs.Prefixes.{prefix_trans}
 use Rattle.cut_intro.proofs.performing.finish.Goals as goal
 
 pub over-requires-clause-right : goal.over-requires-clause-right
@@ -15,3 +16,6 @@ intern-requires-clause-inference g c =
 pub returns-clause-proof : goal.returns-clause-proof
 returns-clause-proof g c =
     is_performed c.args.end.now c.args.cutting c.requires.ready c.args.first.tree c.args.second.tree c.requires.first_found c.requires.second_found c.in_ok-end.end c.in_ok-first.first.tree c.in_ok-second.second.tree c.in_ok-end.ensures c.in_ok-first.ensures.tree c.in_ok-second.ensures.tree c.in_ok-proof.proof.tree c.in_ok-proof.ensures.tree
+
+pub returns-clause-grown : goal.returns-clause-grown
+returns-clause-grown g c = prefix_trans _ _ _ c.over.ensures.grown (prefix_trans _ _ _ c.over-2.ensures.grown c.intern.ensures.grown)

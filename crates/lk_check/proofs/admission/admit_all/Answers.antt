@@ -5,7 +5,7 @@ use Rattle.lk_rules.specs.declared.rule.Step.{Step}
 use Rattle.lk_rules.specs.Rules.{IsFormedRule}
 use Rattle.proof_graph.specs.Graphs.{IsOf}
 use Rattle.lk_check.specs.StepTrees.{tree_over}
-use Rattle.proof_graph.proofs.Prefixes.{prefix_trans}
+use Rattle.turn_log.proofs.Prefixes.{prefix_trans}
 use Rattle.lk_check.proofs.Picks.{tree_of, right_inference}
 use Rattle.lk_check.proofs.Growing.{read_there, trees_next, ends_next}
 use Rattle.lk_check.proofs.admission.admit_all.Goals as goal

@@ -5,7 +5,7 @@ use Rattle.std.specs.List.{Contains}
 use Rattle.std.specs.HashMap as hash
 use Rattle.proof_graph.specs.Keys.{same_node}
 use Rattle.proof_graph.specs.References.{key_of}
-use Rattle.proof_graph.specs.History.{Recorded, entry_of, IsAbsent}
+use Rattle.proof_graph.specs.History.{Recorded, IsAbsent}
 use Rattle.proof_graph.proofs.Entries.{listed_there, absent}
 use Rattle.proof_graph.proofs.index.Index.find.Goals as goal
 
@@ -14,7 +14,7 @@ returns-in-Some-clause-found c =
     let there : hash.get same_node c.self.inside.places c.args.key.now ≡ Some c.in-Some.place.now = sym c.in-Some.ensures.value in
     let listed = c.self.invariant.listed c.args.key.now c.in-Some.place.now there in (
       ap key_of c.index.ensures ∙ listed.1 c.index.result.now,
-      subst (λ (v : Recorded). Contains v.history (entry_of c.index.result.now)) c.self.view_is
+      subst (λ (v : Recorded). Contains v.history c.index.result.now) c.self.view_is
           (listed_there c.self.inside c.in-Some.place.now c.index.result.now listed.0 c.index.ensures),
       ap (λ r. r.home) c.index.ensures ∙ c.self.invariant.home c.in-Some.place.now c.index.result.now listed.0 ∙ ap (λ (v : Recorded). v.home) c.self.view_is,
     )

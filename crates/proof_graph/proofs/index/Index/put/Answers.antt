@@ -2,14 +2,14 @@
 use Rattle.std.proofs.Common.{◌≢◌, [], ◌∷◌, ◌++◌, refl, sym, ap, ◌∙◌, subst, arith}
 use Rattle.std.specs.List.{All}
 use Rattle.proof_graph.specs.History.{Recorded, IsAbsent}
-use Rattle.proof_graph.proofs.Growth.{indexed_same, indexed_more}
+use Rattle.proof_graph.proofs.Growth.{indexed_same, indexed_more, same_places}
 use Rattle.proof_graph.proofs.index.Index.put.Goals as goal
 
 pub invariant_of-self : goal.invariant_of-self
-invariant_of-self c = indexed_same c.self.inside _ c.self.invariant refl c.reserve.ensures.items refl refl
+invariant_of-self c = indexed_same c.self.inside _ c.self.invariant refl c.reserve.ensures.items (λ n. refl) refl
 
 pub invariant_of-self-in_err-insert : goal.invariant_of-self-in_err-insert
-invariant_of-self-in_err-insert c = indexed_same c.self.inside _ c.self.invariant refl c.reserve.ensures.items c.in_err-insert.ensures.err refl
+invariant_of-self-in_err-insert c = indexed_same c.self.inside _ c.self.invariant refl c.reserve.ensures.items (same_places c.self.inside.places c.insert.new.self c.in_err-insert.ensures.err) refl
 
 pub invariant_of-self-2 : goal.invariant_of-self-2
 invariant_of-self-2 c =
@@ -23,4 +23,4 @@ invariant_of-self-2 c =
     c.known.ensures.valid
     c.requires.key
     (subst (λ (v : Recorded). IsAbsent v.history c.args.key) (sym c.self.view_is) c.requires.absent)
-    (subst (λ (v : Recorded). All (λ e. e.number ≢ c.args.made.number) v.history) (sym c.self.view_is) c.requires.number)
+    (subst (λ (v : Recorded). All (λ r. r.number ≢ c.args.made.number) v.history) (sym c.self.view_is) c.requires.number)

@@ -1,17 +1,15 @@
 -- A number above the top is that of no entry, and else the number is compared with each.
-use Rattle.std.proofs.Common.{◌≡◌, ◌≢◌, sym, ap, ◌∙◌, subst}
+use Rattle.std.proofs.Common.{◌≡◌, ◌≢◌, ap, ◌∙◌, subst, sym}
 use Rattle.std.specs.List.{All}
-use Rattle.std.proofs.lemmas.List.Elements.{All-map}
 use Rattle.boxcar.specs.Table.{Shelves}
 use Rattle.proof_graph.specs.References.{key_of}
-use Rattle.proof_graph.specs.History.{Recorded, entry_of, IsAbsent}
+use Rattle.proof_graph.specs.History.{Recorded, IsAbsent}
 use Rattle.proof_graph.proofs.Entries.{above_top}
-use Rattle.proof_graph.proofs.Growth.{All-unmap}
 use Rattle.proof_graph.proofs.index.Index.see_new.Goals as goal
 
 pub returns-then-number-self : goal.returns-then-number-self
 returns-then-number-self c =
-    subst (λ (v : Recorded). All (λ e. e.number ≢ c.args.made.now.number) v.history) c.self.view_is
+    subst (λ (v : Recorded). All (λ r. r.number ≢ c.args.made.now.number) v.history) c.self.view_is
     (above_top c.self.inside c.self.invariant c.args.made.now.number (rw (← c.number.ensures) c.if-number-self.true))
 
 pub see_apart-requires-clause-home : goal.see_apart-requires-clause-home
@@ -21,11 +19,8 @@ see_apart-requires-clause-home c =
 
 pub see_apart-requires-clause-keys : goal.see_apart-requires-clause-keys
 see_apart-requires-clause-keys c =
-    rw c.deref.ensures.value (
-    All-unmap (λ e. e.key ≢ key_of c.args.made.now) entry_of c.self.inside.refs.items
-    (subst (λ (v : Recorded). IsAbsent v.history (key_of c.args.made.now)) (sym c.self.view_is) c.requires.absent))
+    rw c.deref.ensures.value (subst (λ (v : Recorded). IsAbsent v.history (key_of c.args.made.now)) (sym c.self.view_is) c.requires.absent)
 
 pub returns : goal.returns
 returns c =
-    subst (λ (v : Recorded). All (λ e. e.number ≢ c.args.made.now.number) v.history) c.self.view_is
-    (All-map (λ e. e.number ≢ c.args.made.now.number) entry_of c.self.inside.refs.items (rw c.deref.ensures.value at c.see_apart.ensures))
+    subst (λ (v : Recorded). All (λ r. r.number ≢ c.args.made.now.number) v.history) c.self.view_is (rw c.deref.ensures.value at c.see_apart.ensures)

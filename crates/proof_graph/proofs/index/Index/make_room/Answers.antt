@@ -1,0 +1,7 @@
+-- Room for one more entry changes nothing.
+use Rattle.std.proofs.Common.{refl}
+use Rattle.proof_graph.proofs.Growth.{indexed_same}
+use Rattle.proof_graph.proofs.index.Index.make_room.Goals as goal
+
+pub invariant_of-self : goal.invariant_of-self
+invariant_of-self c = indexed_same c.self.inside _ c.self.invariant refl c.reserve.ensures.items (λ n. refl) refl
