@@ -10,8 +10,8 @@ use Rattle.delta_table.specs.declared.founds.Found.{Found}
 use Rattle.delta_table.specs.declared.tallies.Tally.{Tally}
 use Rattle.herbrand_laws.specs.Candidates.{least, lesser}
 use Rattle.delta_table.specs.ValueOrder.{by_cost}
-use Rattle.delta_table.specs.FoundRows.{tally_of, tallies_of}
-use Rattle.delta_table.specs.Chosen.{zipped, share, made_cost}
+use Rattle.delta_table.specs.FoundRows.{nothing, tally_of, tallies_of}
+use Rattle.delta_table.specs.Chosen.{zipped, raised, share, made_cost}
 
 -- a share fits
 pub share_fits : (q n : ℕ) → q ≤ 2 ^ 26 → n < 2 ^ 65 → q * n < 2 ^ 128
@@ -66,6 +66,32 @@ costs_more keys items fss k i fs e l here there =
     lengths [] (y ∷ ys) (suc k) e = absurd (omega arith)
     lengths (x ∷ xs) [] (suc k) e = absurd (omega arith)
     lengths (x ∷ xs) (y ∷ ys) (suc k) e = ap suc (lengths xs ys k (omega arith))
+
+-- the shares of an item without rows, all at once
+module _ (i : Item) where
+  raised_nothing : (n : ℕ) (costs : List ℕ) (keys : List TermSet) → length costs ≡ length keys
+      → raised (n + share i nothing) costs ≡ zipped (λ (c : ℕ) (t : Tally). c + share i t) (raised n costs) (tallies_of keys [])
+  raised_nothing n [] keys e = refl
+  raised_nothing n (c ∷ cs) [] e = absurd (omega arith)
+  raised_nothing n (c ∷ cs) (w ∷ ws) e = λ k. moved c (share i nothing) k ∷ raised_nothing n cs ws (omega arith) k
+    where
+      moved : (c s : ℕ) → c + (n + s) ≡ c + n + s
+      moved c s = omega arith
+
+  pub raised_same : (n m : ℕ) (costs : List ℕ) (keys : List TermSet) (rows : List Found) → length rows ≡ 0 → m ≡ n + share i nothing → length costs ≡ length keys
+      → raised m costs ≡ zipped (λ (c : ℕ) (t : Tally). c + share i t) (raised n costs) (tallies_of keys rows)
+  raised_same n m costs keys [] none e long = ap (λ x. raised x costs) e ∙ raised_nothing n costs keys long
+  raised_same n m costs keys (f ∷ fs) none e long = absurd (omega arith)
+
+  -- what is added to each stays added
+  pub raised_zipped : (n : ℕ) (costs : List ℕ) (ts : List Tally)
+      → raised n (zipped (λ (c : ℕ) (t : Tally). c + share i t) costs ts) ≡ zipped (λ (c : ℕ) (t : Tally). c + share i t) (raised n costs) ts
+  raised_zipped n [] ts = refl
+  raised_zipped n (c ∷ cs) [] = refl
+  raised_zipped n (c ∷ cs) (t ∷ ts) = λ k. moved c (share i t) k ∷ raised_zipped n cs ts k
+    where
+      moved : (c s : ℕ) → c + s + n ≡ c + n + s
+      moved c s = omega arith
 
 -- the costs without items, and by all of them
 

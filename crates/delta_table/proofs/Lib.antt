@@ -1,4 +1,5 @@
 pub mod BestRow
+mod Collected
 pub mod CostSteps
 pub mod Entries
 pub mod FoundRows

@@ -1,5 +1,6 @@
 -- What is made of a set of values: its patterns and what they leave over of each item, and its cost.
 --     zipped      what a function gives of the elements of two lists side by side
+--     raised      numbers with one number added to each
 --     pattern_of_places, patterns_found      the patterns of the rows that have a set of values
 --     made_patterns, made_rest, share, made_cost      the patterns, the rest and the cost by the rows of the items
 --     rest_item, candidate_of      an item with the rest of its tuples; the candidate
@@ -22,6 +23,10 @@ abbrev pub zipped : {A B C : Type 0} → (A → B → C) → List A → List B �
 zipped f [] ys = []
 zipped f (x ∷ xs) [] = []
 zipped f (x ∷ xs) (y ∷ ys) = f x y ∷ zipped f xs ys
+
+-- numbers with one number added to each
+abbrev pub raised : ℕ → List ℕ → List ℕ
+raised more ns = map (λ n. n + more) ns
 
 -- the pattern of the tuples at places
 abbrev pub pattern_of_places : List Terms → ℕ → Option Terms

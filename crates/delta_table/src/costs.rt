@@ -6,9 +6,11 @@ ghost use Rattle.finite.specs.Finite.{IsRising};
 ghost use Rattle.herbrand_laws.specs.Herbrand.{Item as Meaning};
 ghost use Rattle.herbrand_laws.specs.Patterns.{TermSet};
 ghost use Rattle.herbrand_laws.specs.Candidates.{least, lesser};
-ghost use Rattle.delta_table.specs.Chosen.{share as share_of, zipped, made_cost};
+ghost use Rattle.delta_table.specs.Chosen.{share as share_of, zipped, raised, made_cost};
+ghost use Rattle.delta_table.specs.FoundRows.{tallies_of};
 ghost use Rattle.delta_table.specs.ValueOrder.{values_cmp, by_cost};
 
+use crate::founds::Found;
 use crate::item::Item;
 use crate::order::compare_sizes;
 use crate::places::count_outside;
@@ -28,7 +30,14 @@ fn share(item: &Item, tally: Tally) -> u128
     u128::from(item.quantifiers()) * count
 }
 
-// Costs with the shares of an item. No memory holds so many items that a sum would not fit.
+// No memory holds so many items that a sum would not fit.
+fn sum_of(left: u128, right: u128) -> Result<u128, AllocError>
+    ensures { IfOk result (λ sum. sum ≡ left + right) }
+{
+    left.checked_add(right).ok_or(AllocError)
+}
+
+// Costs with the shares of an item.
 #[tactic(auto, using(crate::proofs::CostSteps::zipped_more))]
 fn with_shares(
     alloc: Global,
@@ -43,10 +52,7 @@ fn with_shares(
     let mut sums = Vec::with_capacity(alloc, costs.len())?;
     for at in 0..costs.len() {
         let share = share(item, tallies[at]);
-        let Some(sum) = costs[at].checked_add(share) else {
-            return Err(AllocError);
-        };
-        sums.push(sum)?;
+        sums.push(sum_of(costs[at], share)?)?;
     }
     Ok(sums)
 }
@@ -62,6 +68,48 @@ fn first_costs(alloc: Global, keys: &[Values]) -> Result<Vec<u128>, AllocError>
     Ok(costs)
 }
 
+// Costs by the items so far: those that differ, and what is added to each of them.
+#[derive(Drop)]
+struct Sums {
+    each: Vec<u128>,
+    all: u128,
+}
+
+impl Sums {
+    // Adds the shares of an item. Without rows its share is the same for each key, so many items without rows cost no lists.
+    fn add(
+        &mut self,
+        alloc: Global,
+        keys: &[Values],
+        item: &Item,
+        rows: &[Found],
+    ) -> Result<(), AllocError>
+        requires rises { IsRising values_cmp keys.now }
+        requires as_many { length self.old.each.items ≡ length keys.now }
+        requires few { length item.now.tuples ≤ 64 }
+        ensures { IfOk result (λ _. raised self.new.all self.new.each.items ≡ zipped (λ c t. c + share_of item.now t) (raised self.old.all self.old.each.items) (tallies_of keys.now rows.now)) }
+    {
+        if rows.is_empty() {
+            self.all = sum_of(self.all, share(item, Tally::new()))?;
+            return Ok(());
+        }
+        let tallies = tally_rows(alloc, keys, rows)?;
+        self.each = with_shares(alloc, &self.each, &tallies, item)?;
+        Ok(())
+    }
+
+    // The costs themselves.
+    fn totals(&self, alloc: Global) -> Result<Vec<u128>, AllocError>
+        ensures { IfOk result (λ v. v.items ≡ raised self.now.all self.now.each.items) }
+    {
+        let mut totals = Vec::with_capacity(alloc, self.each.len())?;
+        for cost in &self.each {
+            totals.push(sum_of(*cost, self.all)?)?;
+        }
+        Ok(totals)
+    }
+}
+
 /// What each candidate costs, by the rows of the items.
 pub(crate) fn costs(
     alloc: Global,
@@ -74,12 +122,12 @@ pub(crate) fn costs(
     requires few { All (λ (i : Meaning). length i.tuples ≤ 64) items.now }
     ensures { IfOk result (λ v. v.items ≡ map (λ w. made_cost w items.now tables.now) keys.now) }
 {
-    let mut costs = first_costs(alloc, keys)?;
+    let each = first_costs(alloc, keys)?;
+    let mut sums = Sums { each, all: 0 };
     for at in 0..items.len() {
-        let tallies = tally_rows(alloc, keys, tables[at].as_slice())?;
-        costs = with_shares(alloc, &costs, &tallies, &items[at])?;
+        sums.add(alloc, keys, &items[at], tables[at].as_slice())?;
     }
-    Ok(costs)
+    sums.totals(alloc)
 }
 
 // The place of the lesser of a candidate and the least of others.

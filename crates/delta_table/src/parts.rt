@@ -1,4 +1,4 @@
-//! The rows of an item by several threads, one for each first tuple.
+//! The rows of an item by several threads, each for some of the first tuples.
 ghost use Rattle.std.specs.Prelude.{◌≡◌, ◌<◌, ◌≤◌, ◌+◌, ℕ, List, Result, length, vec_len, slice_index_or, IfOk};
 ghost use Rattle.std.specs.declared.alloc.AllocError.{AllocError as NoMemory};
 ghost use Rattle.delta_table.specs.declared.founds.Found.{Found as Record};
@@ -7,10 +7,11 @@ ghost use Rattle.delta_table.specs.FoundRows.{founds_from, founds as founds_of};
 use crate::founds::rows_from;
 use crate::tables::Rows;
 use fol::Terms;
+use rayon::prelude::*;
 use std::alloc::{AllocError, Global};
-use std::thread::{Threads, map_indices};
+use std::thread::Threads;
 
-// The rows by the place of their first tuple.
+// The rows by the place of their first tuple. Those of one first tuple are work enough for a thread.
 fn parts<R: Threads + Sync>(
     rt: &R,
     alloc: Global,
@@ -22,18 +23,19 @@ fn parts<R: Threads + Sync>(
     ensures len { IfOk result (λ v. vec_len v ≡ length tuples.now) }
     ensures each { IfOk result (λ v. (k : ℕ) (d : Result (List Record) NoMemory) → k < length tuples.now → IfOk (slice_index_or v.items k d) (λ rows. rows ≡ founds_from width tuples.now k)) }
 {
-    map_indices(
-        rt,
-        alloc,
-        tuples.len(),
-        &|at: usize| -> Result<Rows, AllocError>
-            requires { (at < length tuples.now) × (length tuples.now ≤ 64) × (1 ≤ width) }
-            ensures { IfOk result (λ rows. rows ≡ founds_from width tuples.entry.now at) }
-        {
-            let rows = rows_from(alloc, tuples, at, width)?;
-            Ok(Rows::from_vec(rows))
-        },
-    )
+    (0..tuples.len())
+        .into_par_iter()
+        .with_min_len(1)
+        .map(
+            |at: usize| -> Result<Rows, AllocError>
+                requires { (at < length tuples.now) × (length tuples.now ≤ 64) × (1 ≤ width) }
+                ensures { IfOk result (λ rows. rows ≡ founds_from width tuples.entry.now at) }
+            {
+                let rows = rows_from(alloc, tuples, at, width)?;
+                Ok(Rows::from_vec(rows))
+            },
+        )
+        .collect(rt, alloc)
 }
 
 /// The rows of an item's tuples, by several threads. They come in one order, whatever the threads do.

@@ -18,7 +18,8 @@ pub(crate) struct Tally {
 }
 
 impl Tally {
-    fn new() -> Tally
+    /// The tally of no rows.
+    pub fn new() -> Tally
         ensures { result ≡ nothing }
     {
         Tally { rows: 0, places: 0 }

@@ -4,3 +4,4 @@ pub mod Chosen
 pub mod Built
 pub mod Sides
 pub mod Formed
+pub mod SharedLeaves

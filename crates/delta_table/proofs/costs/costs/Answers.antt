@@ -1,5 +1,5 @@
 -- Each item adds its shares.
-use Rattle.std.proofs.Common.{ℕ, ◌+◌, ap, ◌∙◌, arith}
+use Rattle.std.proofs.Common.{ℕ, ◌+◌, ◌∙◌, arith}
 use Rattle.delta_table.specs.declared.tallies.Tally.{Tally}
 use Rattle.delta_table.specs.FoundRows.{tallies_of}
 use Rattle.delta_table.specs.Chosen.{zipped, share}
@@ -10,7 +10,6 @@ pub loop-at-preserved : goal.loop-at-preserved
 loop-at-preserved c =
     let keys = c.args.keys.now in
     let item = c.index-items-at.result in
-    let tallies = c.deref-in-loop-at.ensures.value ∙ (c.in_ok-tallies.ensures ∙ ap (tallies_of keys) c.as_slice.ensures) in
-    c.in_ok-costs-2.ensures
-    ∙ ((λ n. zipped (λ (x : ℕ) (t : Tally). x + share item t) ((c.deref.ensures.value ∙ c.loop-at.invariant) n) (tallies n))
+    c.in_ok-add.ensures
+    ∙ ((λ n. zipped (λ (x : ℕ) (t : Tally). x + share item t) (c.loop-at.invariant n) (tallies_of keys (c.as_slice.ensures n)))
     ∙ costs_more keys c.args.items.now c.args.tables.now c.loop-at.at item c.index-tables-at.result c.requires.as_many (omega arith) c.index-items-at.is c.index-tables-at.is)
