@@ -1,7 +1,8 @@
 -- The bytes of replies tell which jobs lacked memory, where each reply line is one line.
 use Rattle.std.proofs.Common.{◌≡◌, ℕ, ◌<◌, ◌≤◌, Bool, false, List, [], ◌∷◌, ◌++◌, length, take, map, refl, sym, ap, ◌∙◌, subst, arith, length-append}
 use Rattle.std.proofs.lemmas.List.{same_from_push, map_push, take_at, take-append-le}
-use Rattle.std.proofs.lemmas.List.Elements.{All-take}
+use Rattle.std.specs.List.{All}
+use Rattle.std.proofs.lemmas.List.Elements.{All-take, All-head, All-tail}
 use Rattle.reply_lines.specs.declared.replies.Reply.{Reply}
 use Rattle.reply_lines.specs.Replies.{line_of}
 use Rattle.reply_lines.specs.OneLine.{IsOneLine, is_want, reports_want}
@@ -88,3 +89,16 @@ same_pasts (x ∷ a) (y ∷ b) lines flags =
 -- bytes are the replies of one list of jobs
 pub one_list : (lines : List (List ℕ)) (written : List ℕ) (a b : Replies lines written) → a.done ≡ b.done
 one_list lines written a b = same_pasts a.done b.done (a.each ∙ sym b.each) (a.flags ∙ sym b.flags)
+
+-- where no job lacked memory there is no flag to tell
+flags_ample : (done : List Past) → All (λ job. job.lacked ≡ false) done → flags_of done ≡ map (λ _. false) (in_order done)
+flags_ample [] ample = refl
+flags_ample (job ∷ earlier) ample =
+    let unlacked : Past → Type 0 = λ job. job.lacked ≡ false in
+    (λ i. flags_ample earlier (All-tail unlacked job earlier ample) i ++ All-head unlacked job earlier ample i ∷ [])
+    ∙ sym (map_push (λ _. false) (in_order earlier) job.line)
+
+-- so the lines tell which jobs there were
+pub same_ample : (a b : List Past) → in_order a ≡ in_order b → All (λ job. job.lacked ≡ false) a → All (λ job. job.lacked ≡ false) b → a ≡ b
+same_ample a b lines first second =
+    same_pasts a b lines (flags_ample a first ∙ ap (λ (x : List (List ℕ)). map (λ _. false) x) lines ∙ sym (flags_ample b second))

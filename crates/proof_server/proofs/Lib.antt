@@ -9,3 +9,5 @@ pub mod Turns
 pub mod Claiming
 pub mod Flags
 pub mod Endings
+pub mod GeneratedLines
+pub mod GeneratedRuns

@@ -1,8 +1,6 @@
 -- What a run of the command answers, and what it notes.
-use Rattle.std.specs.Prelude.{◌≡◌, ℕ, ◌≤◌, ◌<◌, ◌⊎◌, List, [], length, take, codes, Option, Some, None, Result, MatchResult, zero, suc}
+use Rattle.std.specs.Prelude.{◌≡◌, ℕ, ◌≤◌, ◌<◌, ◌⊎◌, List, [], length, take, codes, Option, Some, None, zero, suc}
 use Rattle.command_words.specs.declared.reading.Settings.{Settings}
-use Rattle.command_words.specs.declared.reading.WordsError.{WordsError}
-use Rattle.command_words.specs.declared.reading.WordsError.TheVariants.{Usage}
 use Rattle.command_words.specs.Words.{settings_of}
 use Rattle.std.specs.Io.KnownBytes.{Appends}
 use Rattle.edge_io.specs.Causes.{Rose}
@@ -18,9 +16,13 @@ workers_for (Some s) = elim s.generate [ None ↦ Some s.workers | Some n ↦ No
 abbrev pub workers_asked : List (List ℕ) → Option ℕ
 workers_asked words = workers_for (settings_of words)
 
--- the number of workers, or that there is none, unless memory runs out
-abbrev pub AnswersWorkers : Option ℕ → Result ℕ WordsError → Type 0
-AnswersWorkers wanted r = MatchResult r (λ n. wanted ≡ Some n) (λ e. e ≡ Usage → wanted ≡ None)
+-- how many generated jobs the words ask for, where they ask for these in place of a session
+abbrev pub jobs_for : Option Settings → Option ℕ
+jobs_for None = None
+jobs_for (Some s) = s.generate
+
+abbrev pub jobs_asked : List (List ℕ) → Option ℕ
+jobs_asked words = jobs_for (settings_of words)
 
 -- a session was run, and the answer is the status of its end
 abbrev pub Serves : ℕ → ℕ → ℕ → ℕ → ℕ → Option (List ℕ) → Option (List ℕ) → Option (List ℕ) → Option (List ℕ) → Option (List ℕ) → Type 0

@@ -7,4 +7,6 @@ pub mod Shown
 pub mod Session
 pub mod Ending
 pub mod Turn
+pub mod Counting
+pub mod Generating
 pub mod Command

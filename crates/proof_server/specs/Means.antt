@@ -30,6 +30,10 @@ pub record IsStore (store : Store) (earlier : List Past) : Type 0 where
   pub pass : IsDeskPassOf store.desk store.pass
   pub known : Knows (graph_in store) store.names earlier
 
+-- the pass of a store is of its desk
+abbrev pub HasPass : Store → Type 0
+HasPass store = IsDeskPassOf store.desk store.pass
+
 -- it stands behind some jobs
 abbrev pub IsSomeStore : Store → Type 0
 IsSomeStore store = (earlier : List Past) × IsStore store earlier

@@ -1,5 +1,7 @@
--- The reply line of a job.
+-- The reply line of a job, and what it tells.
 use Rattle.std.specs.Prelude.{ℕ, ◌+◌, Bool, List, length}
+use Rattle.reply_lines.specs.declared.replies.Outcome.{Outcome}
+use Rattle.reply_lines.specs.declared.replies.Outcome.TheVariants.{Reduced}
 use Rattle.reply_lines.specs.declared.replies.Reply.{Reply}
 use Rattle.reply_lines.specs.Replies.{line_of, is_ok_outcome}
 use Rattle.proof_server.specs.Jobs.{Past}
@@ -16,3 +18,11 @@ reply_line earlier job = line_of (reply_of earlier job)
 -- whether the reply is no error
 unfoldable pub is_ok_reply : List Past → Past → Bool
 is_ok_reply earlier job = is_ok_outcome (outcome_of earlier job)
+
+-- the reductions that a reply tells of, as that to cut elimination does
+abbrev pub reductions_in : Outcome → ℕ
+reductions_in (Reduced summary reductions) = reductions
+reductions_in outcome = 0
+
+unfoldable pub reductions_shown : List Past → Past → ℕ
+reductions_shown earlier job = reductions_in (outcome_of earlier job)

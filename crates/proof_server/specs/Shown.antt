@@ -4,7 +4,7 @@ use Rattle.proof_graph.specs.declared.graph.Graph.{Graph}
 use Rattle.proof_server.specs.Jobs.{Past}
 use Rattle.operations.specs.Means.{sense, Fits}
 use Rattle.proof_server.specs.Answers.{Run, outcome_in, value_in, name_of, held_of, run_line, outcome_of, may_lack}
-use Rattle.proof_server.specs.Replying.{reply_line, is_ok_reply}
+use Rattle.proof_server.specs.Replying.{reply_line, is_ok_reply, reductions_shown}
 use Rattle.proof_server.specs.Means.{IsStore}
 use Rattle.proof_server.specs.declared.store.Store.{Store}
 use Rattle.proof_server.specs.declared.store.Conclusion.{Conclusion}
@@ -34,4 +34,5 @@ pub record IsReply (r : ReplyLine) (store : Store) (line : List ℕ) (earlier : 
   pub lawful : may_lack r.lacked (run_line (held_of earlier) line)
   pub bytes : r.bytes.items ≡ reply_line earlier (job_of line r.lacked)
   pub ok_is : r.is_ok ≡ is_ok_reply earlier (job_of line r.lacked)
+  pub reductions_is : r.reductions ≡ reductions_shown earlier (job_of line r.lacked)
   pub behind : IsStore store (job_of line r.lacked ∷ earlier)

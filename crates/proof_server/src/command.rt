@@ -1,9 +1,12 @@
 ghost use Rattle.std.specs.Prelude.{◌≡◌, ◌⊎◌, ℕ, IsNone, IsSome, Some, map, string_bytes};
-ghost use Rattle.proof_server.specs.Command.{workers_asked, AnswersWorkers, Serves, IsComplete, Notes, note_of};
+ghost use Rattle.command_words.specs.Words.{settings_of};
+ghost use Rattle.proof_server.specs.Command.{workers_asked, jobs_asked, Serves, IsComplete, Notes, note_of};
 ghost use Rattle.proof_server.specs.Ending.{status_of};
+ghost use Rattle.proof_server.specs.Generating.{Generates};
 
 use crate::ending::Ended;
 use crate::gates::Gate;
+use crate::generating::generate;
 use crate::serving::serve;
 use command_words::{WordsError, read_words};
 use edge_io::{Sink, Source, write_whole};
@@ -42,18 +45,7 @@ fn note(status: u8) -> &'static [u8]
     }
 }
 
-/// How many workers the words ask for. Generated jobs are not taken yet.
-fn workers_of(alloc: Global, words: &[String]) -> Result<u64, WordsError>
-    ensures { AnswersWorkers (workers_asked (map string_bytes words.now)) result }
-{
-    let settings = read_words(alloc, words)?;
-    match settings.generate {
-        None => Ok(settings.workers),
-        Some(_) => Err(WordsError::Usage),
-    }
-}
-
-/// Serves the source, if the words ask for that.
+/// Serves the source or runs generated jobs, as the words ask.
 fn run<R: Wait + Threads + Sync, S: Source, K: Sink>(
     rt: &R,
     alloc: Global,
@@ -61,25 +53,30 @@ fn run<R: Wait + Threads + Sync, S: Source, K: Sink>(
     source: &mut S,
     sink: &mut K,
 ) -> u8
-    ensures refused { IsNone (workers_asked (map string_bytes words.now))
+    ensures refused { IsNone (settings_of (map string_bytes words.now))
         → ((result ≡ 2) ⊎ (result ≡ 5)) × (source.new ≡ source.old) × (sink.new ≡ sink.old) }
     ensures served { IsSome (workers_asked (map string_bytes words.now)) → Serves result (S.faults source.old) (S.faults source.new) (K.faults sink.old) (K.faults sink.new)
         (S.left source.old) (S.left source.new) (K.written sink.old) (K.written sink.new) (K.flushed sink.new) }
     ensures complete { IsSome (workers_asked (map string_bytes words.now)) → IsComplete result (S.faults source.old) (S.faults source.new) (K.faults sink.old) (K.faults sink.new)
         (S.left source.old) }
+    ensures generated { (n : ℕ) → jobs_asked (map string_bytes words.now) ≡ Some n → (source.new ≡ source.old)
+        × Generates result n (K.faults sink.old) (K.faults sink.new) (K.written sink.old) (K.written sink.new) (K.flushed sink.new) }
 {
-    match workers_of(alloc, words) {
-        Ok(_workers) => status(serve(rt, alloc, source, sink)),
-        Err(WordsError::Usage) => USAGE,
-        Err(WordsError::Memory) => status(Ended::Memory),
+    let settings = match read_words(alloc, words) {
+        Ok(settings) => settings,
+        Err(WordsError::Usage) => return USAGE,
+        Err(WordsError::Memory) => return status(Ended::Memory),
+    };
+    match settings.generate {
+        None => status(serve(rt, alloc, source, sink)),
+        Some(n) => status(generate(rt, alloc, sink, n)),
     }
 }
 
 /// Runs the command with the words that follow the program's name, and answers its exit status.
 ///
-/// The words are those of `gaptd [--workers N] [--gen N]`, as `command_words` reads them; `--gen` isn't taken yet, and the number of
-/// workers has no use yet. If they are taken, the jobs of `source`, one a line, are answered on `sink`, a reply line for each job in
-/// order:
+/// The words are those of `gaptd [--workers N] [--gen N]`, as `command_words` reads them; the number of workers has no use yet. If they are
+/// taken and have no `--gen`, the jobs of `source`, one a line, are answered on `sink`, a reply line for each job in order:
 ///
 /// - 0: the input was read to its end, all was written and flushed, and every reply is Ok;
 /// - 1: the same, and some reply is an error;
@@ -88,6 +85,10 @@ fn run<R: Wait + Threads + Sync, S: Source, K: Sink>(
 /// - 4: writing or flushing failed;
 /// - 5: memory ran out;
 /// - 6: the input has more than 2^32 bytes, and the replies to the whole lines within these were written and flushed.
+///
+/// With `--gen N` the first N generated jobs are answered in place of those of `source`, from which nothing is read, and of their replies the
+/// counts alone are written: one line of JSON with the bytes of the reply lines, the number of jobs, of Ok replies, of the reductions that
+/// the replies to cut eliminations tell of, and of errors. The statuses are 0, 1, 4 and 5, and 5 is also that of a job that lacks memory.
 ///
 /// A status above 1 is noted on `notes` by one line. A failed write there changes no status.
 pub fn top<R: Wait + Threads + Sync, S: Source, K: Sink, E: Sink, G: Gate>(
@@ -99,12 +100,14 @@ pub fn top<R: Wait + Threads + Sync, S: Source, K: Sink, E: Sink, G: Gate>(
     notes: &mut E,
     _gate: &G,
 ) -> u8
-    ensures refused { IsNone (workers_asked (map string_bytes words.now))
+    ensures refused { IsNone (settings_of (map string_bytes words.now))
         → ((result ≡ 2) ⊎ (result ≡ 5)) × (source.new ≡ source.old) × (sink.new ≡ sink.old) }
     ensures served { IsSome (workers_asked (map string_bytes words.now)) → Serves result (S.faults source.old) (S.faults source.new) (K.faults sink.old) (K.faults sink.new)
         (S.left source.old) (S.left source.new) (K.written sink.old) (K.written sink.new) (K.flushed sink.new) }
     ensures complete { IsSome (workers_asked (map string_bytes words.now)) → IsComplete result (S.faults source.old) (S.faults source.new) (K.faults sink.old) (K.faults sink.new)
         (S.left source.old) }
+    ensures generated { (n : ℕ) → jobs_asked (map string_bytes words.now) ≡ Some n → (source.new ≡ source.old)
+        × Generates result n (K.faults sink.old) (K.faults sink.new) (K.written sink.old) (K.written sink.new) (K.flushed sink.new) }
     ensures noted { Notes result (E.faults notes.old) (E.faults notes.new) (E.written notes.old) (E.written notes.new) }
 {
     let answer = run(rt, alloc, words, source, sink);

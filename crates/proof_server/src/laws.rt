@@ -1,6 +1,8 @@
 //! The laws of what is answered. Each function does nothing: its contract is the law.
 ghost use Rattle.std.specs.Prelude.{◌≡◌, ◌++◌, ℕ, List};
 ghost use Rattle.reply_lines.specs.OneLine.{IsOneLine};
+ghost use Rattle.proof_server.specs.declared.counts.Counts.{Counts as CountsMeaning};
+ghost use Rattle.proof_server.specs.Generating.{AreCounts};
 ghost use Rattle.proof_server.specs.Jobs.{Past};
 ghost use Rattle.proof_server.specs.Answers.{held_of, IsLawful};
 ghost use Rattle.proof_server.specs.Claimed.{AreClaimed, HoldsSound};
@@ -33,3 +35,8 @@ pub fn replies()
     lines();
     answers_shown();
 }
+
+/// The replies to generated jobs, where none lacks memory, have one list of counts.
+pub fn generated_counts()
+    ensures { (n : ℕ) (a b : CountsMeaning) → AreCounts n a → AreCounts n b → a ≡ b }
+{}

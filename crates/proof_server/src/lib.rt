@@ -2,8 +2,10 @@
 #![tactic(auto)]
 
 mod command;
+mod counts;
 mod ending;
 mod gates;
+mod generating;
 pub mod laws;
 mod names;
 mod reply;

@@ -4,7 +4,8 @@ ghost use Rattle.job_lang.specs.FormedOps.{IsFormedOp};
 ghost use Rattle.operations.specs.Means.{sense, Fits};
 ghost use Rattle.proof_server.specs.Jobs.{Past, IsKept, is_too_long};
 ghost use Rattle.proof_server.specs.Answers.{name_of, run_read, run_line, held_of, value_in};
-ghost use Rattle.proof_server.specs.Means.{graph_in, IsStore, IsSomeStore};
+ghost use Rattle.proof_server.specs.Means.{graph_in, HasPass, IsStore, IsSomeStore};
+ghost use Rattle.proof_server.specs.Replying.{reductions_in};
 ghost use Rattle.proof_server.specs.Shown.{IsConcluded, IsAnswered, IsReply};
 
 use crate::store::{Conclusion, Store, refusal};
@@ -18,11 +19,12 @@ use std::sync::Wait;
 use std::thread::Threads;
 use text_tables::{FormulaTexts, TextTables};
 
-/// A reply line with its newline, whether it is no error, and whether it reports want of memory.
+/// A reply line with its newline, whether it is no error, how many reductions it tells of, and whether it reports want of memory.
 #[derive(Drop)]
 pub struct ReplyLine {
     pub bytes: Vec<u8>,
     pub is_ok: bool,
+    pub reductions: u64,
     pub lacked: bool,
 }
 
@@ -90,9 +92,10 @@ fn learn(
     name: Option<&Name>,
     held: Held,
 ) -> Result<(), AllocError>
-    ensures { (earlier : List Past) (job : Past) → IsStore store.old earlier → name_of job.line ≡ option_copied name.entry
+    ensures learns { (earlier : List Past) (job : Past) → IsStore store.old earlier → name_of job.line ≡ option_copied name.entry
         → sense held ≡ Some (value_in job.lacked (run_line (held_of earlier) job.line)) → Fits (graph_in store.old) held
         → OnOk result (IsStore store.new (job ∷ earlier)) }
+    ensures pass { HasPass store.old → HasPass store.new }
 {
     match name {
         Some(name) => store.names.learn(alloc, name.as_str(), held),
@@ -110,8 +113,9 @@ fn answer_line<R: Wait + Threads + Sync>(
 ) -> Result<Shown, AllocError>
     requires store { IsSomeStore store.old }
     requires short { is_too_long line.now ≡ false }
-    ensures { (earlier : List Past) → IsStore store.old earlier
+    ensures answered { (earlier : List Past) → IsStore store.old earlier
         → IfOk result (λ shown. IsAnswered shown store.new line.now earlier) }
+    ensures pass { HasPass store.new }
 {
     let (name, conclusion) = conclude_line(store, rt, alloc, texts, line)?;
     let Conclusion {
@@ -137,9 +141,10 @@ fn answer<R: Wait + Threads + Sync>(
 ) -> Result<Shown, AllocError>
     requires store { IsSomeStore store.old }
     requires kept { (text : List ℕ) × IsKept (option_copied line) text }
-    ensures { (earlier : List Past) (text : List ℕ) → IsStore store.old earlier
+    ensures answered { (earlier : List Past) (text : List ℕ) → IsStore store.old earlier
         → IsKept (option_copied line.entry) text
         → IfOk result (λ shown. IsAnswered shown store.new text earlier) }
+    ensures pass { HasPass store.new }
 {
     match line {
         Some(line) => answer_line(store, rt, alloc, texts, line),
@@ -148,6 +153,16 @@ fn answer<R: Wait + Threads + Sync>(
             outcome: Outcome::LineTooLong,
             lacked: false,
         }),
+    }
+}
+
+/// How many reductions are told of, where this is the answer to a cut elimination.
+fn reductions_of(outcome: &Outcome) -> u64
+    ensures { result ≡ reductions_in outcome.now }
+{
+    match outcome {
+        Outcome::Reduced(_, reductions) => *reductions,
+        _ => 0,
     }
 }
 
@@ -163,10 +178,11 @@ pub fn reply_to<R: Wait + Threads + Sync>(
     requires room { count + 1 < 2 ^ 64 }
     requires store { IsSomeStore store.old }
     requires kept { (text : List ℕ) × IsKept (option_copied line) text }
-    ensures { (earlier : List Past) (text : List ℕ) → count ≡ length earlier
+    ensures replies { (earlier : List Past) (text : List ℕ) → count ≡ length earlier
         → IsStore store.old earlier
         → IsKept (option_copied line.entry) text
         → IfOk result (λ r. IsReply r store.new text earlier) }
+    ensures pass { HasPass store.new }
 {
     let Shown {
         name,
@@ -174,6 +190,7 @@ pub fn reply_to<R: Wait + Threads + Sync>(
         lacked,
     } = answer(store, rt, alloc, &mut texts.formulas, line)?;
     let is_ok = outcome.is_ok();
+    let reductions = reductions_of(&outcome);
     let bytes = reply_line(
         alloc,
         &mut texts.canonical,
@@ -186,6 +203,7 @@ pub fn reply_to<R: Wait + Threads + Sync>(
     Ok(ReplyLine {
         bytes,
         is_ok,
+        reductions,
         lacked,
     })
 }

@@ -2,6 +2,7 @@ ghost use Rattle.std.specs.Prelude.{◌≡◌, ◌+◌, ◌<◌, ◌≤◌, ◌^
 ghost use Rattle.proof_server.specs.Ending.{Ends};
 ghost use Rattle.std.specs.Io.KnownBytes.{Keeps};
 ghost use Rattle.proof_server.specs.Jobs.{max_input};
+ghost use Rattle.proof_server.specs.Means.{HasPass};
 ghost use Rattle.proof_server.specs.Turn.{ended_of, Finishes, IsBehind};
 
 use crate::ending::Ended;
@@ -51,6 +52,7 @@ fn serve_lines<R: Wait + Threads + Sync, S: Source, K: Sink>(
     requires session { IsBehind session.old [] }
     ensures ends { Ends result max_input (S.faults source.old) (S.faults source.new) (K.faults sink.old) (K.faults sink.new)
         (S.left source.old) (S.left source.new) (K.written sink.old) (K.written sink.new) (K.flushed sink.new) }
+    ensures pass { HasPass session.new.store }
 {
     held_proofs();
     replies();
@@ -90,5 +92,7 @@ pub fn serve<R: Wait + Threads + Sync, S: Source, K: Sink>(
         Ok(session) => session,
         Err(_) => return Ended::Memory,
     };
-    serve_lines(rt, alloc, &mut reader, &mut session, source, sink)
+    let ended = serve_lines(rt, alloc, &mut reader, &mut session, source, sink);
+    session.close(rt);
+    ended
 }

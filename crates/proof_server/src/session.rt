@@ -2,7 +2,7 @@ ghost use Rattle.std.specs.Prelude.{◌≡◌, ◌+◌, ◌<◌, ◌≤◌, ◌^
 ghost use Rattle.std.specs.List.{list_all};
 ghost use Rattle.std.specs.Option.{option_copied};
 ghost use Rattle.proof_server.specs.Jobs.{Past, IsKept, is_blank as is_blank_of, is_job};
-ghost use Rattle.proof_server.specs.Means.{IsSomeStore};
+ghost use Rattle.proof_server.specs.Means.{HasPass, IsSomeStore};
 ghost use Rattle.proof_server.specs.Turn.{IsBehind, Takes};
 
 use crate::reply::reply_to;
@@ -14,8 +14,7 @@ use std::thread::Threads;
 use text_tables::TextTables;
 
 /// Where a session stands: how many jobs it has answered, what they hold, the texts that were read and printed, and whether no reply was
-/// an error.
-#[derive(Drop)]
+/// an error. It can't be dropped, and is ended by `close`.
 pub struct Session {
     pub count: u64,
     pub store: Store,
@@ -57,6 +56,19 @@ impl Session {
         })
     }
 
+    /// Ends the session with its store.
+    pub fn close<R: Wait>(self, rt: &R)
+        requires { HasPass self.store }
+    {
+        let Session {
+            count: _count,
+            store,
+            texts: _texts,
+            good: _good,
+        } = self;
+        store.close(rt);
+    }
+
     /// Answers a line, `None` for one that is too long: a job gets its reply, and an empty line has all replies
     /// so far flushed.
     pub fn take<R: Wait + Threads + Sync, K: Sink>(
@@ -76,6 +88,7 @@ impl Session {
         ensures flushed { (text : List ℕ) → IsKept (option_copied line.entry) text → is_job text ≡ false
             → OnOk result (K.flushed sink.new ≡ K.written sink.new) }
         ensures faults { K.faults sink.old ≤ K.faults sink.new }
+        ensures pass { HasPass self.new.store }
     {
         if let Some(bytes) = line {
             if is_empty_line(bytes) {
@@ -104,6 +117,7 @@ impl Session {
             → Takes result earlier text self.old self.new (K.faults sink.old) (K.faults sink.new)
             (K.written sink.old) (K.written sink.new) }
         ensures faults { K.faults sink.old ≤ K.faults sink.new }
+        ensures pass { HasPass self.new.store }
     {
         let reply = match reply_to(
             &mut self.store,

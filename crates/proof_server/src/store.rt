@@ -8,7 +8,7 @@ ghost use Rattle.operation_laws.specs.Running.{run as run_of};
 ghost use Rattle.operations.specs.Means.{Fits, IsAnswerOf};
 ghost use Rattle.proof_server.specs.Jobs.{Past};
 ghost use Rattle.proof_server.specs.Answers.{JobFault, faulty, answered, shown_fault, values_for, held_of};
-ghost use Rattle.proof_server.specs.Means.{value_named, graph_in, IsStore, IsSomeStore};
+ghost use Rattle.proof_server.specs.Means.{value_named, graph_in, HasPass, IsStore, IsSomeStore};
 ghost use Rattle.proof_server.specs.Shown.{IsConcluded};
 
 use crate::names::Names;
@@ -20,8 +20,8 @@ use std::alloc::{AllocError, Global};
 use std::sync::Wait;
 use std::thread::Threads;
 
-/// The proofs of a session: the desk with the graph that they share, and the names of jobs with what these hold.
-#[derive(Drop)]
+/// The proofs of a session: the desk with the graph that they share, and the names of jobs with what these hold. It can't be dropped, and is
+/// ended by `close`.
 pub struct Store {
     pub desk: Desk,
     pub pass: DeskPass,
@@ -78,6 +78,18 @@ impl Store {
             pass,
             names: Names::new(alloc),
         })
+    }
+
+    /// Ends the store with its desk.
+    pub fn close<R: Wait>(self, rt: &R)
+        requires { HasPass self }
+    {
+        let Store {
+            desk,
+            pass,
+            names: _names,
+        } = self;
+        desk.close(rt, pass);
     }
 
     // The values that the names of jobs in an operation stand for, in the order in which its fields are read.

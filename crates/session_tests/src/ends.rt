@@ -4,7 +4,8 @@ use std::test::Fail;
 
 const READ_FAULT: &str = "gaptd: read fault\n";
 
-const WRITE_FAULT: &str = "gaptd: write fault\n";
+/// The note of a write that failed.
+pub const WRITE_FAULT: &str = "gaptd: write fault\n";
 
 /// Three jobs of 98 bytes each with the newline.
 const JOBS: &str =

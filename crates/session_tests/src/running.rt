@@ -38,6 +38,15 @@ pub struct Ran {
     pub notes: Vec<u8>,
 }
 
+/// The words of a line, which stand between spaces.
+pub fn words_of(alloc: Global, line: &str) -> Result<Vec<String>, AllocError> {
+    let mut words = Vec::new(alloc);
+    for word in line.split_whitespace() {
+        words.push(String::from_str(alloc, word)?)?;
+    }
+    Ok(words)
+}
+
 /// A session with these words, over ends that move `piece` bytes a call.
 pub fn run<R: Wait + Threads + Sync>(
     rt: &R,

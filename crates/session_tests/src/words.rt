@@ -1,11 +1,10 @@
 //! The words of the command.
-use crate::running::{Failing, JOB, NONE, REPLY, run};
-use std::alloc::{AllocError, Global};
+use crate::running::{Failing, JOB, NONE, REPLY, run, words_of};
 use std::test::Fail;
 
 const USAGE: &str = "gaptd: usage: gaptd [--workers N] [--gen N]\n";
 
-/// Lines of words, each with whether they ask for a session. Jobs can't be generated yet.
+/// Lines of words, each with whether they ask for a session.
 const WORDS: [(&str, bool); 13] = [
     ("", true),
     ("--workers 4", true),
@@ -14,22 +13,13 @@ const WORDS: [(&str, bool); 13] = [
     ("--workers 0", false),
     ("--workers 17", false),
     ("--workers", false),
-    ("--gen 4", false),
-    ("--workers 4 --gen 4", false),
     ("--gen 0", false),
+    ("--gen 100001", false),
+    ("--workers 0 --gen 4", false),
     ("--help", false),
     ("--version", false),
     ("serve", false),
 ];
-
-/// The words of a line, which stand between spaces.
-fn words_of(alloc: Global, line: &str) -> Result<Vec<String>, AllocError> {
-    let mut words = Vec::new(alloc);
-    for word in line.split_whitespace() {
-        words.push(String::from_str(alloc, word)?)?;
-    }
-    Ok(words)
-}
 
 /// A note that can't be written changes no status.
 #[test]
