@@ -33,7 +33,7 @@ build() {
     said=$(mktemp) || return 1
     set -- $(needed)
     left=$#
-    echo "gaptd.sh: proves $left crates, which takes about half an hour on four processors if nothing is kept from earlier runs" >&2
+    echo "gaptd.sh: proves $left crates, which takes an hour or more on four processors if nothing is kept from earlier runs" >&2
     for crate; do
         echo "gaptd.sh: $crate, and $((left -= 1)) more" >&2
         if [ "$crate" = gaptd ]; then command=run; else command=lib; fi
