@@ -10,3 +10,4 @@ pub mod SideLaws
 pub mod Untouched
 pub mod PairLaws
 pub mod BindingLaws
+pub mod Crossing

@@ -7,3 +7,4 @@ pub mod Bindings
 pub mod OneKey
 pub mod Growth
 pub mod StoredFacts
+pub mod Crossing

@@ -2,3 +2,4 @@ pub mod Trees
 pub mod Places
 pub mod Larger
 pub mod FormedImages
+pub mod Crossing

@@ -23,3 +23,4 @@ mod Examples
 pub mod Merged
 pub mod MergeParts
 pub mod MergeSteps
+pub mod Crossing

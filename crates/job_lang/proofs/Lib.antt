@@ -5,3 +5,4 @@ pub mod JobReadings
 pub mod FormedFields
 pub mod FormedExpansions
 pub mod FormedReadings
+pub mod Crossing

@@ -1,5 +1,6 @@
 //! What runs the jobs of a window.
 ghost use Rattle.std.specs.Prelude.{◌≡◌, ℕ, List, length, map, All, IfOk};
+ghost use denote.Param.Send.{IsSync};
 
 use std::alloc::{AllocError, Global};
 use std::sync::Wait;
@@ -55,6 +56,7 @@ pub trait Runner: Sync {
         job: &Self::Job,
         given: &[Self::Held],
     ) -> (Self::Reply, Self::Held)
+        requires sync { IsSync W.row }
         requires pass { PassFits (home self.now) pass.old }
         requires job { JobFits (home self.now) job.now }
         requires given { All (HeldFits (home self.now)) given.now }

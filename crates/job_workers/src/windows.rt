@@ -11,6 +11,7 @@ use crate::runners::Runner;
 use crate::tasks::Task;
 use crate::workers::work_all;
 use std::alloc::{AllocError, Global};
+use std::mem;
 use std::sync::Wait;
 use std::thread::Threads;
 
@@ -97,7 +98,8 @@ fn unwrap_all<T: Drop>(slots: Vec<Option<T>>, mut answers: Vec<T>) -> Vec<T>
 
 /// Runs the tasks of a window by so many workers at most, and answers each task's reply and the value that it holds, in the order of the
 /// tasks. A worker takes the first task whose needs are done, and leaves where there is none or where there is no memory to take it.
-/// What the workers have left the caller runs in the end, in order. Whoever runs a job passes the gate first.
+/// What the workers have left the caller runs in the end, in order. Whoever runs a job passes the gate first. One worker is the caller with
+/// its own pass, and each other one has a pass that is split from it.
 pub fn run_window<W: Threads + Wait + Sync, R: Runner, G: Gate>(
     rt: &W,
     alloc: Global,
@@ -117,9 +119,11 @@ pub fn run_window<W: Threads + Wait + Sync, R: Runner, G: Gate>(
     let answers = Vec::with_capacity(alloc, tasks.len())?;
     let workers = workers.min(tasks.len() as u64);
     let (board, mine) = Board::<R>::new(alloc, runner, tasks)?;
-    let theirs = runner.split(pass);
+    let spare = runner.split(pass);
+    let theirs = mem::replace(pass, spare);
     let (mine, theirs) = work_all(rt, alloc, &board, runner, gate, mine, theirs, workers);
-    runner.join(pass, theirs);
+    let spare = mem::replace(pass, theirs);
+    runner.join(pass, spare);
     let (tasks, mut slots) = board.close(rt, mine);
     run_rest(rt, alloc, runner, gate, pass, &tasks, &mut slots)?;
     Ok(unwrap_all(slots, answers))

@@ -60,7 +60,8 @@ fn work<W: Threads + Wait + Sync, R: Runner, G: Gate>(
     (mine, pass)
 }
 
-// So many workers at the same time. They are halved until one is left, and each half has a thread of its own where one can be started.
+// So many workers at the same time. They are halved until one is left: the one half stays in this thread, with the pass that is handed in,
+// and the other has a thread of its own, where one can be started.
 #[cycle(workers)]
 pub fn work_all<W: Threads + Wait + Sync, R: Runner, G: Gate>(
     rt: &W,
@@ -93,7 +94,7 @@ pub fn work_all<W: Threads + Wait + Sync, R: Runner, G: Gate>(
         requires { IsSync W.row × IsPassOf R.sense R.Belongs board.now other × (R.home runner.now ≡ R.home (runner_of board.now)) × R.PassFits (R.home runner.now) theirs }
         ensures { IsPassOf R.sense R.Belongs board.entry.now result.0 × R.PassFits (R.home runner.entry.now) result.1 }
     { work_all(rt, alloc, board, runner, gate, other, theirs, rest) };
-    let ((mut mine, mut pass), (other, theirs)) = join(rt, left, right);
+    let ((other, theirs), (mut mine, mut pass)) = join(rt, right, left);
     board.join(&mut mine, other);
     runner.join(&mut pass, theirs);
     (mine, pass)

@@ -3,3 +3,4 @@ pub mod Subsequents
 pub mod Rows
 pub mod RuleTies
 pub mod SequentVariables
+pub mod Crossing

@@ -10,3 +10,4 @@ pub mod Built
 pub mod Interpolated
 pub mod Instanced
 pub mod Introduced
+pub mod Crossing

@@ -20,3 +20,5 @@ mod searches;
 mod sharing;
 #[cfg(test)]
 mod tables;
+#[cfg(test)]
+mod threads;

@@ -3,3 +3,4 @@ pub mod Adding
 pub mod ReplyTexts
 pub mod OneLines
 pub mod Wants
+pub mod Crossing

@@ -14,3 +14,4 @@ pub mod ProblemLaws
 pub mod ReadingLaws
 pub mod EntryReading
 pub mod Loops
+pub mod Crossing

@@ -1,0 +1,181 @@
+//! Two threads that put proofs into one graph.
+ghost use Rattle.std.specs.Prelude.{IfOk, IfSome};
+ghost use Rattle.std.specs.List.{All};
+ghost use Rattle.lk_rules.specs.Rules.{IsFormedRule};
+ghost use Rattle.proof_graph.specs.Graphs.{IsOf, IsPassOf};
+
+use crate::samples::{proof, steps};
+use lk_check::admit;
+use lk_rules::Step;
+use proof_graph::{Graph, GraphPass, ProofRef};
+use std::alloc::Global;
+use std::process::Abort;
+use std::sync::Wait;
+use std::test::Fail;
+use std::thread::{Threads, join};
+
+// The proof of a list of steps, put in by a pass that is handed back.
+fn put<R: Wait>(
+    rt: &R,
+    alloc: Global,
+    graph: &Graph,
+    mut pass: GraphPass,
+    list: &[Step],
+) -> (GraphPass, Option<ProofRef>)
+    requires pass_of { IsPassOf graph.now pass }
+    requires formed { All (λ step. IsFormedRule step.rule) list.now }
+    ensures pass_stays { IsPassOf graph.now result.0 }
+    ensures of { IfSome result.1 (IsOf graph.now) }
+{
+    let made = admit(graph, rt, alloc, &mut pass, list).ok();
+    (pass, made)
+}
+
+// The proofs of two lists of steps, each put in by a thread of its own.
+fn put_both<R: Abort + Threads + Wait + Sync>(
+    rt: &R,
+    alloc: Global,
+    graph: &Graph,
+    pass: &mut GraphPass,
+    first: &[Step],
+    second: &[Step],
+) -> Result<(ProofRef, ProofRef), Fail>
+    requires pass_of { IsPassOf graph.now pass.old }
+    requires first_formed { All (λ step. IsFormedRule step.rule) first.now }
+    requires second_formed { All (λ step. IsFormedRule step.rule) second.now }
+    ensures of { IfOk result (λ made. IsOf graph.now made.0 × IsOf graph.now made.1) }
+    ensures pass_stays { IsPassOf graph.now pass.new }
+{
+    let one = graph.split(pass);
+    let two = graph.split(pass);
+    let ((one, first), (two, second)) = join(
+        rt,
+        || -> (GraphPass, Option<ProofRef>)
+            requires { IsPassOf graph.now one × All (λ step. IsFormedRule step.rule) first.now }
+            ensures { IsPassOf graph.entry.now result.0 × IfSome result.1 (IsOf graph.entry.now) }
+        { put(rt, alloc, graph, one, first) },
+        || -> (GraphPass, Option<ProofRef>)
+            requires { IsPassOf graph.now two × All (λ step. IsFormedRule step.rule) second.now }
+            ensures { IsPassOf graph.entry.now result.0 × IfSome result.1 (IsOf graph.entry.now) }
+        { put(rt, alloc, graph, two, second) },
+    );
+    graph.join(pass, one);
+    graph.join(pass, two);
+    let first = first.ok_or("nothing from the first thread")?;
+    let second = second.ok_or("nothing from the second thread")?;
+    Ok((first, second))
+}
+
+// Two threads put in one node each, of the same key. It has one number, which it keeps.
+fn assert_same_key<R: Abort + Threads + Wait + Sync>(
+    rt: &R,
+    alloc: Global,
+    graph: &Graph,
+    pass: &mut GraphPass,
+) -> Result<(), Fail>
+    requires { IsPassOf graph.now pass.old }
+    ensures { IsPassOf graph.now pass.new }
+{
+    let text = "ax p p/p";
+    let list = steps(alloc, text)?;
+    let (first, second) = put_both(rt, alloc, graph, pass, &list, &list)?;
+    assert_eq!(rt; first.number(), second.number());
+    let third = proof(rt, alloc, graph, pass, text)?;
+    assert_eq!(rt; first.number(), third.number());
+    assert!(rt; graph.same(&first, &third));
+    Ok(())
+}
+
+#[test]
+fn same_key_two_threads(rt: HostRuntime) -> Result<(), Fail> {
+    let (graph, mut pass) = Graph::new(rt.alloc())?;
+    let seen = assert_same_key(&rt, rt.alloc(), &graph, &mut pass);
+    graph.close(&rt, pass);
+    seen
+}
+
+// The axioms on two thousand atoms: those of the first thousand numbers, and those of another thousand.
+fn two_thousand_axioms(alloc: Global, thousand: u64) -> Result<Vec<Step>, Fail>
+    ensures { IfOk result (λ v. All (λ step. IsFormedRule step.rule) v.items) }
+{
+    let mut text = String::from_str(alloc, "ax {p0} {p0}/{p0}")?;
+    for number in 1..2000u64 {
+        let atom = if number < 1000 {
+            number
+        } else {
+            thousand.wrapping_mul(1000).wrapping_add(number - 1000)
+        };
+        let axiom = format!(in alloc; ";ax {{p{atom}}} {{p{atom}}}/{{p{atom}}}")?;
+        text.push_str(axiom.as_str())?;
+    }
+    steps(alloc, text.as_str())
+}
+
+// How many nodes there are: one more gets that number.
+fn count<R: Wait>(rt: &R, alloc: Global, graph: &Graph, pass: &mut GraphPass) -> Result<u64, Fail>
+    requires { IsPassOf graph.now pass.old }
+    ensures { IsPassOf graph.now pass.new }
+{
+    Ok(proof(rt, alloc, graph, pass, "ax q q/q")?.number())
+}
+
+// How many nodes one thread puts in for two lists.
+fn count_by_one<R: Wait>(
+    rt: &R,
+    alloc: Global,
+    graph: &Graph,
+    pass: &mut GraphPass,
+) -> Result<u64, Fail>
+    requires { IsPassOf graph.now pass.old }
+    ensures { IsPassOf graph.now pass.new }
+{
+    for thousand in 1..3u64 {
+        let list = two_thousand_axioms(alloc, thousand)?;
+        admit(graph, rt, alloc, pass, &list)?;
+    }
+    count(rt, alloc, graph, pass)
+}
+
+// How many nodes two threads put in for the same lists, as the pass in which theirs are joined has it. It finds the nodes of both.
+fn count_by_two<R: Abort + Threads + Wait + Sync>(
+    rt: &R,
+    alloc: Global,
+    graph: &Graph,
+    pass: &mut GraphPass,
+) -> Result<u64, Fail>
+    requires { IsPassOf graph.now pass.old }
+    ensures { IsPassOf graph.now pass.new }
+{
+    let first = two_thousand_axioms(alloc, 1)?;
+    let second = two_thousand_axioms(alloc, 2)?;
+    put_both(rt, alloc, graph, pass, &first, &second)?;
+    admit(graph, rt, alloc, pass, &first)?;
+    admit(graph, rt, alloc, pass, &second)?;
+    count(rt, alloc, graph, pass)
+}
+
+// How many nodes one thread puts into a graph of its own.
+fn entries_by_one<R: Wait>(rt: &R, alloc: Global) -> Result<u64, Fail> {
+    let (graph, mut pass) = Graph::new(alloc)?;
+    let entries = count_by_one(rt, alloc, &graph, &mut pass);
+    graph.close(rt, pass);
+    entries
+}
+
+// How many nodes two threads put into a graph of their own.
+fn entries_by_two<R: Abort + Threads + Wait + Sync>(rt: &R, alloc: Global) -> Result<u64, Fail> {
+    let (graph, mut pass) = Graph::new(alloc)?;
+    let entries = count_by_two(rt, alloc, &graph, &mut pass);
+    graph.close(rt, pass);
+    entries
+}
+
+// Two threads put in two thousand nodes each, half of which are the same. There are as many as by one thread: three thousand.
+#[test]
+fn shared_nodes_two_threads(rt: HostRuntime) -> Result<(), Fail> {
+    let by_one = entries_by_one(&rt, rt.alloc())?;
+    let by_two = entries_by_two(&rt, rt.alloc())?;
+    assert_eq!(rt; by_one, 3000);
+    assert_eq!(rt; by_two, by_one);
+    Ok(())
+}
