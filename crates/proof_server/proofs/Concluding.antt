@@ -6,8 +6,8 @@ use Rattle.job_lang.specs.declared.jobs.Job.{Job}
 use Rattle.job_lang.specs.declared.jobs.JobError.TheVariants.{Fault}
 use Rattle.job_words.specs.declared.causes.JobCause.{JobCause}
 use Rattle.job_lang.specs.Jobs.{reads_job, GivesJob}
-use Rattle.proof_server.specs.Jobs.{max_line, is_too_long}
-use Rattle.proof_server.specs.Answers.{too_long, unread, faulty, Lookup, name_of, run_read, run_line}
+use Rattle.session_laws.specs.Jobs.{max_line, is_too_long}
+use Rattle.session_laws.specs.Answers.{too_long, unread, faulty, Lookup, name_of, run_read, run_line}
 
 module _ (line : List ℕ) where
   run_short : (lookup : Lookup) → is_too_long line ≡ false → run_line lookup line ≡ run_read lookup (reads_job line).name (reads_job line).op

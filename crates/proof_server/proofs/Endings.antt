@@ -11,10 +11,10 @@ use Rattle.edge_io.specs.Lines.{is_newline, AreLines, parts_of, whole_lines, lin
 use Rattle.edge_io.specs.Reader.{Reader, allowance}
 use Rattle.edge_io.specs.Reading.{HandsOn, CutsOff, Overflows, LacksMemory, IsDone as IsAtLast}
 use Rattle.edge_io.proofs.LinesLemmas.{lines_of_at, whole_lines_at}
-use Rattle.proof_server.specs.Jobs.{Past, in_order, jobs}
-use Rattle.proof_server.specs.Replying.{reply_line}
-use Rattle.proof_server.proofs.ReplyLines.{length-reply_line}
-use Rattle.proof_server.specs.Session.{out, flags_of, memory_flags, Replies, RepliesInPart, IsPartOfNext}
+use Rattle.session_laws.specs.Jobs.{Past, in_order, jobs}
+use Rattle.session_laws.specs.Replying.{reply_line}
+use Rattle.session_laws.proofs.ReplyLines.{length-reply_line}
+use Rattle.session_laws.specs.Session.{out, flags_of, memory_flags, Replies, RepliesInPart, IsPartOfNext}
 use Rattle.proof_server.specs.Turn.{IsTakenInPart, Takes, ended_of, Finishes}
 use Rattle.proof_server.specs.Ending.{IsDone, IsCutOff, IsFull, IsPartWritten, Ends}
 use Rattle.proof_server.specs.declared.ending.Ended.{Ended}
@@ -22,10 +22,10 @@ use Rattle.proof_server.specs.declared.ending.Ended.TheVariants as ended
 use Rattle.proof_server.specs.declared.session.Session.{Session}
 use Rattle.proof_server.specs.declared.session.Stop.{Stop}
 use Rattle.proof_server.specs.declared.session.Stop.TheVariants as stop
-use Rattle.proof_server.specs.Answers.{IsLawful, run_line, held_of}
+use Rattle.session_laws.specs.Answers.{IsLawful, run_line, held_of}
 use Rattle.proof_server.specs.Shown.{job_of}
 use Rattle.proof_server.proofs.Turns.{some_end}
-use Rattle.proof_server.specs.Claimed.{AreClaimed}
+use Rattle.session_laws.specs.Claimed.{AreClaimed}
 use Rattle.proof_server.proofs.Midway.{ReadSoFar, Midway, whole_so_far, hand, jobs-append, Rose-since}
 
 -- nothing of the next reply is a part of it

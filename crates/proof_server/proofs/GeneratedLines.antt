@@ -12,7 +12,7 @@ use Rattle.edge_io.proofs.LinesLemmas.{lines_nil, lines_more, lines_of_at}
 use Rattle.job_gen.specs.Generated.{job_by, job_data, generated_line, generated}
 use Rattle.job_gen.specs.PrintableLine.{IsPrintableLine}
 use Rattle.job_gen.proofs.JobTexts.{generated-more}
-use Rattle.proof_server.specs.Jobs.{max_line, is_too_long, is_blank, is_job, jobs}
+use Rattle.session_laws.specs.Jobs.{max_line, is_too_long, is_blank, is_job, jobs}
 
 -- a job is an object
 abbrev IsObject : Data → Type 0

@@ -6,12 +6,12 @@ use Rattle.edge_io.specs.Lines.{AreLines, lines_of}
 use Rattle.edge_io.proofs.LinesLemmas.{lines_of_at}
 use Rattle.job_gen.specs.Generated.{generated_line, generated}
 use Rattle.job_gen.specs.PrintableLine.{IsPrintableLine}
-use Rattle.proof_server.specs.Jobs.{Past, in_order, jobs}
-use Rattle.proof_server.specs.Answers.{IsLawful}
-use Rattle.proof_server.specs.Claimed.{AreClaimed}
+use Rattle.session_laws.specs.Jobs.{Past, in_order, jobs}
+use Rattle.session_laws.specs.Answers.{IsLawful}
+use Rattle.session_laws.specs.Claimed.{AreClaimed}
 use Rattle.proof_server.specs.Means.{IsStore}
 use Rattle.proof_server.specs.Shown.{job_of, IsReply}
-use Rattle.proof_server.specs.Session.{out, flags_of, memory_flags, IsPartOfNext}
+use Rattle.session_laws.specs.Session.{out, flags_of, memory_flags, IsPartOfNext}
 use Rattle.proof_server.specs.Counting.{counts_of}
 use Rattle.proof_server.specs.Generating.{AreCounts}
 use Rattle.proof_server.specs.declared.counts.Counts.{Counts}

@@ -12,8 +12,8 @@ use Rattle.operation_laws.specs.Values.{Value}
 use Rattle.operation_laws.specs.Given.{or_else}
 use Rattle.operations.specs.Means.{sense, Fits}
 use Rattle.operations.specs.declared.held.Held.{Held}
-use Rattle.proof_server.specs.Jobs.{Past}
-use Rattle.proof_server.specs.Answers.{name_of, run_line, named_value, held_of, value_in}
+use Rattle.session_laws.specs.Jobs.{Past}
+use Rattle.session_laws.specs.Answers.{name_of, run_line, named_value, held_of, value_in}
 use Rattle.proof_server.specs.Means.{Knows}
 use Rattle.proof_server.specs.declared.names.Names.{Names}
 

@@ -4,10 +4,7 @@ pub mod Taken
 pub mod Concluding
 pub mod LongLines
 pub mod Midway
-pub mod ReplyLines
 pub mod Turns
-pub mod Claiming
-pub mod Flags
 pub mod Endings
 pub mod GeneratedLines
 pub mod GeneratedRuns

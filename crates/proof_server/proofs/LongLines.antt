@@ -4,8 +4,8 @@ use Rattle.std.specs.Prelude.{Option, Some, None, option_map}
 use Rattle.reply_lines.specs.declared.replies.Outcome.TheVariants.{LineTooLong}
 use Rattle.operation_laws.specs.Values.{Value}
 use Rattle.operation_laws.specs.Given.{or_else}
-use Rattle.proof_server.specs.Jobs.{Past, max_line}
-use Rattle.proof_server.specs.Answers.{Run, name_of, named_value, run_line, held_of, may_lack, outcome_in, value_in}
+use Rattle.session_laws.specs.Jobs.{Past, max_line}
+use Rattle.session_laws.specs.Answers.{Run, name_of, named_value, run_line, held_of, may_lack, outcome_in, value_in}
 use Rattle.proof_server.specs.Means.{IsStore}
 use Rattle.proof_server.specs.Shown.{job_of, IsAnswered}
 use Rattle.proof_server.specs.declared.store.Store.{Store}

@@ -11,8 +11,8 @@ use Rattle.operation_laws.specs.Given.{base_name, names_in}
 use Rattle.operations.specs.Means.{sense, Fits}
 use Rattle.operations.specs.declared.held.Held.{Held}
 use Rattle.operations.specs.declared.held.Held.TheVariants.{Unknown}
-use Rattle.proof_server.specs.Jobs.{Past}
-use Rattle.proof_server.specs.Answers.{values_for, held_of}
+use Rattle.session_laws.specs.Jobs.{Past}
+use Rattle.session_laws.specs.Answers.{values_for, held_of}
 use Rattle.proof_server.specs.Means.{value_named, Knows}
 use Rattle.proof_server.specs.declared.names.Names.{Names}
 use Rattle.proof_server.proofs.Learned.{IsMeant}

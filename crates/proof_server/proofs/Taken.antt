@@ -4,7 +4,7 @@ use Rattle.std.specs.Prelude.{Some, if◌then◌else◌}
 use Rattle.proof_graph.specs.declared.graph.Graph.{Graph}
 use Rattle.job_lang.specs.declared.jobs.Op.{Op}
 use Rattle.operation_laws.specs.Running.{run}
-use Rattle.proof_server.specs.Answers.{name_taken, faulty, answered, Lookup, values_for, is_taken, run_read}
+use Rattle.session_laws.specs.Answers.{name_taken, faulty, answered, Lookup, values_for, is_taken, run_read}
 use Rattle.proof_server.specs.Shown.{IsConcluded}
 use Rattle.proof_server.specs.declared.store.Conclusion.{Conclusion}
 

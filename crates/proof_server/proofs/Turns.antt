@@ -3,11 +3,11 @@ use Rattle.std.proofs.Common.{◌≡◌, ℕ, ◌+◌, ◌<◌, ◌≤◌, ◌&&
 use Rattle.std.specs.Prelude.{Option, Some}
 use Rattle.std.specs.Io.KnownBytes.{Appends}
 use Rattle.std.proofs.lemmas.Bool.Decides.{nat_tests}
-use Rattle.proof_server.specs.Jobs.{Past, IsKept, max_line, in_order, is_job, jobs}
-use Rattle.proof_server.specs.Replying.{reply_line, is_ok_reply}
-use Rattle.proof_server.specs.Session.{out, all_ok, IsPartOfReply, IsPartOfNext}
+use Rattle.session_laws.specs.Jobs.{Past, IsKept, max_line, in_order, is_job, jobs}
+use Rattle.session_laws.specs.Replying.{reply_line, is_ok_reply}
+use Rattle.session_laws.specs.Session.{out, all_ok, IsPartOfReply, IsPartOfNext}
 use Rattle.operation_laws.specs.Answers.{refused, failed, lacking, product}
-use Rattle.proof_server.specs.Answers.{Run, faulty, answered as answered_by, IsLawful, may_lack, run_line, held_of}
+use Rattle.session_laws.specs.Answers.{Run, faulty, answered as answered_by, IsLawful, may_lack, run_line, held_of}
 use Rattle.proof_server.specs.Means.{IsStore}
 use Rattle.proof_server.specs.Shown.{job_of}
 use Rattle.proof_server.specs.Turn.{IsBehind, IsTaken, IsTakenInPart}

@@ -4,7 +4,7 @@ use Rattle.command_words.specs.declared.reading.Settings.{Settings}
 use Rattle.command_words.specs.Words.{settings_of}
 use Rattle.std.specs.Io.KnownBytes.{Appends}
 use Rattle.edge_io.specs.Causes.{Rose}
-use Rattle.proof_server.specs.Jobs.{max_input}
+use Rattle.session_laws.specs.Jobs.{max_input}
 use Rattle.proof_server.specs.Ending.{Ends, status_of}
 use Rattle.proof_server.specs.declared.ending.Ended.{Ended}
 

@@ -6,9 +6,9 @@ use Rattle.exp_tree.specs.Sizes.{capped}
 use Rattle.serde_json.specs.Data.{Data, object, member, no_members}
 use Rattle.serde_json.specs.Written.{compact_text}
 use Rattle.reply_lines.specs.Replies.{count_data}
-use Rattle.proof_server.specs.Jobs.{Past}
-use Rattle.proof_server.specs.Replying.{is_ok_reply, reductions_shown}
-use Rattle.proof_server.specs.Session.{out}
+use Rattle.session_laws.specs.Jobs.{Past}
+use Rattle.session_laws.specs.Replying.{is_ok_reply, reductions_shown}
+use Rattle.session_laws.specs.Session.{out}
 use Rattle.proof_server.specs.declared.counts.Counts.{Counts}
 
 -- how many of the replies are no error

@@ -3,7 +3,7 @@ use Rattle.std.specs.Prelude.{◌≡◌, ℕ, ◌+◌, ◌≤◌, ◌⊎◌, Boo
 use Rattle.std.specs.Io.KnownBytes.{Consumes, Appends, IsAtEnd}
 use Rattle.edge_io.specs.Causes.{Rose}
 use Rattle.edge_io.specs.Lines.{lines_of, whole_lines}
-use Rattle.proof_server.specs.Session.{Replies, RepliesInPart, all_ok}
+use Rattle.session_laws.specs.Session.{Replies, RepliesInPart, all_ok}
 use Rattle.proof_server.specs.declared.ending.Ended.{Ended}
 use Rattle.proof_server.specs.declared.ending.Ended.TheVariants.{Done, ReadFault, WriteFault, Memory, InputFull}
 

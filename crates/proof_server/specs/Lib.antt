@@ -1,10 +1,5 @@
-pub mod Jobs
-pub mod Answers
-pub mod Claimed
-pub mod Replying
 pub mod Means
 pub mod Shown
-pub mod Session
 pub mod Ending
 pub mod Turn
 pub mod Counting

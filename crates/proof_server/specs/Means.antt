@@ -7,8 +7,8 @@ use Rattle.cut_elim.specs.Desks.{bench_of, IsDeskPassOf}
 use Rattle.operations.specs.declared.held.Held.{Held}
 use Rattle.operations.specs.declared.held.Held.TheVariants.{Unknown}
 use Rattle.operations.specs.Means.{sense, Fits}
-use Rattle.proof_server.specs.Jobs.{Past}
-use Rattle.proof_server.specs.Answers.{held_of}
+use Rattle.session_laws.specs.Jobs.{Past}
+use Rattle.session_laws.specs.Answers.{held_of}
 use Rattle.proof_server.specs.declared.names.Names.{Names}
 use Rattle.proof_server.specs.declared.store.Store.{Store}
 

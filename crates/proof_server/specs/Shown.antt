@@ -1,19 +1,16 @@
 -- What the program's answer to a job is, and its reply line, for a job that comes after others.
 use Rattle.std.specs.Prelude.{◌≡◌, ℕ, List, ◌∷◌, Bool, Some}
 use Rattle.proof_graph.specs.declared.graph.Graph.{Graph}
-use Rattle.proof_server.specs.Jobs.{Past}
+pub use Rattle.session_laws.specs.Jobs.{job_of}
+use Rattle.session_laws.specs.Jobs.{Past}
 use Rattle.operations.specs.Means.{sense, Fits}
-use Rattle.proof_server.specs.Answers.{Run, outcome_in, value_in, name_of, held_of, run_line, outcome_of, may_lack}
-use Rattle.proof_server.specs.Replying.{reply_line, is_ok_reply, reductions_shown}
+use Rattle.session_laws.specs.Answers.{Run, outcome_in, value_in, name_of, held_of, run_line, outcome_of, may_lack}
+use Rattle.session_laws.specs.Replying.{reply_line, is_ok_reply, reductions_shown}
 use Rattle.proof_server.specs.Means.{IsStore}
 use Rattle.proof_server.specs.declared.store.Store.{Store}
 use Rattle.proof_server.specs.declared.store.Conclusion.{Conclusion}
 use Rattle.proof_server.specs.declared.reply.Shown.{Shown}
 use Rattle.proof_server.specs.declared.reply.ReplyLine.{ReplyLine}
-
--- a line as a job
-abbrev pub job_of : List ℕ → Bool → Past
-job_of line lacked = record { line = line; lacked = lacked }
 
 -- what came of a run, with what the job holds
 pub record IsConcluded (g : Graph) (c : Conclusion) (r : Run) : Type 0 where

@@ -2,10 +2,10 @@
 use Rattle.std.specs.Prelude.{◌≡◌, ℕ, ◌+◌, ◌≤◌, ◌⊎◌, List, [], ◌∷◌, ◌++◌, length, Option, Result, Ok, Err}
 use Rattle.std.specs.Io.KnownBytes.{Appends}
 use Rattle.edge_io.specs.Causes.{Rose}
-use Rattle.proof_server.specs.Jobs.{Past, in_order, jobs}
-use Rattle.proof_server.specs.Answers.{IsLawful}
+use Rattle.session_laws.specs.Jobs.{Past, in_order, jobs}
+use Rattle.session_laws.specs.Answers.{IsLawful}
 use Rattle.proof_server.specs.Means.{IsStore}
-use Rattle.proof_server.specs.Session.{out, all_ok, IsPartOfNext}
+use Rattle.session_laws.specs.Session.{out, all_ok, IsPartOfNext}
 use Rattle.proof_server.specs.declared.session.Session.{Session}
 use Rattle.proof_server.specs.declared.session.Stop.{Stop}
 use Rattle.proof_server.specs.declared.session.Stop.TheVariants.{WriteFault, Memory}

@@ -2,7 +2,7 @@
 ghost use Rattle.std.specs.Prelude.{◌≡◌, [], ◌∷◌, ℕ, List, IfOk};
 ghost use Rattle.serde_json.specs.View.{view};
 ghost use Rattle.proof_server.specs.declared.store.Store.{Store as StoreMeaning};
-ghost use Rattle.proof_server.specs.Jobs.{Past};
+ghost use Rattle.session_laws.specs.Jobs.{Past};
 ghost use Rattle.proof_server.specs.Shown.{job_of, IsReply};
 ghost use Rattle.proof_server.specs.Counting.{counts_of, counts_data, counts_line as line_of_counts};
 

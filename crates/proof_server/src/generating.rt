@@ -1,7 +1,7 @@
 //! A run over generated jobs: their replies are counted, and nothing else is written.
 ghost use Rattle.std.specs.Prelude.{◌≡◌, ◌+◌, ◌<◌, ◌^◌, ◌∷◌, ◌++◌, [], List, ℕ, IfOk, length, false};
 ghost use Rattle.job_gen.specs.Generated.{generated_line};
-ghost use Rattle.proof_server.specs.Jobs.{Past};
+ghost use Rattle.session_laws.specs.Jobs.{Past};
 ghost use Rattle.proof_server.specs.Means.{HasPass, IsStore, IsSomeStore};
 ghost use Rattle.proof_server.specs.Shown.{IsReply};
 ghost use Rattle.proof_server.specs.Counting.{counts_line as line_of_counts};
@@ -9,12 +9,12 @@ ghost use Rattle.proof_server.specs.Generating.{AreCounts, EndsCounting};
 
 use crate::counts::{Counts, counts_line};
 use crate::ending::Ended;
-use crate::laws::{held_proofs, replies};
 use crate::reply::{ReplyLine, reply_to};
 use crate::store::Store;
 use edge_io::{Sink, write_whole};
 use job_gen::generate_line;
 use job_gen::laws::lines;
+use session_laws::laws::{held_proofs, replies};
 use std::alloc::{AllocError, Global};
 use std::sync::Wait;
 use std::thread::Threads;

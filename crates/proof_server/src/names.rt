@@ -4,8 +4,8 @@ ghost use Rattle.std.specs.HashMap.{get_by_text};
 ghost use Rattle.proof_graph.specs.declared.graph.Graph.{Graph};
 ghost use Rattle.operations.specs.declared.held.Held.TheVariants.{Unknown};
 ghost use Rattle.operations.specs.Means.{sense, Fits};
-ghost use Rattle.proof_server.specs.Jobs.{Past};
-ghost use Rattle.proof_server.specs.Answers.{name_of, run_line, held_of, value_in, is_taken as is_taken_by};
+ghost use Rattle.session_laws.specs.Jobs.{Past};
+ghost use Rattle.session_laws.specs.Answers.{name_of, run_line, held_of, value_in, is_taken as is_taken_by};
 ghost use Rattle.proof_server.specs.Means.{value_named, Knows};
 
 use operations::Held;

@@ -2,10 +2,10 @@
 ghost use Rattle.std.specs.Prelude.{◌≡◌, ◌+◌, ◌<◌, ◌^◌, ◌∷◌, List, ℕ, IfOk, OnOk, length, false, option_copied, Some, Ok};
 ghost use Rattle.job_lang.specs.FormedOps.{IsFormedOp};
 ghost use Rattle.operations.specs.Means.{sense, Fits};
-ghost use Rattle.proof_server.specs.Jobs.{Past, IsKept, is_too_long};
-ghost use Rattle.proof_server.specs.Answers.{name_of, run_read, run_line, held_of, value_in};
+ghost use Rattle.session_laws.specs.Jobs.{Past, IsKept, is_too_long};
+ghost use Rattle.session_laws.specs.Answers.{name_of, run_read, run_line, held_of, value_in};
 ghost use Rattle.proof_server.specs.Means.{graph_in, HasPass, IsStore, IsSomeStore};
-ghost use Rattle.proof_server.specs.Replying.{reductions_in};
+ghost use Rattle.session_laws.specs.Replying.{reductions_in};
 ghost use Rattle.proof_server.specs.Shown.{IsConcluded, IsAnswered, IsReply};
 
 use crate::store::{Conclusion, Store, refusal};

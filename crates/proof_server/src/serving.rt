@@ -1,14 +1,14 @@
 ghost use Rattle.std.specs.Prelude.{◌≡◌, ◌+◌, ◌<◌, ◌≤◌, ◌^◌, List, [], ℕ, IfOk, length, false};
 ghost use Rattle.proof_server.specs.Ending.{Ends};
 ghost use Rattle.std.specs.Io.KnownBytes.{Keeps};
-ghost use Rattle.proof_server.specs.Jobs.{max_input};
+ghost use Rattle.session_laws.specs.Jobs.{max_input};
 ghost use Rattle.proof_server.specs.Means.{HasPass};
 ghost use Rattle.proof_server.specs.Turn.{ended_of, Finishes, IsBehind};
 
 use crate::ending::Ended;
-use crate::laws::{held_proofs, replies};
 use crate::session::{Session, Stop};
 use edge_io::{LineReader, Next, Sink, Source, next_line};
+use session_laws::laws::{held_proofs, replies};
 use std::alloc::Global;
 use std::sync::Wait;
 use std::thread::Threads;

@@ -1,7 +1,7 @@
 ghost use Rattle.std.specs.Prelude.{◌≡◌, ◌+◌, ◌<◌, ◌≤◌, ◌^◌, List, [], ℕ, IfOk, OnOk, length, IsTrue, false};
 ghost use Rattle.std.specs.List.{list_all};
 ghost use Rattle.std.specs.Option.{option_copied};
-ghost use Rattle.proof_server.specs.Jobs.{Past, IsKept, is_blank as is_blank_of, is_job};
+ghost use Rattle.session_laws.specs.Jobs.{Past, IsKept, is_blank as is_blank_of, is_job};
 ghost use Rattle.proof_server.specs.Means.{HasPass, IsSomeStore};
 ghost use Rattle.proof_server.specs.Turn.{IsBehind, Takes};
 

@@ -6,8 +6,8 @@ ghost use Rattle.operation_laws.specs.Answers.{Answer};
 ghost use Rattle.operation_laws.specs.Given.{names_in, base_name as base_of};
 ghost use Rattle.operation_laws.specs.Running.{run as run_of};
 ghost use Rattle.operations.specs.Means.{Fits, IsAnswerOf};
-ghost use Rattle.proof_server.specs.Jobs.{Past};
-ghost use Rattle.proof_server.specs.Answers.{JobFault, faulty, answered, shown_fault, values_for, held_of};
+ghost use Rattle.session_laws.specs.Jobs.{Past};
+ghost use Rattle.session_laws.specs.Answers.{JobFault, faulty, answered, shown_fault, values_for, held_of};
 ghost use Rattle.proof_server.specs.Means.{value_named, graph_in, HasPass, IsStore, IsSomeStore};
 ghost use Rattle.proof_server.specs.Shown.{IsConcluded};
 

@@ -1,7 +1,7 @@
 use Rattle.std.proofs.Common.{List, sym, ap, ◌∙◌}
-use Rattle.proof_server.specs.Jobs.{Past}
+use Rattle.session_laws.specs.Jobs.{Past}
 use Rattle.proof_server.specs.Counting.{counts_of}
-use Rattle.proof_server.proofs.Flags.{same_ample}
+use Rattle.session_laws.proofs.Flags.{same_ample}
 use Rattle.proof_server.proofs.laws.generated_counts.Goals as goal
 
 pub returns : goal.returns

@@ -1,6 +1,6 @@
 use Rattle.std.proofs.Common.{ℕ, List, Bor, subst}
 use Rattle.std.specs.Prelude.{Option, option_copied}
-use Rattle.proof_server.specs.Jobs.{IsKept}
+use Rattle.session_laws.specs.Jobs.{IsKept}
 use Rattle.proof_server.proofs.LongLines.{long_answered}
 use Rattle.proof_server.proofs.reply.answer.Goals as goal
 

@@ -1,7 +1,7 @@
 use Rattle.std.proofs.Common.{Err, refl, sym, subst}
 use Rattle.job_lang.specs.declared.jobs.JobError.{JobError}
 use Rattle.job_lang.specs.Jobs.{reads_job, GivesJob}
-use Rattle.proof_server.specs.Answers.{unread, Run, held_of}
+use Rattle.session_laws.specs.Answers.{unread, Run, held_of}
 use Rattle.proof_server.specs.Means.{graph_in}
 use Rattle.proof_server.specs.Shown.{IsConcluded}
 use Rattle.proof_server.proofs.Concluding.{job_named, job_run, fault_named, fault_run}

@@ -1,6 +1,6 @@
 use Rattle.std.proofs.Common.{◌+◌, ap, ◌∙◌}
 use Rattle.reply_lines.specs.Replies.{line_of, is_ok_outcome}
-use Rattle.proof_server.specs.Replying.{reply_line, is_ok_reply, reductions_in, reductions_shown}
+use Rattle.session_laws.specs.Replying.{reply_line, is_ok_reply, reductions_in, reductions_shown}
 use Rattle.proof_server.proofs.reply.reply_to.Goals as goal
 
 pub returns-clause-replies : goal.returns-clause-replies

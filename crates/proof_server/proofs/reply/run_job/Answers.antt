@@ -1,6 +1,6 @@
 use Rattle.std.proofs.Common.{ℕ, List, refl, ap, ◌∙◌}
 use Rattle.std.specs.Prelude.{Some}
-use Rattle.proof_server.specs.Answers.{name_taken, held_of, is_taken}
+use Rattle.session_laws.specs.Answers.{name_taken, held_of, is_taken}
 use Rattle.proof_server.specs.Means.{graph_in}
 use Rattle.proof_server.proofs.Taken.{taken, untaken}
 use Rattle.proof_server.proofs.reply.run_job.Goals as goal

@@ -1,5 +1,5 @@
 use Rattle.edge_io.specs.Reader.{allowance}
-use Rattle.proof_server.specs.Jobs.{max_input}
+use Rattle.session_laws.specs.Jobs.{max_input}
 use Rattle.proof_server.proofs.Midway.{Midway}
 use Rattle.proof_server.proofs.serving.serve_lines.Given as goal
 

@@ -4,7 +4,7 @@ use Rattle.operation_laws.specs.Given.{base_name, names_in}
 use Rattle.operations.specs.Means.{IsAnswerOf}
 use Rattle.operation_laws.specs.Running.{run}
 use Rattle.operations.specs.declared.held.Held.{Held}
-use Rattle.proof_server.specs.Answers.{values_for, held_of}
+use Rattle.session_laws.specs.Answers.{values_for, held_of}
 use Rattle.proof_server.specs.Means.{value_named, graph_in}
 use Rattle.proof_server.proofs.Standing.{values_mean, values_fit}
 use Rattle.proof_server.proofs.store.Store.run.Goals as goal

@@ -4,8 +4,8 @@ use Rattle.reply_lines.specs.declared.replies.Outcome.{Outcome}
 use Rattle.reply_lines.specs.declared.replies.Outcome.TheVariants.{Reduced}
 use Rattle.reply_lines.specs.declared.replies.Reply.{Reply}
 use Rattle.reply_lines.specs.Replies.{line_of, is_ok_outcome}
-use Rattle.proof_server.specs.Jobs.{Past}
-use Rattle.proof_server.specs.Answers.{name_of, outcome_of}
+use Rattle.session_laws.specs.Jobs.{Past}
+use Rattle.session_laws.specs.Answers.{name_of, outcome_of}
 
 -- the reply to a job that comes after these; jobs are numbered from 1
 abbrev pub reply_of : List Past → Past → Reply

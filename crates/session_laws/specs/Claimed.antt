@@ -10,8 +10,8 @@ use Rattle.reply_lines.specs.Replies.{is_ok_outcome}
 use Rattle.operation_laws.specs.Values.{Value, IsSound}
 use Rattle.operation_laws.specs.Answers.{Product, product, proofs_in, shown_product}
 use Rattle.operation_laws.specs.Claims.{Claims}
-use Rattle.proof_server.specs.Jobs.{Past}
-use Rattle.proof_server.specs.Answers.{Lookup, values_for, answered, run_line, held_of, outcome_of}
+use Rattle.session_laws.specs.Jobs.{Past}
+use Rattle.session_laws.specs.Answers.{Lookup, values_for, answered, run_line, held_of, outcome_of}
 
 -- the line asks for an operation, the product is what this claims over the values that its names stand for, and each proof in it is valid
 pub record IsClaimed (lookup : Lookup) (line : List ℕ) (made : Product) : Type 0 where

@@ -30,6 +30,10 @@ pub record Past : Type 0 where
   pub line : List ℕ
   pub lacked : Bool
 
+-- a line as a job
+abbrev pub job_of : List ℕ → Bool → Past
+job_of line lacked = record { line = line; lacked = lacked }
+
 -- the lines of the jobs in the order in which they came: in a list of jobs the newest is first
 abbrev pub in_order : List Past → List (List ℕ)
 in_order [] = []

@@ -10,10 +10,10 @@ use Rattle.edge_io.specs.Lines.{is_newline, OneLine, AreLines}
 use Rattle.edge_io.proofs.LinesLemmas.{lines_nil, lines_more, whole_lines_at}
 use Rattle.operation_laws.specs.Answers.{Answer, shown, with_lack}
 use Rattle.operation_laws.specs.Answers as answers
-use Rattle.proof_server.specs.Jobs.{Past, in_order}
-use Rattle.proof_server.specs.Answers.{too_long, unread, name_taken, Run, faulty, answered, run_line, held_of, outcome_in, may_lack, IsLawful}
-use Rattle.proof_server.specs.Replying.{reply_of, reply_line}
-use Rattle.proof_server.specs.Session.{out, flags_of, memory_flags, Replies, IsPartOfNext}
+use Rattle.session_laws.specs.Jobs.{Past, in_order}
+use Rattle.session_laws.specs.Answers.{too_long, unread, name_taken, Run, faulty, answered, run_line, held_of, outcome_in, may_lack, IsLawful}
+use Rattle.session_laws.specs.Replying.{reply_of, reply_line}
+use Rattle.session_laws.specs.Session.{out, flags_of, memory_flags, Replies, IsPartOfNext}
 
 none_of : OneLine []
 none_of = λ k d within. absurd (omega arith)

@@ -17,9 +17,9 @@ use Rattle.operation_laws.specs.Answers.{Product, Answer, refused, failed, lacki
 use Rattle.operation_laws.specs.Given.{or_else, base_name, names_in}
 use Rattle.operation_laws.specs.Running.{run}
 use Rattle.operation_laws.specs.Claims.{Claims}
-use Rattle.proof_server.specs.Jobs.{Past, is_too_long}
-use Rattle.proof_server.specs.Answers.{too_long, unread, name_taken, Run, faulty, answered, Lookup, values_for, name_of, is_taken, run_read, run_line, outcome_in, value_in, named_value, held_of}
-use Rattle.proof_server.specs.Claimed.{IsClaimed, AreClaimed, HoldsSound}
+use Rattle.session_laws.specs.Jobs.{Past, is_too_long}
+use Rattle.session_laws.specs.Answers.{too_long, unread, name_taken, Run, faulty, answered, Lookup, values_for, name_of, is_taken, run_read, run_line, outcome_in, value_in, named_value, held_of}
+use Rattle.session_laws.specs.Claimed.{IsClaimed, AreClaimed, HoldsSound}
 
 -- a line that is answered is read as an operation, which is run
 read_by : (lookup : Lookup) (name : Option (List ℕ)) (r : Result Op JobCause) (a : Answer) → run_read lookup name r ≡ answered a

@@ -17,7 +17,7 @@ use Rattle.operation_laws.specs.Answers.{Answer, shown, held, with_lack}
 use Rattle.operation_laws.specs.Answers as answers
 use Rattle.operation_laws.specs.Given.{or_else, base_name, names_in}
 use Rattle.operation_laws.specs.Running.{run}
-use Rattle.proof_server.specs.Jobs.{Past, is_too_long}
+use Rattle.session_laws.specs.Jobs.{Past, is_too_long}
 
 -- The line is too long, or isn't a job, or an earlier line has the job's name.
 pub data JobFault : Type 0 where

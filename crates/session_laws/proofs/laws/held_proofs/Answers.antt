@@ -1,6 +1,6 @@
 -- The laws are lemmas, over those of operations and of readings.
-use Rattle.proof_server.proofs.Claiming.{holds_sound, all_claimed}
-use Rattle.proof_server.proofs.laws.held_proofs.Goals as goal
+use Rattle.session_laws.proofs.Claiming.{holds_sound, all_claimed}
+use Rattle.session_laws.proofs.laws.held_proofs.Goals as goal
 
 pub returns-clause-held : goal.returns-clause-held
 returns-clause-held c earlier =

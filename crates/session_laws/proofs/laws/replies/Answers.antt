@@ -1,6 +1,6 @@
-use Rattle.proof_server.specs.Replying.{reply_line, reply_of}
-use Rattle.proof_server.proofs.Flags.{flags_told, one_list}
-use Rattle.proof_server.proofs.laws.replies.Goals as goal
+use Rattle.session_laws.specs.Replying.{reply_line, reply_of}
+use Rattle.session_laws.proofs.Flags.{flags_told, one_list}
+use Rattle.session_laws.proofs.laws.replies.Goals as goal
 
 pub returns-clause-one_line : goal.returns-clause-one_line
 unfolding reply_line

@@ -5,10 +5,10 @@
 use Rattle.std.specs.Prelude.{◌≡◌, ℕ, ◌<◌, ◌&&◌, Bool, true, List, [], ◌∷◌, ◌++◌, length, map}
 use Rattle.edge_io.specs.Lines.{whole_lines}
 use Rattle.reply_lines.specs.OneLine.{reports_want}
-use Rattle.proof_server.specs.Jobs.{Past, in_order, jobs}
-use Rattle.proof_server.specs.Answers.{IsLawful}
-use Rattle.proof_server.specs.Claimed.{AreClaimed}
-use Rattle.proof_server.specs.Replying.{reply_line, is_ok_reply}
+use Rattle.session_laws.specs.Jobs.{Past, in_order, jobs}
+use Rattle.session_laws.specs.Answers.{IsLawful}
+use Rattle.session_laws.specs.Claimed.{AreClaimed}
+use Rattle.session_laws.specs.Replying.{reply_line, is_ok_reply}
 
 -- the reply lines of these jobs, in order
 abbrev pub out : List Past → List ℕ
