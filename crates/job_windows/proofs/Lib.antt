@@ -1,0 +1,10 @@
+pub mod Answered
+pub mod Answering
+pub mod Asking
+pub mod Dues
+pub mod Gathering
+pub mod Learned
+pub mod Lists
+pub mod Merging
+pub mod Named
+pub mod Readings

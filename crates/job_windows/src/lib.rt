@@ -1,0 +1,13 @@
+//! Windows of jobs: lines are gathered as tasks that name earlier ones, run by several workers over one desk, and answered in order.
+#![tactic(auto)]
+
+mod names;
+mod reading;
+mod replying;
+mod runner;
+mod seats;
+mod store;
+
+pub use replying::ReplyLine;
+pub use seats::{Asks, Due, Seat, Window};
+pub use store::Store;

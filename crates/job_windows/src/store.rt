@@ -1,0 +1,216 @@
+//! The store of a session, and running the windows of its jobs.
+ghost use Rattle.std.specs.Prelude.{◌≡◌, ◌+◌, ◌∷◌, ◌++◌, [], ℕ, List, IfOk, OnOk, Some, map, length, Ok, option_copied};
+ghost use Rattle.session_laws.specs.Answers.{Lookup, name_of, run_read, run_line};
+ghost use Rattle.job_lang.specs.FormedOps.{IsFormedOp};
+ghost use Rattle.operation_laws.specs.Given.{names_in, base_name as base_of};
+ghost use Rattle.session_laws.specs.Jobs.{Past, IsKept};
+ghost use Rattle.job_windows.specs.Windows.{needs_at, need_at as need_of_place, need_named, Adds, IsAsked};
+ghost use Rattle.job_windows.specs.Means.{HasPass, AreTasks, AreRunnable, IsStore, IsGathered, IsPending};
+
+use crate::names::Names;
+use crate::reading::{Reading, read};
+use crate::runner::Operations;
+use crate::seats::{Asks, Due, Seat, Window, dues};
+use cut_elim::{Desk, DeskPass};
+use job_lang::{Job, Op};
+use job_words::Name;
+use job_workers::{Gate, Need, Task, run_window};
+use operations::{Held, base_name, name_at};
+use reply_lines::Outcome;
+use std::alloc::{AllocError, Global};
+use std::sync::Wait;
+use std::thread::Threads;
+use text_tables::FormulaTexts;
+
+/// The proofs of a session: the desk with the graph that they share, the names of jobs, and what each job holds, in their order. It can't be
+/// dropped, and is ended by `close`.
+pub struct Store {
+    pub desk: Desk,
+    pub pass: DeskPass,
+    pub names: Names,
+    pub held: Vec<Held>,
+}
+
+impl Store {
+    /// A store with no proof and no name.
+    pub fn new(alloc: Global) -> Result<Store, AllocError>
+        ensures { IfOk result (λ store. IsStore store []) }
+    {
+        let (desk, pass) = Desk::new(alloc)?;
+        Ok(Store {
+            desk,
+            pass,
+            names: Names::new(alloc),
+            held: Vec::new(alloc),
+        })
+    }
+
+    /// Ends the store with its desk.
+    pub fn close<R: Wait>(self, rt: &R)
+        requires { HasPass self }
+    {
+        let Store {
+            desk,
+            pass,
+            names: _names,
+            held: _held,
+        } = self;
+        desk.close(rt, pass);
+    }
+
+    // What stands for the job at a place: what it holds, or its task in the window.
+    fn need_at(
+        &self,
+        alloc: Global,
+        window: &Window,
+        place: usize,
+    ) -> Result<Need<Held>, AllocError>
+        ensures { IfOk result (λ need. need ≡ need_of_place (needs_at self.now.held.items window.now.seats.items) (Some place)) }
+    {
+        if place < self.held.len() {
+            return Ok(Need::Value(self.held[place].copy(alloc)?));
+        }
+        match window.seats.get(place - self.held.len()) {
+            Some(seat) => Ok(seat.asks.need()),
+            None => Ok(Need::Value(Held::Unknown)),
+        }
+    }
+
+    // What stands for a name.
+    fn need(&self, alloc: Global, window: &Window, name: &str) -> Result<Need<Held>, AllocError>
+        ensures { IfOk result (λ need. need ≡ need_named self.now.names (needs_at self.now.held.items window.now.seats.items) name.now) }
+    {
+        match self.names.place(name) {
+            Some(place) => self.need_at(alloc, window, place),
+            None => Ok(Need::Value(Held::Unknown)),
+        }
+    }
+
+    // What an operation is given for the names in it, in the order in which its fields are read.
+    fn needs(&self, alloc: Global, window: &Window, op: &Op) -> Result<Vec<Need<Held>>, AllocError>
+        ensures { IfOk result (λ needs. needs.items
+            ≡ map (λ text. need_named self.now.names (needs_at self.now.held.items window.now.seats.items) (base_of text)) (names_in op.now)) }
+    {
+        let mut needs = Vec::new(alloc);
+        'names: while let Some(name) = name_at(op, needs.len()) {
+            needs.push(self.need(alloc, window, base_name(name))?)?;
+        }
+        Ok(needs)
+    }
+
+    // What a job with this name asks for by an operation: a task of the window, if the name is its own.
+    fn ask(
+        &self,
+        alloc: Global,
+        window: &mut Window,
+        name: &Name,
+        op: Op,
+    ) -> Result<Asks, AllocError>
+        ensures asked { (line : List ℕ) → Some name.now ≡ name_of line
+            → ((lookup : Lookup) → run_line lookup line ≡ run_read lookup (name_of line) (Ok op))
+            → IfOk result (λ asks. IsAsked self.now.names self.now.held.items window.old.seats.items window.new.tasks.items line asks) }
+        ensures seats { window.new.seats ≡ window.old.seats }
+        ensures adds { IfOk result (λ asks. Adds window.old.tasks.items window.new.tasks.items asks) }
+        ensures runs { AreRunnable self.now.desk self.now.held.items window.old.seats.items window.old.tasks.items → IsFormedOp op
+            → OnOk result (AreTasks self.now.desk window.new.tasks.items) }
+    {
+        if self.names.is_taken(name.as_str()) {
+            return Ok(Asks::Refused(Outcome::NameTaken));
+        }
+        let place = window.tasks.len() as u64;
+        let n = (self.held.len() + window.seats.len()) as u64 + 1;
+        let needs = self.needs(alloc, window, &op)?;
+        window.tasks.push(Task { n, job: op, needs })?;
+        Ok(Asks::Run(place))
+    }
+
+    // What a line asks for, as a seat of the window.
+    fn seat(
+        &self,
+        alloc: Global,
+        texts: &mut FormulaTexts,
+        window: &mut Window,
+        line: Option<&[u8]>,
+    ) -> Result<Seat, AllocError>
+        requires kept { (text : List ℕ) × IsKept (option_copied line) text }
+        ensures named { (text : List ℕ) → IsKept (option_copied line.entry) text → IfOk result (λ seat. seat.name ≡ name_of text) }
+        ensures asked { (text : List ℕ) → IsKept (option_copied line.entry) text
+            → IfOk result (λ seat. IsAsked self.now.names self.now.held.items window.old.seats.items window.new.tasks.items text seat.asks) }
+        ensures seats { window.new.seats ≡ window.old.seats }
+        ensures adds { IfOk result (λ seat. Adds window.old.tasks.items window.new.tasks.items seat.asks) }
+        ensures runs { AreRunnable self.now.desk self.now.held.items window.old.seats.items window.old.tasks.items
+            → OnOk result (AreTasks self.now.desk window.new.tasks.items) }
+    {
+        match read(alloc, texts, line)? {
+            Reading::Job(Job { name, op }) => {
+                let asks = self.ask(alloc, window, &name, op)?;
+                Ok(Seat {
+                    name: Some(name),
+                    asks,
+                })
+            }
+            Reading::Refused(name, outcome) => Ok(Seat {
+                name,
+                asks: Asks::Refused(outcome),
+            }),
+        }
+    }
+
+    /// Gathers the job of one more line into the window. A line that is too long is `None`.
+    pub fn gather(
+        &mut self,
+        alloc: Global,
+        texts: &mut FormulaTexts,
+        window: &mut Window,
+        line: Option<&[u8]>,
+    ) -> Result<(), AllocError>
+        requires kept { (text : List ℕ) × IsKept (option_copied line) text }
+        ensures gathered { (earlier : List Past) (lines : List (List ℕ)) (text : List ℕ) → IsGathered self.old window.old earlier lines
+            → IsKept (option_copied line.entry) text
+            → OnOk result (IsGathered self.new window.new earlier (lines ++ text ∷ [])) }
+        ensures seats { OnOk result (length window.new.seats.items ≡ length window.old.seats.items + 1) }
+        ensures pass { HasPass self.old → HasPass self.new }
+    {
+        let place = self.held.len() + window.seats.len();
+        let seat = self.seat(alloc, texts, window, line)?;
+        self.names.learn(alloc, seat.name.as_ref(), place)?;
+        window.seats.push(seat)?;
+        Ok(())
+    }
+
+    /// Runs the jobs of a window by so many workers at most, and answers what is due for each, in their order. All that the window needs
+    /// beside its jobs is allocated before the first of them is run.
+    pub fn run<R: Wait + Threads + Sync, G: Gate>(
+        &mut self,
+        rt: &R,
+        alloc: Global,
+        window: Window,
+        workers: u64,
+        gate: &G,
+    ) -> Result<Vec<Due>, AllocError>
+        requires { (earlier : List Past) × (lines : List (List ℕ)) × IsGathered self.old window earlier lines }
+        ensures due { (earlier : List Past) (lines : List (List ℕ)) → IsGathered self.old window earlier lines
+            → IfOk result (λ dues. IsPending self.new earlier lines dues.items) }
+        ensures length { IfOk result (λ dues. length dues.items ≡ length window.seats.items) }
+        ensures pass { HasPass self.new }
+    {
+        let Window { seats, tasks } = window;
+        let room = Vec::with_capacity(alloc, seats.len())?;
+        self.held.reserve(seats.len())?;
+        let operations = Operations {
+            desk: &self.desk,
+            alloc,
+        };
+        let answers = run_window(rt, alloc, &operations, &mut self.pass, tasks, workers, gate)?;
+        Ok(dues(seats, answers, room))
+    }
+
+    /// Keeps what a job holds that was due, for later ones.
+    pub fn keep(&mut self, held: Held) -> Result<(), AllocError>
+        ensures kept { OnOk result (self.new.held.items ≡ self.old.held.items ++ held ∷ []) }
+        ensures same { (self.new.desk ≡ self.old.desk) × (self.new.pass ≡ self.old.pass) × (self.new.names ≡ self.old.names) }
+    {
+        self.held.push(held)?;
+        Ok(())
+    }
+}
