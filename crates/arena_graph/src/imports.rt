@@ -16,8 +16,8 @@ use lk_rules::Sequent;
 use proof_graph::{Graph, ProofRef};
 use std::alloc::{AllocError, Global};
 
-// The formulas of a sequent are well formed.
-fn see_formed(end: &Sequent)
+/// The formulas of a sequent are well formed.
+pub fn see_formed(end: &Sequent)
     ensures { IsFormedSequent end.now }
 {
     let _left = end.left();

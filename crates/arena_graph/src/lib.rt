@@ -10,5 +10,5 @@ mod proof_numbers;
 mod ranks;
 
 pub use exports::export_proof;
-pub use imports::import_proof;
+pub use imports::{import_proof, see_formed};
 pub use proof_numbers::ProofNumbers;

@@ -1,12 +1,18 @@
 -- The parts of a desk, and which passes belong to it.
-use Rattle.proof_subst.specs.declared.bench.Bench.{Bench}
-use Rattle.proof_subst.specs.declared.bench.BenchPass.{BenchPass}
-use Rattle.std.specs.Prelude.{List}
+use Rattle.std.specs.Prelude.{ℕ, List}
+use Rattle.std.specs.Ordering.{nat_cmp}
+use Rattle.turn_log.specs.Passes.{seen}
+use Rattle.memo_table.specs.declared.rows.Pair.{Pair}
+use Rattle.memo_table.specs.Pairs.{IsIn}
+use Rattle.memo_table.specs.Memos as memo
 use Rattle.proof_graph.specs.References.{Reference}
 use Rattle.proof_graph.specs.Graphs.{history}
+use Rattle.proof_subst.specs.declared.bench.Bench.{Bench}
+use Rattle.proof_subst.specs.declared.bench.BenchPass.{BenchPass}
 use Rattle.proof_subst.specs.Benches.{pass_in as graph_pass_in, IsBenchPassOf}
 use Rattle.cut_elim.specs.declared.desk.Desk.{Desk}
 use Rattle.cut_elim.specs.declared.desk.DeskPass.{DeskPass}
+use Rattle.cut_elim.specs.declared.known.Elimination.{Elimination}
 
 -- the bench of a desk
 abbrev pub bench_of : Desk → Bench
@@ -16,10 +22,19 @@ bench_of d = d.bench
 abbrev pub pass_in : DeskPass → BenchPass
 pass_in p = p.bench
 
--- the pass is of the desk's bench
-abbrev pub IsDeskPassOf : Desk → DeskPass → Type 0
-IsDeskPassOf d p = IsBenchPassOf (bench_of d) (pass_in p)
-
 -- the history of the graph that the pass has seen
 abbrev pub history_in : DeskPass → List Reference
 history_in p = history (graph_pass_in (pass_in p))
+
+-- the eliminations that the pass has seen in the desk's table, the oldest first
+abbrev pub eliminations_in : DeskPass → List (Pair ℕ Elimination)
+eliminations_in p = seen p.eliminations
+
+-- the proof with the number stands there as a key
+abbrev pub HasElimination : DeskPass → ℕ → Type 0
+HasElimination p n = IsIn nat_cmp (eliminations_in p) n
+
+-- the pass is of the desk's bench and of its table
+pub record IsDeskPassOf (d : Desk) (p : DeskPass) : Type 0 where
+  pub bench : IsBenchPassOf (bench_of d) (pass_in p)
+  pub eliminations : memo.IsPassOf d.eliminations p.eliminations

@@ -3,8 +3,11 @@
 #![tactic(auto)]
 
 mod desk;
-mod elimination;
+mod eliminating;
+mod forking;
+mod known;
 
 pub use arena_cuts::ElimFault;
 pub use desk::{Desk, DeskPass};
-pub use elimination::{Reduced, eliminate};
+pub use eliminating::eliminate;
+pub use known::{Elimination, Eliminations, Reduced};

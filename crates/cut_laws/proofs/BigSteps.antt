@@ -65,7 +65,7 @@ module _ (q : Rule) (s : Sequent) (front : Trees) (n : ℕ) where
       ∙ ap (counted p.1) (others p.0 (n - p.1) (joined_free front p.0 clean h))
       ∙ regrouped p.1 p.0 (elimination_all ts (n - p.1))
 
-below_front : (q : Rule) (s : Sequent) (front ts : Trees) (n : ℕ) → cut_free_all front ≡ true
+pub below_front : (q : Rule) (s : Sequent) (front ts : Trees) (n : ℕ) → cut_free_all front ≡ true
     → elimination (node q s (joined front ts)) n ≡ given (elimination_all ts n) (put_below q s front n)
 below_front q s front none n clean =
     sym (counted_zero (elimination (node q s (joined front none)) (n - 0)) ∙ ap (elimination (node q s (joined front none))) (minus_zero n))

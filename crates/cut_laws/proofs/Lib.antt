@@ -13,6 +13,7 @@ pub mod Unrolled
 pub mod Places
 pub mod BigSteps
 pub mod LessBudget
+pub mod Forks
 pub mod Reached
 pub mod Kept
 pub mod Falling

@@ -37,6 +37,12 @@ abbrev pub elimination_all : Trees → ℕ → Option (Trees × ℕ)
 elimination_all none n = Some (none, 0)
 elimination_all (more t ts) n = given (elimination t n) (λ u i. counted i (in_front u (elimination_all ts (n - i))))
 
+-- what was made of two trees apart, each within the whole budget n, where the replacements in both are at most n together
+abbrev pub forked : ℕ → Option (Tree × ℕ) → Option (Tree × ℕ) → Option (Trees × ℕ)
+forked n None o = None
+forked n (Some p) None = None
+forked n (Some p) (Some q) = if nat_lt n (p.1 + q.1) then None else Some (more p.0 (more q.0 none), p.1 + q.1)
+
 -- an inference over what was made of its premises
 abbrev pub rooted : Rule → Sequent → Option (Trees × ℕ) → Option (Tree × ℕ)
 rooted q s None = None

@@ -9,7 +9,7 @@ ghost use Rattle.cut_laws.specs.declared.case.Case.TheVariants.{Reduce};
 ghost use Rattle.cut_laws.specs.Contraction.{cut, case_of, con};
 ghost use Rattle.cut_laws.specs.LowerCuts.{HasCutsBelow};
 ghost use Rattle.cut_laws.specs.Elimination.{elimination, Reaches};
-ghost use Rattle.cut_laws.specs.Budgets.{given, counted, within, contracted, elimination_all, rooted, work, work_all};
+ghost use Rattle.cut_laws.specs.Budgets.{given, counted, within, contracted, elimination_all, forked, rooted, work, work_all};
 
 /// The contraction of a valid cut is a valid tree with the same conclusion.
 pub fn contraction()
@@ -28,6 +28,13 @@ pub fn reductions()
 pub fn big_steps()
     ensures cut { (s : Conclusion) (a : Formula) (l r : Proof) (n : ℕ) → elimination (cut s a l r) n ≡ given (elimination l n) (λ u i. counted i (given (elimination r (n - i)) (λ v j. counted j (contracted s a u v (n - i - j))))) }
     ensures other { (q : Inference) (s : Conclusion) (ts : Trees) (n : ℕ) → is_cut q ≡ false → elimination (node q s ts) n ≡ rooted q s (elimination_all ts n) }
+{}
+
+/// Two trees may be worked on apart, each with the whole budget. After the replacements in the premises of an inference it goes on from the
+/// inference over what they have become.
+pub fn forks()
+    ensures both { (l r : Proof) (n : ℕ) → elimination_all (more l (more r none)) n ≡ forked n (elimination l n) (elimination r n) }
+    ensures premises_first { (q : Inference) (s : Conclusion) (ts : Trees) (n : ℕ) → elimination (node q s ts) n ≡ given (elimination_all ts n) (λ us k. counted k (elimination (node q s us) (n - k))) }
 {}
 
 /// A smaller budget gives the same where it suffices. What is known within one budget is known within each.

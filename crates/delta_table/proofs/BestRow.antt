@@ -1,5 +1,5 @@
 -- The candidate that is found is the best one.
-use Rattle.std.proofs.Common.{◌≡◌, ℕ, ◌+◌, ◌*◌, ◌≤◌, Bool, true, false, ◌==◌, if◌then◌else◌, List, [], ◌∷◌, ◌++◌, map, length, sum, Option, refl, sym, ap, subst, ◌∙◌, arith}
+use Rattle.std.proofs.Common.{◌≡◌, ℕ, ◌+◌, ◌*◌, ◌≤◌, Bool, true, false, ◌==◌, if◌then◌else◌, List, [], ◌∷◌, ◌++◌, map, length, sum, refl, sym, ap, subst, ◌∙◌, arith}
 use Rattle.std.specs.List.{All, Contains, list_any, sum_by}
 use Rattle.std.specs.Ordering.{eq_by_cmp}
 use Rattle.std.specs.List.Sorted.{IsStrictlySortedBy}
@@ -17,14 +17,13 @@ use Rattle.herbrand_laws.specs.Patterns.{TermSet, Row}
 use Rattle.herbrand_laws.specs.Candidates.{rows_of, occurring, patterns, rest, cost, candidate_cmp, least, best}
 use Rattle.herbrand_laws.proofs.Lists.{from_any}
 use Rattle.herbrand_laws.proofs.Least.{candidates_total, candidates_tie, least_same}
-use Rattle.delta_table.specs.declared.founds.Found.{Found}
 use Rattle.delta_table.specs.Items.{IsItem, counted, counted_tuples}
-use Rattle.delta_table.specs.FoundRows.{founds, tally_of, values_in, all_values, tables_of}
-use Rattle.delta_table.specs.ValueOrder.{values_cmp, values_total, by_cost}
-use Rattle.delta_table.specs.Chosen.{zipped, share, made_cost, made_patterns, made_rest, rest_item, candidate_of}
+use Rattle.delta_table.specs.FoundRows.{PlacedRow, founds, tally_of, values_in, all_values, tables_of}
+use Rattle.delta_rows.specs.ValueOrder.{values_cmp, values_total, by_cost}
+use Rattle.delta_table.specs.Chosen.{zipped, share, made_cost, made_patterns, made_rest, rest_item}
 use Rattle.delta_table.proofs.ItemFacts.{formed_tuples, counted_tuples as tuples_counted}
-use Rattle.delta_table.proofs.ValueTies.{values_tie}
-use Rattle.delta_table.proofs.Members.{equal_of, itself_among}
+use Rattle.delta_rows.proofs.ValueTies.{values_tie}
+use Rattle.numbered_terms.proofs.Members.{equal_of, itself_among}
 use Rattle.delta_table.proofs.Entries.{Entry, entries, found_of, map_twice, founds_are, rows_are}
 use Rattle.delta_table.proofs.Shares.{share_counted, patterns_made, rest_made}
 
@@ -34,7 +33,7 @@ module _ (width : ℕ) where
   values_are : (i : Item) → values_in (founds width i.tuples) ≡ map (λ (r : Row). r.values) (rows_of width i)
   values_are i =
       ap values_in (founds_are width i.tuples)
-      ∙ (map_twice (λ (f : Found). f.values) found_of (entries width i.tuples)
+      ∙ (map_twice (λ (f : PlacedRow). f.values) found_of (entries width i.tuples)
       ∙ (sym (map_twice (λ (r : Row). r.values) (λ (e : Entry). e.row) (entries width i.tuples))
       ∙ ap (map (λ (r : Row). r.values)) (sym (rows_are width i))))
 
@@ -69,7 +68,7 @@ module _ (width : ℕ) (w : TermSet) where
   shares_of_all [] h = refl
   shares_of_all (i ∷ items) h =
       let item = All-head IsItem i items h in
-      let shares = λ (j : Item) (fs : List Found). share j (tally_of w fs) in
+      let shares = λ (j : Item) (fs : List PlacedRow). share j (tally_of w fs) in
       let here = share_counted width i (formed_tuples i item) item.rises w in
       let later = shares_of_all items (All-tail IsItem i items h) in
       let first = sum_by-cons (λ n. n) (shares i (founds width i.tuples)) (zipped shares items (tables_of width items)) in
@@ -124,27 +123,3 @@ few_tuples (i ∷ items) h l =
     let here : counted_tuples i ≤ 48 = omega arith in
     All-cons (λ (j : Item). length j.tuples ≤ 64) i items (few_of_item i (All-head IsItem i items h) (quantifiers i == 0) refl here)
     (few_tuples items (All-tail IsItem i items h) (omega arith))
-
--- what the steps of the search give together
-
-module _ (width : ℕ) (items : List Item) (h : All IsItem items) (tables : List (List Found)) (made : tables ≡ tables_of width items) where
-  -- the least key by its costs is the best set of values
-  pub found_best : (keys : List TermSet) (costs : List ℕ) (o : Option TermSet)
-      → ((w : TermSet) → list_any (eq_by_cmp values_cmp w) keys ≡ list_any (eq_by_cmp values_cmp w) (all_values tables))
-      → costs ≡ map (λ w. made_cost w items tables) keys
-      → ((c : TermSet → ℕ) → costs ≡ map c keys → o ≡ least (by_cost c) keys)
-      → o ≡ best width items
-  found_best keys costs o same priced value =
-      value (λ w. made_cost w items tables) priced
-      ∙ ((λ k. least (by_cost (λ w. made_cost w items (made k))) keys)
-      ∙ best_of_keys width items keys h (λ w. same w ∙ ap (λ fss. list_any (eq_by_cmp values_cmp w) (all_values fss)) made))
-
-  -- and what is made of it is the candidate
-  pub made_candidate : (w v : TermSet) (patterns : List (List Terms)) (rest : List Item) (cost : ℕ) → v ≡ w
-      → patterns ≡ zipped (made_patterns v) items tables → rest ≡ zipped (made_rest v) items tables → cost ≡ made_cost w items tables
-      → record { values = v; patterns = patterns; rest = rest; cost = cost } ≡ candidate_of width items w
-  made_candidate w v patterns rest cost e p r c =
-      let first = p ∙ ((λ k. zipped (made_patterns (e k)) items (made k)) ∙ patterns_of_all width w items h) in
-      let second = r ∙ ((λ k. zipped (made_rest (e k)) items (made k)) ∙ rests_of_all width w items h) in
-      let third = c ∙ (ap (made_cost w items) made ∙ cost_of_all width w items h) in
-      λ k. record { values = e k; patterns = first k; rest = second k; cost = third k }

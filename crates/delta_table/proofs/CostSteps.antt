@@ -1,7 +1,10 @@
 -- Costs, item by item.
 use Rattle.std.proofs.Common.{◌≡◌, ℕ, zero, suc, ◌+◌, ◌*◌, ◌^◌, ◌<◌, ◌≤◌, List, [], ◌∷◌, ◌++◌, map, length, take, drop, get_or, sum, Option, Some, refl, sym, ap, ◌∙◌, arith}
 use Rattle.std.proofs.Math.Nat.{mul-le-mul}
-use Rattle.std.proofs.lemmas.List.{drop_more, take_more, take_all}
+use Rattle.std.specs.declared.cmp.Ordering.{Ordering}
+use Rattle.std.specs.declared.cmp.Ordering.TheVariants.{Less, Equal, Greater}
+use Rattle.std.specs.Ordering.{ordering_then}
+use Rattle.std.proofs.lemmas.List.{drop_more, take_more, take_all, get_or-map}
 use Rattle.std.proofs.lemmas.List.Sums.{sum_by-append, sum_by-cons}
 use Rattle.finite.specs.Finite as set
 use Rattle.herbrand_laws.specs.Herbrand.{Item}
@@ -9,9 +12,9 @@ use Rattle.herbrand_laws.specs.Patterns.{TermSet}
 use Rattle.delta_table.specs.declared.founds.Found.{Found}
 use Rattle.delta_table.specs.declared.tallies.Tally.{Tally}
 use Rattle.herbrand_laws.specs.Candidates.{least, lesser}
-use Rattle.delta_table.specs.ValueOrder.{by_cost}
-use Rattle.delta_table.specs.FoundRows.{nothing, tally_of, tallies_of}
-use Rattle.delta_table.specs.Chosen.{zipped, raised, share, made_cost}
+use Rattle.delta_rows.specs.ValueOrder.{by_cost}
+use Rattle.delta_table.specs.FoundRows.{nothing, tally_at, tallies_at}
+use Rattle.delta_table.specs.Chosen.{zipped, raised, share, cost_at}
 
 -- a share fits
 pub share_fits : (q n : ℕ) → q ≤ 2 ^ 26 → n < 2 ^ 65 → q * n < 2 ^ 128
@@ -42,23 +45,23 @@ sum-push ns n =
     omega arith
 
 -- the cost with one item more
-cost_more : (w : TermSet) (items : List Item) (fss : List (List Found)) (i : Item) (fs : List Found) → length items ≡ length fss
-    → made_cost w items fss + share i (tally_of w fs) ≡ made_cost w (items ++ i ∷ []) (fss ++ fs ∷ [])
+cost_more : (w : List ℕ) (items : List Item) (fss : List (List Found)) (i : Item) (fs : List Found) → length items ≡ length fss
+    → cost_at w items fss + share i (tally_at w fs) ≡ cost_at w (items ++ i ∷ []) (fss ++ fs ∷ [])
 cost_more w items fss i fs e =
-    let shares = λ (j : Item) (gs : List Found). share j (tally_of w gs) in
-    let pushed = ap sum (zipped-push shares items fss i fs e) ∙ sum-push (zipped shares items fss) (share i (tally_of w fs)) in
+    let shares = λ (j : Item) (gs : List Found). share j (tally_at w gs) in
+    let pushed = ap sum (zipped-push shares items fss i fs e) ∙ sum-push (zipped shares items fss) (share i (tally_at w fs)) in
     omega arith
 
 -- the costs of the keys with the next item
-pub costs_more : (keys : List TermSet) (items : List Item) (fss : List (List Found)) (k : ℕ) (i : Item) (fs : List Found) → length fss ≡ length items → k < length items → i ≡ get_or items k i → fs ≡ get_or fss k fs
-    → zipped (λ (c : ℕ) (t : Tally). c + share i t) (map (λ w. made_cost w (take k items) (take k fss)) keys) (tallies_of keys fs) ≡ map (λ w. made_cost w (take (k + 1) items) (take (k + 1) fss)) keys
+pub costs_more : (keys : List (List ℕ)) (items : List Item) (fss : List (List Found)) (k : ℕ) (i : Item) (fs : List Found) → length fss ≡ length items → k < length items → i ≡ get_or items k i → fs ≡ get_or fss k fs
+    → zipped (λ (c : ℕ) (t : Tally). c + share i t) (map (λ w. cost_at w (take k items) (take k fss)) keys) (tallies_at keys fs) ≡ map (λ w. cost_at w (take (k + 1) items) (take (k + 1) fss)) keys
 costs_more keys items fss k i fs e l here there =
     let first : take (k + 1) items ≡ take k items ++ i ∷ [] = take_more items k i l ∙ ap (λ j. take k items ++ j ∷ []) (sym here) in
     let second : take (k + 1) fss ≡ take k fss ++ fs ∷ [] = take_more fss k fs (omega arith) ∙ ap (λ gs. take k fss ++ gs ∷ []) (sym there) in
     let as_many : length (take k items) ≡ length (take k fss) = lengths items fss k e in
-    zipped-map (λ (c : ℕ) (t : Tally). c + share i t) (λ w. made_cost w (take k items) (take k fss)) (λ w. tally_of w fs) keys
+    zipped-map (λ (c : ℕ) (t : Tally). c + share i t) (λ w. cost_at w (take k items) (take k fss)) (λ w. tally_at w fs) keys
     ∙ ((λ n. map (λ w. cost_more w (take k items) (take k fss) i fs as_many n) keys)
-    ∙ λ n. map (λ w. made_cost w (sym first n) (sym second n)) keys)
+    ∙ λ n. map (λ w. cost_at w (sym first n) (sym second n)) keys)
   where
     lengths : {A B : Type 0} (xs : List A) (ys : List B) (k : ℕ) → length ys ≡ length xs → length (take k xs) ≡ length (take k ys)
     lengths xs ys zero e = refl
@@ -69,8 +72,8 @@ costs_more keys items fss k i fs e l here there =
 
 -- the shares of an item without rows, all at once
 module _ (i : Item) where
-  raised_nothing : (n : ℕ) (costs : List ℕ) (keys : List TermSet) → length costs ≡ length keys
-      → raised (n + share i nothing) costs ≡ zipped (λ (c : ℕ) (t : Tally). c + share i t) (raised n costs) (tallies_of keys [])
+  raised_nothing : (n : ℕ) (costs : List ℕ) (keys : List (List ℕ)) → length costs ≡ length keys
+      → raised (n + share i nothing) costs ≡ zipped (λ (c : ℕ) (t : Tally). c + share i t) (raised n costs) (tallies_at keys [])
   raised_nothing n [] keys e = refl
   raised_nothing n (c ∷ cs) [] e = absurd (omega arith)
   raised_nothing n (c ∷ cs) (w ∷ ws) e = λ k. moved c (share i nothing) k ∷ raised_nothing n cs ws (omega arith) k
@@ -78,8 +81,8 @@ module _ (i : Item) where
       moved : (c s : ℕ) → c + (n + s) ≡ c + n + s
       moved c s = omega arith
 
-  pub raised_same : (n m : ℕ) (costs : List ℕ) (keys : List TermSet) (rows : List Found) → length rows ≡ 0 → m ≡ n + share i nothing → length costs ≡ length keys
-      → raised m costs ≡ zipped (λ (c : ℕ) (t : Tally). c + share i t) (raised n costs) (tallies_of keys rows)
+  pub raised_same : (n m : ℕ) (costs : List ℕ) (keys : List (List ℕ)) (rows : List Found) → length rows ≡ 0 → m ≡ n + share i nothing → length costs ≡ length keys
+      → raised m costs ≡ zipped (λ (c : ℕ) (t : Tally). c + share i t) (raised n costs) (tallies_at keys rows)
   raised_same n m costs keys [] none e long = ap (λ x. raised x costs) e ∙ raised_nothing n costs keys long
   raised_same n m costs keys (f ∷ fs) none e long = absurd (omega arith)
 
@@ -95,16 +98,28 @@ module _ (i : Item) where
 
 -- the costs without items, and by all of them
 
-pub costs_none : (keys : List TermSet) → map (λ (w : TermSet). 1 + length (set.listing w)) keys ≡ map (λ w. made_cost w [] []) keys
+pub costs_none : (keys : List (List ℕ)) → map (λ (w : List ℕ). 1 + length w) keys ≡ map (λ w. cost_at w [] []) keys
 costs_none [] = refl
 costs_none (w ∷ ws) = λ k. same w k ∷ costs_none ws k
   where
-    same : (w : TermSet) → 1 + length (set.listing w) ≡ 1 + length (set.listing w) + 0
+    same : (w : List ℕ) → 1 + length w ≡ 1 + length w + 0
     same w = omega arith
 
-pub costs_all : (keys : List TermSet) (items : List Item) (fss : List (List Found)) (n : ℕ) → length items ≤ n → length fss ≤ n
-    → map (λ w. made_cost w (take n items) (take n fss)) keys ≡ map (λ w. made_cost w items fss) keys
-costs_all keys items fss n l h = λ k. map (λ w. made_cost w (take_all n items l k) (take_all n fss h k)) keys
+pub costs_all : (keys : List (List ℕ)) (items : List Item) (fss : List (List Found)) (n : ℕ) → length items ≤ n → length fss ≤ n
+    → map (λ w. cost_at w (take n items) (take n fss)) keys ≡ map (λ w. cost_at w items fss) keys
+costs_all keys items fss n l h = λ k. map (λ w. cost_at w (take_all n items l k) (take_all n fss h k)) keys
+
+-- an order that differs decides
+pub then_unequal : (o x : Ordering) → (o ≡ Equal → ⊥) → o ≡ ordering_then o x
+then_unequal Less x d = refl
+then_unequal Equal x d = absurd (d refl)
+then_unequal Greater x d = refl
+
+-- a cost at a place is that of the set there
+pub cost_read : {A B : Type 0} (f : B → ℕ) (g : A → B) (keys : List A) (costs : List ℕ) (at : ℕ) (d : A) (e : B) → costs ≡ map (λ k. f (g k)) keys → at < length keys → get_or costs at 0 ≡ f (get_or (map g keys) at e)
+cost_read f g keys costs at d e same l =
+    ap (λ ns. get_or ns at 0) same
+    ∙ (get_or-map (λ k. f (g k)) keys at d 0 l ∙ ap f (sym (get_or-map g keys at d e l)))
 
 -- the least key, one step back
 pub least_step : (f : TermSet → ℕ) (keys : List TermSet) (at m : ℕ) (x : TermSet) (o : Option TermSet) → at < length keys → m ≡ at + 1

@@ -15,9 +15,8 @@ use Rattle.herbrand_laws.specs.Herbrand.{Item}
 use Rattle.herbrand_laws.specs.Patterns.{Row, delta}
 use Rattle.herbrand_laws.specs.Candidates.{sublists, rows_of}
 use Rattle.herbrand_laws.proofs.Lists.{all-filter_map}
-use Rattle.delta_table.specs.declared.founds.Found.{Found}
 use Rattle.delta_table.specs.Places.{has_place, kept_at, placed}
-use Rattle.delta_table.specs.FoundRows.{is_few, few_row, found_row, founds}
+use Rattle.delta_table.specs.FoundRows.{PlacedRow, is_few, few_row, found_row, founds}
 use Rattle.delta_table.proofs.PlaceSets.{has-or}
 use Rattle.delta_table.proofs.FoundRows.{filter_map-map, with_head}
 
@@ -36,7 +35,7 @@ entry_at width s = option_map (entry_of s) (few_row width s.0)
 abbrev pub entries : ℕ → List Terms → List Entry
 entries width tuples = filter_map (entry_at width) (placed 0 tuples)
 
-abbrev pub found_of : Entry → Found
+abbrev pub found_of : Entry → PlacedRow
 found_of e = record { values = e.row.values; places = e.places }
 
 -- lists of what a map gives

@@ -7,9 +7,8 @@ use Rattle.std.proofs.lemmas.List.{drop_more, at_drop_all, get_or-drop}
 use Rattle.std.proofs.lemmas.List.Elements.{filter_map-append}
 use Rattle.fol.specs.Syntax.{Terms, nil}
 use Rattle.herbrand_laws.specs.Patterns.{delta}
-use Rattle.delta_table.specs.declared.founds.Found.{Found}
 use Rattle.delta_table.specs.Places.{placed}
-use Rattle.delta_table.specs.FoundRows.{is_few, few_row, found_row, found_at, founds_after, founds_from}
+use Rattle.delta_table.specs.FoundRows.{PlacedRow, is_few, few_row, found_row, found_at, founds_after, founds_from}
 use Rattle.delta_table.proofs.PlaceSets.{or_assoc}
 
 pub filter_map-map : {X Y Z : Type 0} (h : Y → Option Z) (g : X → Y) (xs : List X) → filter_map h (map g xs) ≡ filter_map (λ x. h (g x)) xs
@@ -25,7 +24,7 @@ abbrev pub with_head : ℕ → Terms → List Terms × ℕ → List Terms × ℕ
 with_head k x s = (x ∷ s.0, bit_or (2 ^ k) s.1)
 
 module _ (width : ℕ) where
-  abbrev one_row : List Terms → ℕ → List Found
+  abbrev one_row : List Terms → ℕ → List PlacedRow
   one_row chosen places = cons_option (option_map (found_row places) (few_row width chosen)) []
 
   -- with no other tuple
@@ -84,7 +83,7 @@ module _ (width : ℕ) where
   founds_step chosen places at tuples d h = ap (founds_after width chosen places at) (drop_more tuples at d h) ∙ founds_more chosen places at (get_or tuples at d) (drop (at + 1) tuples)
 
   -- rows with a tuple, and then those without it
-  pub rows_joined : (chosen : List Terms) (places at : ℕ) (tuples : List Terms) (x : Terms) (r s t : List Found) (pushed cut : List Terms) (more : ℕ) → at < length tuples
+  pub rows_joined : (chosen : List Terms) (places at : ℕ) (tuples : List Terms) (x : Terms) (r s t : List PlacedRow) (pushed cut : List Terms) (more : ℕ) → at < length tuples
       → pushed ≡ chosen ++ x ∷ [] → x ≡ get_or tuples at x → more ≡ bit_or places (2 ^ at) → cut ≡ chosen
       → s ≡ r ++ founds_after width pushed more (at + 1) (drop (at + 1) tuples) → t ≡ s ++ founds_after width cut places (at + 1) (drop (at + 1) tuples)
       → t ≡ r ++ founds_after width chosen places at (drop at tuples)
@@ -106,20 +105,23 @@ module _ (width : ℕ) where
       ∙ (founds_more [] 0 at (get_or tuples at nil) rest
       ∙ λ i. founds_after width (take 1 (sym begins i)) (bit_or 0 (2 ^ at)) (at + 1) rest ++ founds_after width [] 0 (at + 1) rest)
 
-  -- the parts that are left, of which each has the rows of one first tuple
+-- parts of which each has the rows of one first tuple
 
-  pub next_part : {E : Type 0} (tuples : List Terms) (at : ℕ) (parts : List (Result (List Found) E)) (part : List Found) → 0 < length parts
-      → ((k : ℕ) (d : Result (List Found) E) → k < length parts → IfOk (get_or parts k d) (λ rows. rows ≡ founds_from width tuples (at + k)))
-      → Ok part ≡ get_or parts 0 (Ok part) → part ≡ founds_from width tuples at
-  next_part tuples at parts part l each e =
-      let here : part ≡ founds_from width tuples (at + 0) = subst (λ r. IfOk r (λ rows. rows ≡ founds_from width tuples (at + 0))) (sym e) (each 0 (Ok part) l) in
-      here ∙ ap (founds_from width tuples) (omega arith)
+module _ {A E : Type 0} (P : ℕ → A → Type 0) where
+  -- the first of those that are left
+  pub next_part : (at : ℕ) (parts : List (Result A E)) (part : A) → 0 < length parts
+      → ((k : ℕ) (d : Result A E) → k < length parts → IfOk (get_or parts k d) (P (at + k)))
+      → Ok part ≡ get_or parts 0 (Ok part) → P at part
+  next_part at parts part l each e =
+      let here : P (at + 0) part = subst (λ r. IfOk r (P (at + 0))) (sym e) (each 0 (Ok part) l) in
+      let same : at + 0 ≡ at = omega arith in
+      subst (λ n. P n part) same here
 
-  pub later_parts : {E : Type 0} (tuples : List Terms) (at : ℕ) (parts : List (Result (List Found) E))
-      → ((k : ℕ) (d : Result (List Found) E) → k < length parts → IfOk (get_or parts k d) (λ rows. rows ≡ founds_from width tuples (at + k)))
-      → (k : ℕ) (d : Result (List Found) E) → k < length (drop 1 parts) → IfOk (get_or (drop 1 parts) k d) (λ rows. rows ≡ founds_from width tuples (at + 1 + k))
-  later_parts tuples at parts each k d l =
+  pub later_parts : (at : ℕ) (parts : List (Result A E))
+      → ((k : ℕ) (d : Result A E) → k < length parts → IfOk (get_or parts k d) (P (at + k)))
+      → (k : ℕ) (d : Result A E) → k < length (drop 1 parts) → IfOk (get_or (drop 1 parts) k d) (P (at + 1 + k))
+  later_parts at parts each k d l =
       let shorter = length-drop 1 parts in
       let same : at + (1 + k) ≡ at + 1 + k = omega arith in
-      subst (λ r. IfOk r (λ rows. rows ≡ founds_from width tuples (at + 1 + k))) (sym (get_or-drop 1 parts k d))
-      (subst (λ n. IfOk (get_or parts (1 + k) d) (λ rows. rows ≡ founds_from width tuples n)) same (each (1 + k) d (omega arith)))
+      subst (λ r. IfOk r (P (at + 1 + k))) (sym (get_or-drop 1 parts k d))
+      (subst (λ n. IfOk (get_or parts (1 + k) d) (P n)) same (each (1 + k) d (omega arith)))

@@ -22,19 +22,18 @@ use Rattle.herbrand_laws.specs.Patterns.{put, TermSet, Row, delta, IsRow}
 use Rattle.herbrand_laws.specs.Candidates.{same_terms, patterns, is_covered, rest}
 use Rattle.herbrand_laws.proofs.Lists.{any-map}
 use Rattle.herbrand_laws.proofs.Rows.{delta_row}
-use Rattle.delta_table.specs.declared.founds.Found.{Found}
 use Rattle.delta_table.specs.declared.tallies.Tally.{Tally}
 use Rattle.delta_table.specs.Places.{has_place, lacks_place, kept_at}
-use Rattle.delta_table.specs.FoundRows.{founds, noted, nothing, tally_of}
+use Rattle.delta_table.specs.FoundRows.{PlacedRow, founds, noted, nothing, tally_of}
 use Rattle.delta_table.specs.Chosen.{pattern_of_places, patterns_found, made_patterns, made_rest, rest_item, share}
 use Rattle.delta_table.proofs.PlaceSets.{has-or}
-use Rattle.delta_table.proofs.ValueTies.{same_sets}
-use Rattle.delta_table.proofs.Members.{equal_of, any_set, all_different}
+use Rattle.delta_rows.proofs.ValueTies.{same_sets}
+use Rattle.numbered_terms.proofs.Members.{equal_of, any_set, all_different}
 use Rattle.delta_table.proofs.Entries.{Entry, entries, found_of, map_twice, founds_are, rows_are, none_in_zero, IsEntry, all_entries, Differ, differ_filter, entries_differ}
 
 -- lists that pass a test
 
-filter-mapped : {X Y : Type 0} (p : Y → Bool) (f : X → Y) (xs : List X) → filter p (map f xs) ≡ map f (filter (λ x. p (f x)) xs)
+pub filter-mapped : {X Y : Type 0} (p : Y → Bool) (f : X → Y) (xs : List X) → filter p (map f xs) ≡ map f (filter (λ x. p (f x)) xs)
 filter-mapped p f [] = refl
 filter-mapped p f (x ∷ xs) = elim (p (f x)) as (λ b. cond b (f x ∷ filter p (map f xs)) (filter p (map f xs)) ≡ map f (cond b (x ∷ filter (λ y. p (f y)) xs) (filter (λ y. p (f y)) xs))) [
   | true ↦ ap (λ ys. f x ∷ ys) (filter-mapped p f xs)
@@ -226,13 +225,13 @@ module _ (width : ℕ) (i : Item) (formed : All (λ us. are_formed_terms_at 0 us
 
     -- the tally of the rows
 
-    abbrev step : Tally → Found → Tally
-    step t f = if same_terms f.values w then noted f t else t
+    abbrev step : Tally → PlacedRow → Tally
+    step t f = if same_terms f.values w then noted f.places t else t
 
     rows_counted : (es : List Entry) (t : Tally) → (fold step t (map found_of es)).rows ≡ t.rows + length (filter has_values es)
     rows_counted [] t = omega arith
-    rows_counted (e ∷ es) t = elim (same_terms e.row.values w) as (λ b. (fold step (if b then noted (found_of e) t else t) (map found_of es)).rows ≡ t.rows + length (cond b (e ∷ filter has_values es) (filter has_values es))) [
-      | true ↦ let later = rows_counted es (noted (found_of e) t) in omega arith
+    rows_counted (e ∷ es) t = elim (same_terms e.row.values w) as (λ b. (fold step (if b then noted e.places t else t) (map found_of es)).rows ≡ t.rows + length (cond b (e ∷ filter has_values es) (filter has_values es))) [
+      | true ↦ let later = rows_counted es (noted e.places t) in omega arith
       | false ↦ rows_counted es t
     ]
 
@@ -240,8 +239,8 @@ module _ (width : ℕ) (i : Item) (formed : All (λ us. are_formed_terms_at 0 us
     places_noted k [] t = sym (false_or (has_place t.places k))
     places_noted k (e ∷ es) t =
         let others = list_any (λ f. has_values f && has_place f.places k) es in
-        elim (same_terms e.row.values w) as (λ b. has_place (fold step (if b then noted (found_of e) t else t) (map found_of es)).places k ≡ (has_place t.places k || (b && has_place e.places k || others))) [
-          | true ↦ places_noted k es (noted (found_of e) t) ∙ (ap (λ b. b || others) (has-or t.places e.places k) ∙ or_assoc (has_place t.places k) (has_place e.places k) others)
+        elim (same_terms e.row.values w) as (λ b. has_place (fold step (if b then noted e.places t else t) (map found_of es)).places k ≡ (has_place t.places k || (b && has_place e.places k || others))) [
+          | true ↦ places_noted k es (noted e.places t) ∙ (ap (λ b. b || others) (has-or t.places e.places k) ∙ or_assoc (has_place t.places k) (has_place e.places k) others)
           | false ↦ places_noted k es t
         ]
 
@@ -289,16 +288,16 @@ module _ (width : ℕ) (i : Item) (formed : All (λ us. are_formed_terms_at 0 us
     share_counted = λ k. quantifiers i * (sym tally_rows k + length (rest_kept k))
 
     -- the patterns of the rows with these values
-    found_patterns : (es : List Entry) → AllByRecursion IsChosen es → filter_map (λ (f : Found). pattern_of_places i.tuples f.places) (map found_of es) ≡ map (λ e. e.row.pattern) es
+    found_patterns : (es : List Entry) → AllByRecursion IsChosen es → filter_map (λ (f : PlacedRow). pattern_of_places i.tuples f.places) (map found_of es) ≡ map (λ e. e.row.pattern) es
     found_patterns [] h = refl
     found_patterns (e ∷ es) h =
-        (λ k. cons_option (option_map (λ (r : Row). r.pattern) (delta (h.0.entry.picked k))) (filter_map (λ (f : Found). pattern_of_places i.tuples f.places) (map found_of es)))
+        (λ k. cons_option (option_map (λ (r : Row). r.pattern) (delta (h.0.entry.picked k))) (filter_map (λ (f : PlacedRow). pattern_of_places i.tuples f.places) (map found_of es)))
         ∙ λ k. cons_option (option_map (λ (r : Row). r.pattern) (h.0.entry.row k)) (found_patterns es h.1 k)
 
     pub patterns_made : made_patterns w i (founds width i.tuples) ≡ patterns width w i
     patterns_made =
         ap (λ ps. set.listing (set.adds_each (set.empty {R = terms_cmp}) ps))
         (ap (patterns_found i.tuples w) (founds_are width i.tuples)
-        ∙ (ap (filter_map (λ (f : Found). pattern_of_places i.tuples f.places)) (filter-mapped (λ (f : Found). same_terms f.values w) found_of (entries width i.tuples))
+        ∙ (ap (filter_map (λ (f : PlacedRow). pattern_of_places i.tuples f.places)) (filter-mapped (λ (f : PlacedRow). same_terms f.values w) found_of (entries width i.tuples))
         ∙ found_patterns chosen all_chosen))
         ∙ sym patterns_chosen

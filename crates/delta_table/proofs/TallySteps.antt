@@ -1,120 +1,92 @@
 -- Tallies, row by row.
-use Rattle.std.proofs.Common.{◌≡◌, ℕ, ◌+◌, ◌<◌, ◌≤◌, true, false, if◌then◌else◌, List, [], ◌∷◌, map, length, take, get_or, fold, Result, Ok, Err, refl, sym, ap, subst, ◌∙◌, arith}
-use Rattle.std.specs.List.{All, AllByRecursion}
-use Rattle.std.specs.declared.cmp.Ordering.{Ordering}
-use Rattle.std.specs.declared.cmp.Ordering.TheVariants.{Less, Equal, Greater}
-use Rattle.std.specs.Cmp.{tied_itself}
-use Rattle.std.specs.Ordering.{ordering_reverse}
-use Rattle.std.specs.List.Sorted.{IsStrictlySortedBy, IsSearchInRange}
+use Rattle.std.proofs.Common.{◌≡◌, ℕ, zero, suc, ◌+◌, ◌<◌, ◌≤◌, Bool, true, false, cond, if◌then◌else◌, List, [], ◌∷◌, map, length, take, get_or, fold, Option, Some, None, refl, sym, ap, subst, ◌∙◌, arith}
+use Rattle.std.specs.Prelude.{position, slice_set, slice_index_or}
+use Rattle.std.specs.List.{All, AllByRecursion, IsDistinct, position_from}
 use Rattle.std.proofs.lemmas.List.Elements.{All-nil, All-cons}
+use Rattle.std.proofs.lemmas.List.Quantifiers.{position-Some}
+use Rattle.std.proofs.lemmas.Iterator.Adapters.{position_from-zero}
 use Rattle.std.proofs.lemmas.List.Sums.{fold_more}
-use Rattle.finite.specs.Finite as set
-use Rattle.finite.specs.Place.{place, place_by, later}
-use Rattle.finite.proofs.Places.{place_in_range}
-use Rattle.free_variables.proofs.RisingLists.{strict_of_rising}
-use Rattle.search_laws.proofs.Tests.{fails}
-use Rattle.herbrand_laws.specs.Patterns.{TermSet}
-use Rattle.herbrand_laws.specs.Candidates.{same_terms}
+use Rattle.arena_cells.specs.Codes.{same_by_decides}
+use Rattle.search_laws.proofs.Tests.{fails, clash}
+use Rattle.numbered_terms.specs.NumberSets.{coded_numbers, same_numbers}
 use Rattle.delta_table.specs.declared.founds.Found.{Found}
 use Rattle.delta_table.specs.declared.tallies.Tally.{Tally}
-use Rattle.delta_table.specs.ValueOrder.{values_cmp, values_total}
-use Rattle.delta_table.specs.FoundRows.{noted, nothing, tally_of, tallies_of, noted_at}
-use Rattle.delta_table.proofs.ValueTies.{values_tie, same_sets, equal_sets}
+use Rattle.delta_table.specs.FoundRows.{noted, nothing, tally_at, tallies_at, noted_at}
 
 -- a place that is found is in the list
-pub place_within : (keys : List TermSet) (v : TermSet) (at : ℕ) → Ok at ≡ place values_cmp v keys → at < length keys
-place_within keys v at e = subst (λ r. IsSearchInRange r (length keys)) (sym e) (place_in_range values_cmp v keys)
+pub place_within : (keys : List (List ℕ)) (v : List ℕ) (at : ℕ) → Some at ≡ position (same_numbers v) keys → at < length keys
+place_within keys v at e = (position-Some (same_numbers v) keys at [] (sym e)).0
+
+same : (v w : List ℕ) → same_numbers v w ≡ true → v ≡ w
+same v w = (same_by_decides coded_numbers v w).0
+
+itself : (v w : List ℕ) → v ≡ w → same_numbers v w ≡ true
+itself v w = (same_by_decides coded_numbers v w).1
+
+-- none passes a test where there is no first place
+none_from : (p : List ℕ → Bool) (i : ℕ) (keys : List (List ℕ)) → position_from p i keys ≡ None → AllByRecursion (λ k. p k ≡ false) keys
+none_from p i [] e = tt
+none_from p i (k ∷ ks) e = elim (p k) as (λ b. cond b (Some i) (position_from p (i + 1) ks) ≡ None → (b ≡ false) × AllByRecursion (λ x. p x ≡ false) ks) [
+  | true ↦ λ d. cc
+  | false ↦ λ d. (refl, none_from p (i + 1) ks d)
+] e
 
 -- a tally in which a row is noted where it has the values
-abbrev step : TermSet → Found → Tally → Tally
-step w f t = if same_terms f.values w then noted f t else t
-
-apart : (v w : TermSet) → (v ≡ w → ⊥) → same_terms v w ≡ false
-apart v w h = fails (same_terms v w) (λ e. absurd (h (same_sets v w e)))
-
--- different by the order
-less_apart : (v w : TermSet) → values_cmp v w ≡ Less → v ≡ w → ⊥
-less_apart v w e same =
-    let tie : values_cmp v v ≡ Equal = tied_itself values_total v in
-    let low : values_cmp v v ≡ Less = subst (λ x. values_cmp v x ≡ Less) (sym same) e in
-    absurd (different (sym low ∙ tie))
-  where
-    different : Less ≡ Equal → ⊥
-    different p = cc
-
-greater_apart : (x v : TermSet) → values_cmp x v ≡ Greater → v ≡ x → ⊥
-greater_apart x v e same =
-    let tie : values_cmp x x ≡ Equal = tied_itself values_total x in
-    let high : values_cmp x x ≡ Greater = subst (λ y. values_cmp x y ≡ Greater) same e in
-    absurd (different (sym high ∙ tie))
-  where
-    different : Greater ≡ Equal → ⊥
-    different p = cc
-
--- keys of which none is the row's stay as they are
-none_noted : (f : Found) (T : TermSet → Tally) (keys : List TermSet) → AllByRecursion (λ w. f.values ≡ w → ⊥) keys → map (λ w. step w f (T w)) keys ≡ map T keys
-none_noted f T [] h = refl
-none_noted f T (w ∷ ws) h =
-    λ i. (if apart f.values w h.0 i then noted f (T w) else T w) ∷ none_noted f T ws h.1 i
-
-above_apart : (x v : TermSet) (keys : List TermSet) → values_cmp v x ≡ Less → AllByRecursion (λ y. values_cmp x y ≡ Less) keys → AllByRecursion (λ w. v ≡ w → ⊥) keys
-above_apart x v [] e h = tt
-above_apart x v (y ∷ ys) e h = (less_apart v y (values_total.trans v x y e h.0), above_apart x v ys e h.1)
-
-tied_apart : (x : TermSet) (keys : List TermSet) → AllByRecursion (λ y. values_cmp x y ≡ Less) keys → AllByRecursion (λ w. x ≡ w → ⊥) keys
-tied_apart x [] h = tt
-tied_apart x (y ∷ ys) h = (less_apart x y h.0, tied_apart x ys h.1)
-
-noted_later : (f : Found) (t : Tally) (ts : List Tally) (r : Result ℕ ℕ) → noted_at f (later r) (t ∷ ts) ≡ t ∷ noted_at f r ts
-noted_later f t ts (Ok at) = refl
-noted_later f t ts (Err at) = refl
-
-reversed_greater : (o r : Ordering) → o ≡ Greater → r ≡ ordering_reverse o → r ≡ Less
-reversed_greater o r e h = h ∙ ap ordering_reverse e
+abbrev step : List ℕ → Found → Tally → Tally
+step k f t = if same_numbers f.values k then noted f.places t else t
 
 -- a row is noted at its values alone
-module _ (f : Found) (T : TermSet → Tally) where
-  by_order : (x : TermSet) (xs : List TermSet) → AllByRecursion (λ y. values_cmp x y ≡ Less) xs → noted_at f (place values_cmp f.values xs) (map T xs) ≡ map (λ w. step w f (T w)) xs
-      → (o : Ordering) → values_cmp x f.values ≡ o → noted_at f (place_by o (place values_cmp f.values xs)) (map T (x ∷ xs)) ≡ map (λ w. step w f (T w)) (x ∷ xs)
-  by_order x xs h g Less e =
-      noted_later f (T x) (map T xs) (place values_cmp f.values xs)
-      ∙ λ i. (if sym (apart f.values x (λ same. less_apart x f.values e (sym same))) i then noted f (T x) else T x) ∷ g i
-  by_order x xs h g Equal e =
-      let same : x ≡ f.values = values_tie x f.values e in
-      λ i. (if sym (equal_sets f.values x (sym same)) i then noted f (T x) else T x)
-      ∷ sym (none_noted f T xs (subst (λ v. AllByRecursion (λ w. v ≡ w → ⊥) xs) same (tied_apart x xs h))) i
-  by_order x xs h g Greater e =
-      let below : values_cmp f.values x ≡ Less = reversed_greater (values_cmp x f.values) (values_cmp f.values x) e (values_total.antisymm f.values x) in
-      λ i. (if sym (apart f.values x (greater_apart x f.values e)) i then noted f (T x) else T x)
-      ∷ sym (none_noted f T xs (above_apart x f.values xs below h)) i
+module _ (f : Found) (T : List ℕ → Tally) where
+  none_noted : (keys : List (List ℕ)) → AllByRecursion (λ k. same_numbers f.values k ≡ false) keys → map T keys ≡ map (λ k. step k f (T k)) keys
+  none_noted [] h = refl
+  none_noted (k ∷ ks) h = λ i. (if sym h.0 i then noted f.places (T k) else T k) ∷ none_noted ks h.1 i
 
-  sorted_noted : (keys : List TermSet) → IsStrictlySortedBy values_cmp keys → noted_at f (place values_cmp f.values keys) (map T keys) ≡ map (λ w. step w f (T w)) keys
-  unfolding IsStrictlySortedBy
-  sorted_noted [] h = refl
-  sorted_noted (x ∷ xs) h = by_order x xs h.0 (sorted_noted xs h.1) (values_cmp x f.values) refl
+  others : (x : List ℕ) (keys : List (List ℕ)) → same_numbers f.values x ≡ true → AllByRecursion (λ y. same_numbers x y ≡ false) keys → AllByRecursion (λ k. same_numbers f.values k ≡ false) keys
+  others x [] e h = tt
+  others x (k ∷ ks) e h = (subst (λ v. same_numbers v k ≡ false) (sym (same f.values x e)) h.0, others x ks e h.1)
 
-  pub key_noted : (keys : List TermSet) → set.IsRising values_cmp keys → noted_at f (place values_cmp f.values keys) (map T keys) ≡ map (λ w. step w f (T w)) keys
-  key_noted keys h = sorted_noted keys (strict_of_rising values_cmp keys h)
+  apart : (x : List ℕ) (keys : List (List ℕ)) (i : ℕ) → i < length keys → same_numbers f.values (get_or keys i []) ≡ true → AllByRecursion (λ y. same_numbers x y ≡ false) keys → same_numbers f.values x ≡ false
+  apart x [] i l e h = absurd (omega arith)
+  apart x (k ∷ ks) zero l e h =
+      fails (same_numbers f.values x) (λ g. clash (same_numbers x k) (itself x k (sym (same f.values x g) ∙ same f.values k e)) h.0)
+  apart x (k ∷ ks) (suc i) l e h = apart x ks i (omega arith) e h.1
+
+  at_place : (keys : List (List ℕ)) (i : ℕ) → IsDistinct same_numbers keys → i < length keys → same_numbers f.values (get_or keys i []) ≡ true
+      → slice_set (map T keys) i (noted f.places (slice_index_or (map T keys) i nothing)) ≡ map (λ k. step k f (T k)) keys
+  unfolding IsDistinct
+  at_place [] i d l e = absurd (omega arith)
+  at_place (k ∷ ks) zero d l e = λ i. (if sym e i then noted f.places (T k) else T k) ∷ none_noted ks (others k ks e d.0) i
+  at_place (k ∷ ks) (suc i) d l e =
+      λ j. (if sym (apart k ks i (omega arith) e d.0) j then noted f.places (T k) else T k) ∷ at_place ks i d.1 (omega arith) e j
+
+  by_place : (keys : List (List ℕ)) → IsDistinct same_numbers keys → (o : Option ℕ) → position (same_numbers f.values) keys ≡ o → noted_at f o (map T keys) ≡ map (λ k. step k f (T k)) keys
+  by_place keys d None e = none_noted keys (none_from (same_numbers f.values) 0 keys (sym (position_from-zero (same_numbers f.values) keys) ∙ e))
+  by_place keys d (Some i) e =
+      let found = position-Some (same_numbers f.values) keys i [] e in
+      at_place keys i d found.0 found.1
+
+  pub key_noted : (keys : List (List ℕ)) → IsDistinct same_numbers keys → noted_at f (position (same_numbers f.values) keys) (map T keys) ≡ map (λ k. step k f (T k)) keys
+  key_noted keys d = by_place keys d (position (same_numbers f.values) keys) refl
 
 -- the tallies with one row more
-pub tallies_more : (keys : List TermSet) (rows : List Found) (k : ℕ) (f : Found) → set.IsRising values_cmp keys → k < length rows → f ≡ get_or rows k f
-    → noted_at f (place values_cmp f.values keys) (tallies_of keys (take k rows)) ≡ tallies_of keys (take (k + 1) rows)
-tallies_more keys rows k f h low e =
-    key_noted f (λ w. tally_of w (take k rows)) keys h
-    ∙ λ i. map (λ w. sym (fold_more (λ t g. step w g t) nothing rows k f low ∙ ap (λ g. step w g (tally_of w (take k rows))) (sym e)) i) keys
+pub tallies_more : (keys : List (List ℕ)) (rows : List Found) (k : ℕ) (f : Found) → IsDistinct same_numbers keys → k < length rows → f ≡ get_or rows k f
+    → noted_at f (position (same_numbers f.values) keys) (tallies_at keys (take k rows)) ≡ tallies_at keys (take (k + 1) rows)
+tallies_more keys rows k f d low e =
+    key_noted f (λ w. tally_at w (take k rows)) keys d
+    ∙ λ i. map (λ w. sym (fold_more (λ t g. step w g t) nothing rows k f low ∙ ap (λ g. step w g (tally_at w (take k rows))) (sym e)) i) keys
 
 -- a tally has no more rows than there are
-module _ (w : TermSet) where
+module _ (w : List ℕ) where
   few_rows : (fs : List Found) (t : Tally) → (fold (λ t f. step w f t) t fs).rows ≤ t.rows + length fs
   few_rows [] t = omega arith
-  few_rows (f ∷ fs) t = elim (same_terms f.values w) as (λ b. (fold (λ t f. step w f t) (if b then noted f t else t) fs).rows ≤ t.rows + length (f ∷ fs)) [
-    | true ↦ let below = few_rows fs (noted f t) in omega arith
+  few_rows (f ∷ fs) t = elim (same_numbers f.values w) as (λ b. (fold (λ t f. step w f t) (if b then noted f.places t else t) fs).rows ≤ t.rows + length (f ∷ fs)) [
+    | true ↦ let below = few_rows fs (noted f.places t) in omega arith
     | false ↦ let below = few_rows fs t in omega arith
   ]
 
-pub tally_within : (w : TermSet) (fs : List Found) → (tally_of w fs).rows ≤ length fs
+pub tally_within : (w : List ℕ) (fs : List Found) → (tally_at w fs).rows ≤ length fs
 tally_within w fs = let below = few_rows w fs nothing in omega arith
 
-pub tallies_within : (keys : List TermSet) (fs : List Found) (n : ℕ) → length fs ≤ n → All (λ t. t.rows ≤ n) (tallies_of keys fs)
+pub tallies_within : (keys : List (List ℕ)) (fs : List Found) (n : ℕ) → length fs ≤ n → All (λ t. t.rows ≤ n) (tallies_at keys fs)
 tallies_within [] fs n h = All-nil _
-tallies_within (w ∷ ws) fs n h = All-cons (λ (t : Tally). t.rows ≤ n) (tally_of w fs) (tallies_of ws fs) (let below = tally_within w fs in omega arith) (tallies_within ws fs n h)
+tallies_within (w ∷ ws) fs n h = All-cons (λ (t : Tally). t.rows ≤ n) (tally_at w fs) (tallies_at ws fs) (let below = tally_within w fs in omega arith) (tallies_within ws fs n h)

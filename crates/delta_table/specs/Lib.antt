@@ -1,6 +1,6 @@
 pub mod Chosen
 pub mod FoundRows
 pub mod Items
+pub mod Numbering
 pub mod Places
-pub mod Shown
-pub mod ValueOrder
+pub mod Tables

@@ -3,9 +3,10 @@ ghost use Rattle.std.specs.Prelude.{◌≡◌, ◌≤◌, length, option_map, If
 ghost use Rattle.std.specs.List.{All};
 ghost use Rattle.herbrand_laws.specs.Herbrand.{Item as Meaning};
 ghost use Rattle.herbrand_laws.specs.Candidates.{best as best_values};
+ghost use Rattle.numbered_terms.specs.Numbered.{IsTermSet};
 ghost use Rattle.delta_table.specs.Items.{counted, IsItem};
-ghost use Rattle.delta_table.specs.Chosen.{zipped, made_patterns, made_rest, patterns_found, pattern_of_places, candidate_of};
-ghost use Rattle.delta_table.specs.FoundRows.{tally_of};
+ghost use Rattle.delta_table.specs.Chosen.{zipped, pattern_of_places, patterns_at, patterns_by_numbers, rest_at, made_candidate, candidate_of};
+ghost use Rattle.delta_table.specs.FoundRows.{tally_at};
 
 use crate::costs::{costs, least_place};
 use crate::founds::Found;
@@ -14,11 +15,12 @@ use crate::item::Item;
 use crate::items::Items;
 use crate::pattern_lists::Patterns;
 use crate::places::{tuples_at, tuples_outside};
-use crate::rows::{Row, delta};
-use crate::tables::{Rows, keys, tables};
+use crate::sets::values_at;
+use crate::tables::{Rows, Table, tabulate};
 use crate::tuples::Tuples;
-use crate::values::Values;
+use delta_rows::{Row, Values, delta};
 use fol::Terms;
+use numbered_terms::NumberSet;
 use std::alloc::{AllocError, Global};
 use std::thread::Threads;
 
@@ -49,10 +51,10 @@ fn patterns_of(
     alloc: Global,
     tuples: &[Terms],
     rows: &[Found],
-    values: &Values,
+    values: &NumberSet,
 ) -> Result<Vec<Terms>, AllocError>
     requires { length tuples.now ≤ 64 }
-    ensures { IfOk result (λ v. v.items ≡ patterns_found tuples.now values.now rows.now) }
+    ensures { IfOk result (λ v. v.items ≡ patterns_at tuples.now values.now rows.now) }
 {
     let mut patterns = Vec::new(alloc);
     for row in rows {
@@ -66,8 +68,8 @@ fn patterns_of(
 }
 
 // The places of the tuples of the rows that have these values.
-fn covered(rows: &[Found], values: &Values) -> u64
-    ensures { result ≡ (tally_of values.now rows.now).places }
+fn covered(rows: &[Found], values: &NumberSet) -> u64
+    ensures { result ≡ (tally_at values.now rows.now).places }
 {
     let mut places = 0;
     for row in rows {
@@ -79,9 +81,14 @@ fn covered(rows: &[Found], values: &Values) -> u64
 }
 
 // The item with the tuples that rows with these values don't have.
-fn rest_of(alloc: Global, item: &Item, rows: &[Found], values: &Values) -> Result<Item, AllocError>
+fn rest_of(
+    alloc: Global,
+    item: &Item,
+    rows: &[Found],
+    values: &NumberSet,
+) -> Result<Item, AllocError>
     requires { length item.now.tuples ≤ 64 }
-    ensures { IfOk result (λ i. i ≡ made_rest values.now item.now rows.now) }
+    ensures { IfOk result (λ i. i ≡ rest_at values.now item.now rows.now) }
 {
     item.known();
     let places = covered(rows, values);
@@ -96,11 +103,11 @@ fn all_patterns(
     alloc: Global,
     items: &[Item],
     tables: &[Rows],
-    values: &Values,
+    values: &NumberSet,
 ) -> Result<Patterns, AllocError>
     requires as_many { length tables.now ≡ length items.now }
     requires few { All (λ (i : Meaning). length i.tuples ≤ 64) items.now }
-    ensures { IfOk result (λ p. p ≡ zipped (made_patterns values.now) items.now tables.now) }
+    ensures { IfOk result (λ p. p ≡ zipped (patterns_by_numbers values.now) items.now tables.now) }
 {
     let mut patterns = Vec::with_capacity(alloc, items.len())?;
     for at in 0..items.len() {
@@ -117,11 +124,11 @@ fn all_rests(
     alloc: Global,
     items: &[Item],
     tables: &[Rows],
-    values: &Values,
+    values: &NumberSet,
 ) -> Result<Instances, AllocError>
     requires as_many { length tables.now ≡ length items.now }
     requires few { All (λ (i : Meaning). length i.tuples ≤ 64) items.now }
-    ensures { IfOk result (λ r. r ≡ zipped (made_rest values.now) items.now tables.now) }
+    ensures { IfOk result (λ r. r ≡ zipped (rest_at values.now) items.now tables.now) }
 {
     let mut rests = Vec::with_capacity(alloc, items.len())?;
     for at in 0..items.len() {
@@ -130,9 +137,35 @@ fn all_rests(
     Ok(Instances::new(Items::from_vec(rests)))
 }
 
-// Each item is as items are always.
+// The candidate of a set of values, with its cost.
+fn candidate_at(
+    alloc: Global,
+    items: &[Item],
+    table: &Table,
+    key: &NumberSet,
+    cost: u128,
+) -> Result<Candidate, AllocError>
+    requires as_many { length table.now.rows.items ≡ length items.now }
+    requires few { All (λ (i : Meaning). length i.tuples ≤ 64) items.now }
+    requires key { IsTermSet table.now.cells key.now }
+    ensures { IfOk result (λ c. c ≡ made_candidate table.now key.now items.now cost) }
+{
+    let patterns = all_patterns(alloc, items, &table.rows, key)?;
+    let rest = all_rests(alloc, items, &table.rows, key)?;
+    let values = values_at(alloc, &table.cells, key)?;
+    Ok(Candidate {
+        values,
+        patterns,
+        rest,
+        cost,
+    })
+}
+
+// Each item is as items are always, and has few tuples.
 fn known_items(items: &[Item])
-    ensures { All IsItem items.now }
+    requires { counted items.now ≤ 48 }
+    ensures known { All IsItem items.now }
+    ensures few { All (λ (i : Meaning). length i.tuples ≤ 64) items.now }
 {
     for item in items {
         item.known();
@@ -155,19 +188,12 @@ pub fn best<R: Threads + Sync>(
 {
     let items = instances.items();
     known_items(items);
-    let tables = tables(rt, alloc, items, width)?;
-    let keys = keys(alloc, &tables)?;
-    let costs = costs(alloc, &keys, items, &tables)?;
-    let Some(at) = least_place(&keys, &costs) else {
+    let table = tabulate(rt, alloc, items, width)?;
+    let costs = costs(alloc, &table.keys, items, &table.rows)?;
+    let keys = table.keys.as_slice();
+    let Some(at) = least_place(alloc, &table.cells, keys, &costs)? else {
         return Ok(None);
     };
-    let values = keys[at].copy(alloc)?;
-    let patterns = all_patterns(alloc, items, &tables, &values)?;
-    let rest = all_rests(alloc, items, &tables, &values)?;
-    Ok(Some(Candidate {
-        values,
-        patterns,
-        rest,
-        cost: costs[at],
-    }))
+    let candidate = candidate_at(alloc, items, &table, &keys[at], costs[at])?;
+    Ok(Some(candidate))
 }

@@ -1,23 +1,25 @@
 //! What candidates cost.
-ghost use Rattle.std.specs.Prelude.{◌≡◌, ◌+◌, ◌≤◌, ◌<◌, ◌^◌, ℕ, length, map, IfOk, IfSome, option_map, slice_index_or};
+ghost use Rattle.std.specs.Prelude.{◌≡◌, ◌+◌, ◌≤◌, ◌<◌, ◌^◌, ℕ, List, length, map, IfOk, IfSome, option_map, slice_index_or};
 ghost use Rattle.std.specs.List.{All};
 ghost use Rattle.finite.specs.Finite as set;
-ghost use Rattle.finite.specs.Finite.{IsRising};
 ghost use Rattle.herbrand_laws.specs.Herbrand.{Item as Meaning};
 ghost use Rattle.herbrand_laws.specs.Patterns.{TermSet};
 ghost use Rattle.herbrand_laws.specs.Candidates.{least, lesser};
-ghost use Rattle.delta_table.specs.Chosen.{share as share_of, zipped, raised, made_cost};
-ghost use Rattle.delta_table.specs.FoundRows.{tallies_of};
-ghost use Rattle.delta_table.specs.ValueOrder.{values_cmp, by_cost};
+ghost use Rattle.numbered_terms.specs.Numbered.{set_at, IsTermSet};
+ghost use Rattle.delta_table.specs.Chosen.{share as share_of, zipped, raised, cost_at};
+ghost use Rattle.delta_table.specs.FoundRows.{tallies_at};
+ghost use Rattle.delta_rows.specs.ValueOrder.{by_cost};
 
 use crate::founds::Found;
 use crate::item::Item;
-use crate::order::compare_sizes;
 use crate::places::count_outside;
+use crate::sets::compare_sets;
 use crate::tables::Rows;
 use crate::tallies::{Tally, tally_rows};
-use crate::values::Values;
+use arena_cells::Cells;
+use numbered_terms::{NumberSet, NumberSets};
 use std::alloc::{AllocError, Global};
+use std::cmp::Ordering;
 
 // A quantifier inference for each quantifier of an item, of each row of a tally and of each tuple that isn't among those of the tally.
 #[tactic(auto, using(crate::proofs::CostSteps::share_fits))]
@@ -58,8 +60,8 @@ fn with_shares(
 }
 
 // What the values cost, without items.
-fn first_costs(alloc: Global, keys: &[Values]) -> Result<Vec<u128>, AllocError>
-    ensures { IfOk result (λ v. v.items ≡ map (λ (w : TermSet). 1 + length (set.listing w)) keys.now) }
+fn first_costs(alloc: Global, keys: &[NumberSet]) -> Result<Vec<u128>, AllocError>
+    ensures { IfOk result (λ v. v.items ≡ map (λ (k : List ℕ). 1 + length k) keys.now) }
 {
     let mut costs = Vec::with_capacity(alloc, keys.len())?;
     for key in keys {
@@ -80,14 +82,13 @@ impl Sums {
     fn add(
         &mut self,
         alloc: Global,
-        keys: &[Values],
+        keys: &NumberSets,
         item: &Item,
         rows: &[Found],
     ) -> Result<(), AllocError>
-        requires rises { IsRising values_cmp keys.now }
         requires as_many { length self.old.each.items ≡ length keys.now }
         requires few { length item.now.tuples ≤ 64 }
-        ensures { IfOk result (λ _. raised self.new.all self.new.each.items ≡ zipped (λ c t. c + share_of item.now t) (raised self.old.all self.old.each.items) (tallies_of keys.now rows.now)) }
+        ensures { IfOk result (λ _. raised self.new.all self.new.each.items ≡ zipped (λ c t. c + share_of item.now t) (raised self.old.all self.old.each.items) (tallies_at keys.now rows.now)) }
     {
         if rows.is_empty() {
             self.all = sum_of(self.all, share(item, Tally::new()))?;
@@ -113,16 +114,15 @@ impl Sums {
 /// What each candidate costs, by the rows of the items.
 pub(crate) fn costs(
     alloc: Global,
-    keys: &[Values],
+    keys: &NumberSets,
     items: &[Item],
     tables: &[Rows],
 ) -> Result<Vec<u128>, AllocError>
-    requires rises { IsRising values_cmp keys.now }
     requires as_many { length tables.now ≡ length items.now }
     requires few { All (λ (i : Meaning). length i.tuples ≤ 64) items.now }
-    ensures { IfOk result (λ v. v.items ≡ map (λ w. made_cost w items.now tables.now) keys.now) }
+    ensures { IfOk result (λ v. v.items ≡ map (λ k. cost_at k items.now tables.now) keys.now) }
 {
-    let each = first_costs(alloc, keys)?;
+    let each = first_costs(alloc, keys.as_slice())?;
     let mut sums = Sums { each, all: 0 };
     for at in 0..items.len() {
         sums.add(alloc, keys, &items[at], tables[at].as_slice())?;
@@ -130,36 +130,67 @@ pub(crate) fn costs(
     sums.totals(alloc)
 }
 
-// The place of the lesser of a candidate and the least of others.
-fn lesser_place(keys: &[Values], costs: &[u128], at: usize, least: Option<usize>) -> usize
+// Which of two candidates comes first. The terms of their values are looked at only where costs and numbers of values tie.
+fn compare(
+    alloc: Global,
+    cells: &Cells,
+    keys: &[NumberSet],
+    costs: &[u128],
+    at: usize,
+    other: usize,
+) -> Result<Ordering, AllocError>
     requires as_many { length costs.now ≡ length keys.now }
-    requires within { at < length keys.now }
-    requires least { IfSome least (λ k. k < length keys.now) }
-    ensures within { result < length keys.now }
-    ensures value { (c : TermSet → ℕ) → costs.now ≡ map c keys.now → slice_index_or keys.now result set.empty ≡ lesser (by_cost c) (slice_index_or keys.now at set.empty) (option_map (λ k. slice_index_or keys.now k set.empty) least) }
+    requires sets { All (IsTermSet cells.now) keys.now }
+    requires at { at < length keys.now }
+    requires other { other < length keys.now }
+    ensures { IfOk result (λ o. (c : TermSet → ℕ) → costs.now ≡ map (λ k. c (set_at cells.now k)) keys.now → o ≡ by_cost c (slice_index_or (map (set_at cells.now) keys.now) at set.empty) (slice_index_or (map (set_at cells.now) keys.now) other set.empty)) }
 {
-    let Some(other) = least else {
-        return at;
-    };
-    let order = costs[at].cmp(&costs[other]);
-    if order.then(compare_sizes(&keys[at], &keys[other])).is_gt() {
-        other
-    } else {
-        at
+    match costs[at].cmp(&costs[other]) {
+        Ordering::Equal => compare_sets(alloc, cells, &keys[at], &keys[other]),
+        unequal => Ok(unequal),
     }
 }
 
+// The place of the lesser of a candidate and the least of others.
+fn lesser_place(
+    alloc: Global,
+    cells: &Cells,
+    keys: &[NumberSet],
+    costs: &[u128],
+    at: usize,
+    least: Option<usize>,
+) -> Result<usize, AllocError>
+    requires as_many { length costs.now ≡ length keys.now }
+    requires sets { All (IsTermSet cells.now) keys.now }
+    requires within { at < length keys.now }
+    requires least { IfSome least (λ k. k < length keys.now) }
+    ensures within { IfOk result (λ k. k < length keys.now) }
+    ensures value { IfOk result (λ k. (c : TermSet → ℕ) → costs.now ≡ map (λ k. c (set_at cells.now k)) keys.now → slice_index_or (map (set_at cells.now) keys.now) k set.empty ≡ lesser (by_cost c) (slice_index_or (map (set_at cells.now) keys.now) at set.empty) (option_map (λ k. slice_index_or (map (set_at cells.now) keys.now) k set.empty) least)) }
+{
+    let Some(other) = least else {
+        return Ok(at);
+    };
+    let order = compare(alloc, cells, keys, costs, at, other)?;
+    Ok(if order.is_gt() { other } else { at })
+}
+
 /// The place of the least candidate by the costs.
-pub(crate) fn least_place(keys: &[Values], costs: &[u128]) -> Option<usize>
-    requires { length costs.now ≡ length keys.now }
-    ensures within { IfSome result (λ k. k < length keys.now) }
-    ensures value { (c : TermSet → ℕ) → costs.now ≡ map c keys.now → option_map (λ k. slice_index_or keys.now k set.empty) result ≡ least (by_cost c) keys.now }
+pub(crate) fn least_place(
+    alloc: Global,
+    cells: &Cells,
+    keys: &[NumberSet],
+    costs: &[u128],
+) -> Result<Option<usize>, AllocError>
+    requires as_many { length costs.now ≡ length keys.now }
+    requires sets { All (IsTermSet cells.now) keys.now }
+    ensures within { IfOk result (λ o. IfSome o (λ k. k < length keys.now)) }
+    ensures value { IfOk result (λ o. (c : TermSet → ℕ) → costs.now ≡ map (λ k. c (set_at cells.now k)) keys.now → option_map (λ k. slice_index_or (map (set_at cells.now) keys.now) k set.empty) o ≡ least (by_cost c) (map (set_at cells.now) keys.now)) }
 {
     let mut least = None;
     let mut at = keys.len();
     while at > 0 {
         at -= 1;
-        least = Some(lesser_place(keys, costs, at, least));
+        least = Some(lesser_place(alloc, cells, keys, costs, at, least)?);
     }
-    least
+    Ok(least)
 }

@@ -1,19 +1,18 @@
 //! The rows of all items.
-ghost use Rattle.std.specs.Prelude.{◌≡◌, ◌≤◌, ◌++◌, length, map, IfOk};
+ghost use Rattle.std.specs.Prelude.{◌≡◌, ◌≤◌, ◌||◌, ℕ, Bool, List, length, map, IfOk, OnOk};
 ghost use Rattle.std.specs.List.{All, list_any};
-ghost use Rattle.std.specs.Ordering.{eq_by_cmp};
-ghost use Rattle.finite.specs.Finite.{IsRising};
 ghost use Rattle.herbrand_laws.specs.Herbrand.{Item as Meaning};
-ghost use Rattle.herbrand_laws.specs.Patterns.{TermSet};
-ghost use Rattle.delta_table.specs.FoundRows.{founds as founds_of, tables_of, values_in, all_values};
-ghost use Rattle.delta_table.specs.ValueOrder.{values_cmp};
+ghost use Rattle.arena_cells.specs.Standing.{IsTermAt};
+ghost use Rattle.numbered_terms.specs.Numbered.{tuples_at};
+ghost use Rattle.delta_table.specs.FoundRows.{founds as founds_of, AreRows, AreTables, numbers_in, all_numbers};
+ghost use Rattle.delta_table.specs.Tables.{IsTable};
 
 use crate::founds::{Found, founds};
 use crate::item::Item;
+use crate::numbering::{NumberedItems, numbered};
 use crate::parts::founds_by_threads;
-use crate::values::Values;
-use fol::Terms;
-use free_variables::rising;
+use arena_cells::{Cells, Numbers};
+use numbered_terms::{NumberSets, NumberedTerms};
 use std::alloc::{AllocError, Global};
 use std::marker::Model;
 use std::thread::Threads;
@@ -64,56 +63,91 @@ const FEW: usize = 12;
 fn rows_of_item<R: Threads + Sync>(
     rt: &R,
     alloc: Global,
-    tuples: &[Terms],
+    terms: &NumberedTerms,
+    tuples: &[u32],
     width: u64,
 ) -> Result<Rows, AllocError>
     requires few { length tuples.now ≤ 64 }
-    requires width { 1 ≤ width }
-    ensures { IfOk result (λ rows. rows ≡ founds_of width tuples.now) }
+    requires tuples { All (IsTermAt terms.now) tuples.now }
+    requires least_width { 1 ≤ width }
+    requires most_width { width ≤ 4 }
+    ensures { IfOk result (λ rows. AreRows terms.now rows (founds_of width (tuples_at terms.now tuples.now))) }
 {
     if tuples.len() > FEW {
-        return founds_by_threads(rt, alloc, tuples, width);
+        return founds_by_threads(rt, alloc, terms, tuples, width);
     }
-    let rows = founds(alloc, tuples, width)?;
+    let rows = founds(alloc, terms, tuples, width)?;
     Ok(Rows::from_vec(rows))
 }
 
-/// The rows of each item.
-pub(crate) fn tables<R: Threads + Sync>(
+// The rows of each item, by the numbers of its tuples.
+fn tables<R: Threads + Sync>(
     rt: &R,
     alloc: Global,
-    items: &[Item],
+    terms: &NumberedTerms,
+    numbers: &[Numbers],
     width: u64,
 ) -> Result<Vec<Rows>, AllocError>
-    requires few { All (λ (i : Meaning). length i.tuples ≤ 64) items.now }
-    requires width { 1 ≤ width }
-    ensures { IfOk result (λ v. v.items ≡ tables_of width items.now) }
+    requires few { All (λ (ns : List ℕ). length ns ≤ 64) numbers.now }
+    requires tuples { All (All (IsTermAt terms.now)) numbers.now }
+    requires least_width { 1 ≤ width }
+    requires most_width { width ≤ 4 }
+    ensures { IfOk result (λ v. AreTables terms.now v.items (map (λ ns. founds_of width (tuples_at terms.now ns)) numbers.now)) }
 {
-    let mut tables = Vec::with_capacity(alloc, items.len())?;
-    for item in items {
-        tables.push(rows_of_item(rt, alloc, item.tuples().as_slice(), width)?)?;
+    let mut tables = Vec::with_capacity(alloc, numbers.len())?;
+    for tuples in numbers {
+        tables.push(rows_of_item(rt, alloc, terms, tuples.as_slice(), width)?)?;
     }
     Ok(tables)
 }
 
-fn push_values(alloc: Global, list: &mut Vec<Values>, rows: &[Found]) -> Result<(), AllocError>
-    ensures { IfOk result (λ _. list.new.items ≡ list.old.items ++ values_in rows.now) }
+fn put_values(keys: &mut NumberSets, rows: &[Found]) -> Result<(), AllocError>
+    ensures { OnOk result ((p : List ℕ → Bool) → list_any p keys.new ≡ (list_any p keys.old || list_any p (numbers_in rows.now))) }
 {
     for row in rows {
-        list.push(row.values.copy(alloc)?)?;
+        keys.put(row.values.copy())?;
     }
     Ok(())
 }
 
-/// The sets of values that rows have, each once.
-pub(crate) fn keys(alloc: Global, tables: &[Rows]) -> Result<Vec<Values>, AllocError>
-    ensures rises { IfOk result (λ v. IsRising values_cmp v.items) }
-    ensures same { IfOk result (λ v. (w : TermSet) → list_any (eq_by_cmp values_cmp w) v.items ≡ list_any (eq_by_cmp values_cmp w) (all_values tables.now)) }
+// The sets of values that rows have, each once.
+fn keys(alloc: Global, tables: &[Rows]) -> Result<NumberSets, AllocError>
+    ensures { IfOk result (λ v. (p : List ℕ → Bool) → list_any p v ≡ list_any p (all_numbers tables.now)) }
 {
-    let mut keys = Vec::new(alloc);
+    let mut keys = NumberSets::new(alloc);
     for rows in tables {
-        push_values(alloc, &mut keys, rows.as_slice())?;
+        put_values(&mut keys, rows.as_slice())?;
     }
-    rising::sort_distinct(&mut keys);
     Ok(keys)
+}
+
+/// A delta table: the rows of each item, the sets of values that they have, each once, and the cells in which the terms are numbered.
+#[derive(Drop)]
+pub(crate) struct Table {
+    pub cells: Cells,
+    pub rows: Vec<Rows>,
+    pub keys: NumberSets,
+}
+
+/// The delta table of items.
+pub(crate) fn tabulate<R: Threads + Sync>(
+    rt: &R,
+    alloc: Global,
+    items: &[Item],
+    width: u64,
+) -> Result<Table, AllocError>
+    requires few { All (λ (i : Meaning). length i.tuples ≤ 64) items.now }
+    requires least_width { 1 ≤ width }
+    requires most_width { width ≤ 4 }
+    ensures { IfOk result (λ t. IsTable width items.now t) }
+{
+    let NumberedItems {
+        cells,
+        terms,
+        tuples,
+    } = numbered(alloc, items)?;
+    let rows = tables(rt, alloc, &terms, &tuples, width)?;
+    let keys = keys(alloc, &rows)?;
+    cells.known();
+    Ok(Table { cells, rows, keys })
 }

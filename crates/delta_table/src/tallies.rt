@@ -1,13 +1,11 @@
 //! How many rows have a set of values, and the places of their tuples.
-ghost use Rattle.std.specs.Prelude.{◌≡◌, ◌+◌, ◌<◌, ◌^◌, length, bit_or, IfOk};
+ghost use Rattle.std.specs.Prelude.{◌≡◌, ◌+◌, ◌<◌, ◌^◌, length, position, bit_or, IfOk};
 ghost use Rattle.std.specs.List.{All};
-ghost use Rattle.finite.specs.Finite.{IsRising};
-ghost use Rattle.finite.specs.Place.{place};
-ghost use Rattle.delta_table.specs.ValueOrder.{values_cmp};
-ghost use Rattle.delta_table.specs.FoundRows.{nothing, noted as with_row, noted_at, tallies_of, tally_of};
+ghost use Rattle.numbered_terms.specs.NumberSets.{same_numbers};
+ghost use Rattle.delta_table.specs.FoundRows.{nothing, noted as with_row, noted_at, tallies_at};
 
 use crate::founds::Found;
-use crate::values::Values;
+use numbered_terms::NumberSets;
 use std::alloc::{AllocError, Global};
 
 /// How many rows have a set of values, and the places of the tuples of these rows.
@@ -28,7 +26,7 @@ impl Tally {
     // The tally with one row more.
     fn noted(self, row: &Found) -> Tally
         requires { self.rows + 1 < 2 ^ 64 }
-        ensures { result ≡ with_row row.now self }
+        ensures { result ≡ with_row row.now.places self }
     {
         Tally {
             rows: self.rows + 1,
@@ -39,13 +37,12 @@ impl Tally {
 
 // Notes a row in the tally at the place of its values.
 #[tactic(auto, using(crate::proofs::TallySteps::place_within))]
-fn note(tallies: &mut [Tally], keys: &[Values], row: &Found)
+fn note(tallies: &mut [Tally], keys: &NumberSets, row: &Found)
     requires as_many { length tallies.old ≡ length keys.now }
-    requires rises { IsRising values_cmp keys.now }
     requires room { All (λ t. t.rows + 1 < 2 ^ 64) tallies.old }
-    ensures { tallies.new ≡ noted_at row.now (place values_cmp row.now.values keys.now) tallies.old }
+    ensures { tallies.new ≡ noted_at row.now (position (same_numbers row.now.values) keys.now) tallies.old }
 {
-    if let Ok(at) = finite::search(keys, &row.values) {
+    if let Some(at) = keys.place(&row.values) {
         let tally = tallies[at];
         tallies[at] = tally.noted(row);
     }
@@ -54,14 +51,14 @@ fn note(tallies: &mut [Tally], keys: &[Values], row: &Found)
 /// How many of the rows have each set of values, and the places of their tuples.
 pub(crate) fn tally_rows(
     alloc: Global,
-    keys: &[Values],
+    keys: &NumberSets,
     rows: &[Found],
 ) -> Result<Vec<Tally>, AllocError>
-    requires { IsRising values_cmp keys.now }
-    ensures { IfOk result (λ v. v.items ≡ tallies_of keys.now rows.now) }
+    ensures { IfOk result (λ v. v.items ≡ tallies_at keys.now rows.now) }
 {
-    let mut tallies = Vec::with_capacity(alloc, keys.len())?;
-    for _key in keys {
+    let sets = keys.as_slice();
+    let mut tallies = Vec::with_capacity(alloc, sets.len())?;
+    for _set in sets {
         tallies.push(Tally::new())?;
     }
     for row in rows {

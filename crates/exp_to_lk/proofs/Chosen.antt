@@ -1,5 +1,5 @@
 -- The first instance that is ready, by its place.
-use Rattle.std.proofs.Common.{◌≡◌, ℕ, zero, suc, ◌<◌, Bool, true, false, if◌then◌else◌, cond, List, [], ◌∷◌, length, Option, Some, None, refl, sym, ap, subst, ◌∙◌, arith}
+use Rattle.std.proofs.Common.{◌≡◌, ℕ, zero, suc, ◌<◌, Bool, true, false, if◌then◌else◌, cond, List, [], ◌∷◌, map, length, Option, Some, None, refl, sym, ap, subst, ◌∙◌, arith}
 use Rattle.std.specs.Prelude.{not, option_map}
 use Rattle.std.specs.Option.{IsSome, is_some}
 use Rattle.std.specs.List.{remove, slice_get, position}
@@ -16,7 +16,7 @@ use Rattle.building_laws.specs.Building.{Chosen, behind, first_ready, instantiat
 use Rattle.exp_to_lk.specs.Choosing.{has_some, instances_in, ready_place, ready_in, chosen}
 use Rattle.exp_to_lk.specs.Dividing.{chosen_of, chosen_step}
 use Rattle.exp_to_lk.proofs.Variables.{ready_by_set}
-use Rattle.exp_to_lk.proofs.Places.{first_place, position_is}
+use Rattle.exp_to_lk.proofs.Places.{first_place, first_mapped, position_is}
 
 -- the instance at the place, where there is one
 abbrev pub at_place : Insts → Option ℕ → Option Chosen
@@ -103,6 +103,10 @@ in_order vs (i ∷ is) = ap (λ o. cond (not (has_some vs i.term)) (Some 0) (opt
 
 pub ready_listed : (vs : VarSet) (is : List Inst) → position (λ i. not (has_some vs i.term)) is ≡ ready_place vs (insts_of is)
 ready_listed vs is = position_is (λ (i : Inst). not (has_some vs i.term)) is ∙ in_order vs is
+
+-- the same of instances that are lent
+pub ready_lent : {X : Type 0} (f : X → Inst) (vs : VarSet) (xs : List X) → position (λ x. not (has_some vs (f x).term)) xs ≡ ready_place vs (insts_of (map f xs))
+ready_lent f vs xs = position_is (λ x. not (has_some vs (f x).term)) xs ∙ (sym (first_mapped (λ (i : Inst). not (has_some vs i.term)) f xs) ∙ in_order vs (map f xs))
 
 -- the step by an instance of a list
 pub instance_within : (s : Side) (e : Exp) (f : Formula) (is : List Inst) (n : ℕ) → e ≡ weak f (insts_of is) → IsSome (chosen_of s e n) → n < length is

@@ -6,12 +6,16 @@ use Rattle.std.specs.List.{position, position_from, remove, slice_get}
 use Rattle.std.proofs.lemmas.Iterator.Adapters.{position_from-zero}
 use Rattle.building_laws.specs.Lists.{Placed}
 use Rattle.building_laws.specs.Building.{Step, or_else, within, first_step}
-use Rattle.exp_to_lk.specs.Taking.{put}
+use Rattle.exp_to_lk.specs.Putting.{put}
 
 -- the place of the first element that passes
 abbrev pub first_place : {X : Type 0} → (X → Bool) → List X → Option ℕ
 first_place t [] = None
 first_place t (x ∷ xs) = cond (t x) (Some 0) (option_map suc (first_place t xs))
+
+pub first_mapped : {X Y : Type 0} (t : Y → Bool) (f : X → Y) (xs : List X) → first_place t (map f xs) ≡ first_place (λ x. t (f x)) xs
+first_mapped t f [] = refl
+first_mapped t f (x ∷ xs) = ap (λ o. cond (t (f x)) (Some 0) (option_map suc o)) (first_mapped t f xs)
 
 -- places count from i
 counted_from : (i : ℕ) (o : Option ℕ) → option_map (λ n. (i + 1) + n) o ≡ option_map (λ n. i + n) (option_map suc o)

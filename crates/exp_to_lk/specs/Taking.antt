@@ -1,22 +1,31 @@
 -- A step that is taken at a list.
---     lists_of, step_of      what is stored of it, as a step
---     put      trees at a place of a list
-use Rattle.std.specs.Prelude.{ℕ, List, [], ◌∷◌, ◌++◌, take, drop}
-use Rattle.building_laws.specs.Lists.{Placed}
+--     put      elements at a place of a list
+--     step_of      what is stored of a step, as a step
+--     IsRest      what stays of a list
+use Rattle.std.specs.Prelude.{◌≤◌, List, length, map}
+use Rattle.std.specs.List.{All}
+use Rattle.arena_cells.specs.Items.{Item}
+use Rattle.arena_cells.specs.Meaning.{rule_at}
+use Rattle.building_laws.specs.Lists.{Placed, conclusion}
 use Rattle.building_laws.specs.Building.{Step}
-use Rattle.exp_to_lk.specs.declared.lists.Premises.{Premises}
-use Rattle.exp_to_lk.specs.declared.lists.Premises.TheVariants.{Zero, One, Two}
+use Rattle.exp_to_lk.specs.Dividing.{parts_each}
+use Rattle.exp_to_lk.specs.Leaves.{IsOpen}
+use Rattle.exp_to_lk.specs.Numbered.{trees, IsNumbered}
+use Rattle.exp_to_lk.specs.Putting.{put}
+use Rattle.exp_to_lk.specs.Sides.{HasSides}
+use Rattle.exp_to_lk.specs.declared.lists.Rest.{Rest}
 use Rattle.exp_to_lk.specs.declared.steps.Taken.{Taken}
 
--- the lists of the premises
-abbrev pub lists_of : Premises → List (List Placed)
-lists_of Zero = []
-lists_of (One l) = l.items ∷ []
-lists_of (Two l m) = l.items ∷ m.items ∷ []
+-- the lists of the premises, where the new trees of each stand at the place
+abbrev pub lists_over : Rest → List (List Placed) → List (List Placed)
+lists_over r = map (put (trees r.list.items) r.place)
 
-abbrev pub step_of : Taken → Step
-step_of t = record { rule = t.rule; premises = lists_of t.premises }
+abbrev pub step_of : List Item → Taken → Step
+step_of a t = record { rule = rule_at a t.rule; premises = lists_over t.rest (parts_each t.premises) }
 
--- the list with these at a place, in front of what is there
-abbrev pub put : List Placed → ℕ → List Placed → List Placed
-put l n ps = take n l ++ (ps ++ drop n l)
+-- what stays of a list has its sides, and its leaves end no branch
+pub record IsRest (a : List Item) (r : Rest) : Type 0 where
+  pub numbers : All (IsNumbered a) r.list.items
+  pub place : r.place ≤ length r.list.items
+  pub sides : HasSides a r.sides (conclusion (trees r.list.items))
+  pub open_leaves : IsOpen (trees r.list.items)

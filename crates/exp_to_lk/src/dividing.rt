@@ -1,174 +1,257 @@
 //! What takes the place of a tree: the rule of its connective or of its quantifier, and its parts.
-ghost use Rattle.std.specs.Prelude.{◌≡◌, [], ◌∷◌, IfOk, is_some, option_map};
-ghost use Rattle.lk_rules.specs.declared.sequent.Side.{Side as OnSide};
-ghost use Rattle.expansion_laws.specs.Expansions.{turn};
+ghost use Rattle.std.specs.Prelude.{◌≡◌, [], ◌∷◌, List, true, IfOk, Some, is_some};
+ghost use Rattle.fol.specs.Syntax.{not, and, or, imp};
+ghost use Rattle.expansion_laws.specs.Expansions.{turn, shallow};
+ghost use Rattle.arena_cells.specs.Items.{Item};
+ghost use Rattle.arena_cells.specs.Standing.{Extends, HasFormula, formula_at, variable_at, IsFormulaAt, IsVariableAt};
+ghost use Rattle.arena_cells.specs.Meaning.{rule_at, HasRuleParts};
 ghost use Rattle.building_laws.specs.Lists.{on};
-ghost use Rattle.building_laws.specs.Building.{neg_rule, and_rule, or_rule, imp_rule, strong_rule, conjuncts, disjuncts, parts_of};
-ghost use Rattle.exp_to_lk.specs.Dividing.{parts_each, divided};
+ghost use Rattle.building_laws.specs.Building.{neg_rule, and_rule, or_rule, imp_rule, strong_rule, conjuncts, disjuncts, parts};
+ghost use Rattle.exp_to_lk.specs.Numbered.{IsNumbered};
+ghost use Rattle.exp_to_lk.specs.Dividing.{parts_each, divided, ArePremisesNumbered};
 
-use crate::placed::PlacedExp;
-use exp_tree::{Exp, ExpRoot, other};
-use fol::{Formula, Var};
-use lk_rules::{Rule, Side};
-use std::alloc::AllocError;
+use crate::placed::{PlacedExp, Root, place_tree};
+use arena::{Arena, Key, RuleKey};
+use exp_tree::{Exp, other};
+use fol::Var;
+use lk_rules::Side;
+use std::alloc::{AllocError, Global};
 
-/// The trees that take the place of one.
+/// The trees that are added to what stays of a list.
 #[derive(Drop)]
-pub(crate) enum Parts {
-    /// One tree, in one premise.
-    One(PlacedExp),
-    /// Two trees, in one premise.
-    Both(PlacedExp, PlacedExp),
-    /// A tree in each of two premises.
-    Either(PlacedExp, PlacedExp),
+pub(crate) enum Added<'e> {
+    One(PlacedExp<'e>),
+    Two(PlacedExp<'e>, PlacedExp<'e>),
+}
+
+/// The trees that take the place of one, in each premise.
+#[derive(Drop)]
+pub(crate) enum Premises<'e> {
+    One(Added<'e>),
+    Two(Added<'e>, Added<'e>),
 }
 
 /// A rule, and what takes the place of its tree.
 #[derive(Drop)]
-pub(crate) struct Divided {
-    pub rule: Rule,
-    pub parts: Parts,
+pub(crate) struct Divided<'e> {
+    pub rule: RuleKey,
+    pub premises: Premises<'e>,
 }
 
-fn negation(side: Side, main: Formula) -> Rule
-    ensures { result ≡ neg_rule side main }
+fn negation(side: Side, main: u32) -> RuleKey
+    ensures rule { (a : List Item) → rule_at a result ≡ neg_rule side (formula_at a main) }
+    ensures parts { (a : List Item) → IsFormulaAt a main → HasRuleParts a result }
 {
     match side {
-        Side::Left => Rule::NegL(main),
-        Side::Right => Rule::NegR(main),
+        Side::Left => RuleKey::NegL(main),
+        Side::Right => RuleKey::NegR(main),
     }
 }
 
-fn conjunction(side: Side, main: Formula) -> Rule
-    ensures { result ≡ and_rule side main }
+fn conjunction(side: Side, main: u32) -> RuleKey
+    ensures rule { (a : List Item) → rule_at a result ≡ and_rule side (formula_at a main) }
+    ensures parts { (a : List Item) → IsFormulaAt a main → HasRuleParts a result }
 {
     match side {
-        Side::Left => Rule::AndL(main),
-        Side::Right => Rule::AndR(main),
+        Side::Left => RuleKey::AndL(main),
+        Side::Right => RuleKey::AndR(main),
     }
 }
 
-fn disjunction(side: Side, main: Formula) -> Rule
-    ensures { result ≡ or_rule side main }
+fn disjunction(side: Side, main: u32) -> RuleKey
+    ensures rule { (a : List Item) → rule_at a result ≡ or_rule side (formula_at a main) }
+    ensures parts { (a : List Item) → IsFormulaAt a main → HasRuleParts a result }
 {
     match side {
-        Side::Left => Rule::OrL(main),
-        Side::Right => Rule::OrR(main),
+        Side::Left => RuleKey::OrL(main),
+        Side::Right => RuleKey::OrR(main),
     }
 }
 
-fn implication(side: Side, main: Formula) -> Rule
-    ensures { result ≡ imp_rule side main }
+fn implication(side: Side, main: u32) -> RuleKey
+    ensures rule { (a : List Item) → rule_at a result ≡ imp_rule side (formula_at a main) }
+    ensures parts { (a : List Item) → IsFormulaAt a main → HasRuleParts a result }
 {
     match side {
-        Side::Left => Rule::ImpL(main),
-        Side::Right => Rule::ImpR(main),
+        Side::Left => RuleKey::ImpL(main),
+        Side::Right => RuleKey::ImpR(main),
     }
 }
 
-fn strong(side: Side, main: Formula, var: Var) -> Rule
-    ensures { result ≡ strong_rule side main var }
+fn strong(side: Side, main: u32, variable: u32) -> RuleKey
+    ensures rule { (a : List Item) → rule_at a result ≡ strong_rule side (formula_at a main) (variable_at a variable) }
+    ensures parts { (a : List Item) → IsFormulaAt a main → IsVariableAt a variable → HasRuleParts a result }
 {
     match side {
-        Side::Left => Rule::ExL(main, var),
-        Side::Right => Rule::AllR(main, var),
+        Side::Left => RuleKey::ExL(main, variable),
+        Side::Right => RuleKey::AllR(main, variable),
     }
 }
 
 // The parts of a conjunction: in one premise on the left, in a premise each on the right.
-fn conjoined(side: Side, first: PlacedExp, second: PlacedExp) -> Parts
-    ensures { parts_each result ≡ conjuncts side first second }
+fn conjoined<'e>(side: Side, first: PlacedExp<'e>, second: PlacedExp<'e>) -> Premises<'e>
+    ensures parts { parts_each result ≡ conjuncts side first.entry.placed second.entry.placed }
+    ensures numbers { (a : List Item) → IsNumbered a first.entry → IsNumbered a second.entry → ArePremisesNumbered a result }
 {
     match side {
-        Side::Left => Parts::Both(first, second),
-        Side::Right => Parts::Either(first, second),
+        Side::Left => Premises::One(Added::Two(first, second)),
+        Side::Right => Premises::Two(Added::One(first), Added::One(second)),
     }
 }
 
 // The parts of a disjunction, the other way round.
-fn disjoined(side: Side, first: PlacedExp, second: PlacedExp) -> Parts
-    ensures { parts_each result ≡ disjuncts side first second }
+fn disjoined<'e>(side: Side, first: PlacedExp<'e>, second: PlacedExp<'e>) -> Premises<'e>
+    ensures parts { parts_each result ≡ disjuncts side first.entry.placed second.entry.placed }
+    ensures numbers { (a : List Item) → IsNumbered a first.entry → IsNumbered a second.entry → ArePremisesNumbered a result }
 {
     match side {
-        Side::Left => Parts::Either(first, second),
-        Side::Right => Parts::Both(first, second),
+        Side::Left => Premises::Two(Added::One(first), Added::One(second)),
+        Side::Right => Premises::One(Added::Two(first, second)),
     }
 }
 
-/// Whether the root of the tree is a connective or a strong quantifier.
-pub(crate) fn is_compound(tree: &Exp) -> bool
-    ensures { (s : OnSide) → result ≡ is_some (parts_of s tree.now) }
+// The rule of a negation and its part.
+fn divide_not<'e>(
+    arena: &Arena,
+    alloc: Global,
+    side: Side,
+    main: u32,
+    body: &'e Exp,
+) -> Result<Divided<'e>, AllocError>
+    requires { HasFormula arena.now main (not (shallow body.now)) }
+    ensures divided { IfOk result (λ d. divided arena.now d ≡ record { rule = neg_rule side (not (shallow body.now)); premises = (on (turn side) body.now ∷ []) ∷ [] }) }
+    ensures rule { IfOk result (λ d. HasRuleParts arena.now d.rule) }
+    ensures numbers { IfOk result (λ d. ArePremisesNumbered arena.now d.premises) }
 {
-    match tree.root() {
-        ExpRoot::Not(_)
-        | ExpRoot::And(_, _)
-        | ExpRoot::Or(_, _)
-        | ExpRoot::Imp(_, _)
-        | ExpRoot::Strong(_, _, _) => true,
-        ExpRoot::Wk(_) | ExpRoot::Leaf(_) | ExpRoot::Weak(_, _) => false,
-    }
+    let Key::Not(number) = arena.key(main) else {
+        unreachable!()
+    };
+    let body = PlacedExp::new(alloc, other(side), *number, body)?;
+    Ok(Divided {
+        rule: negation(side, main),
+        premises: Premises::One(Added::One(body)),
+    })
 }
 
 // The rule of a conjunction and its parts.
-fn divide_and(side: Side, main: Formula, first: &Exp, second: &Exp) -> Result<Divided, AllocError>
-    ensures { IfOk result (λ d. divided d ≡ record { rule = and_rule side main; premises = conjuncts side (on side first.now) (on side second.now) }) }
+fn divide_and<'e>(
+    arena: &Arena,
+    alloc: Global,
+    side: Side,
+    main: u32,
+    first: &'e Exp,
+    second: &'e Exp,
+) -> Result<Divided<'e>, AllocError>
+    requires { HasFormula arena.now main (and (shallow first.now) (shallow second.now)) }
+    ensures divided { IfOk result (λ d. divided arena.now d ≡ record { rule = and_rule side (and (shallow first.now) (shallow second.now)); premises = conjuncts side (on side first.now) (on side second.now) }) }
+    ensures rule { IfOk result (λ d. HasRuleParts arena.now d.rule) }
+    ensures numbers { IfOk result (λ d. ArePremisesNumbered arena.now d.premises) }
 {
-    let first = PlacedExp::whole(side, first.copy()?);
-    let second = PlacedExp::whole(side, second.copy()?);
+    let Key::And(left, right) = arena.key(main) else {
+        unreachable!()
+    };
+    let first = PlacedExp::new(alloc, side, *left, first)?;
+    let second = PlacedExp::new(alloc, side, *right, second)?;
     Ok(Divided {
         rule: conjunction(side, main),
-        parts: conjoined(side, first, second),
+        premises: conjoined(side, first, second),
     })
 }
 
 // The rule of a disjunction and its parts.
-fn divide_or(side: Side, main: Formula, first: &Exp, second: &Exp) -> Result<Divided, AllocError>
-    ensures { IfOk result (λ d. divided d ≡ record { rule = or_rule side main; premises = disjuncts side (on side first.now) (on side second.now) }) }
+fn divide_or<'e>(
+    arena: &Arena,
+    alloc: Global,
+    side: Side,
+    main: u32,
+    first: &'e Exp,
+    second: &'e Exp,
+) -> Result<Divided<'e>, AllocError>
+    requires { HasFormula arena.now main (or (shallow first.now) (shallow second.now)) }
+    ensures divided { IfOk result (λ d. divided arena.now d ≡ record { rule = or_rule side (or (shallow first.now) (shallow second.now)); premises = disjuncts side (on side first.now) (on side second.now) }) }
+    ensures rule { IfOk result (λ d. HasRuleParts arena.now d.rule) }
+    ensures numbers { IfOk result (λ d. ArePremisesNumbered arena.now d.premises) }
 {
-    let first = PlacedExp::whole(side, first.copy()?);
-    let second = PlacedExp::whole(side, second.copy()?);
+    let Key::Or(left, right) = arena.key(main) else {
+        unreachable!()
+    };
+    let first = PlacedExp::new(alloc, side, *left, first)?;
+    let second = PlacedExp::new(alloc, side, *right, second)?;
     Ok(Divided {
         rule: disjunction(side, main),
-        parts: disjoined(side, first, second),
+        premises: disjoined(side, first, second),
     })
 }
 
 // The rule of an implication and its parts.
-fn divide_imp(side: Side, main: Formula, first: &Exp, second: &Exp) -> Result<Divided, AllocError>
-    ensures { IfOk result (λ d. divided d ≡ record { rule = imp_rule side main; premises = disjuncts side (on (turn side) first.now) (on side second.now) }) }
+fn divide_imp<'e>(
+    arena: &Arena,
+    alloc: Global,
+    side: Side,
+    main: u32,
+    first: &'e Exp,
+    second: &'e Exp,
+) -> Result<Divided<'e>, AllocError>
+    requires { HasFormula arena.now main (imp (shallow first.now) (shallow second.now)) }
+    ensures divided { IfOk result (λ d. divided arena.now d ≡ record { rule = imp_rule side (imp (shallow first.now) (shallow second.now)); premises = disjuncts side (on (turn side) first.now) (on side second.now) }) }
+    ensures rule { IfOk result (λ d. HasRuleParts arena.now d.rule) }
+    ensures numbers { IfOk result (λ d. ArePremisesNumbered arena.now d.premises) }
 {
-    let first = PlacedExp::whole(other(side), first.copy()?);
-    let second = PlacedExp::whole(side, second.copy()?);
+    let Key::Imp(left, right) = arena.key(main) else {
+        unreachable!()
+    };
+    let first = PlacedExp::new(alloc, other(side), *left, first)?;
+    let second = PlacedExp::new(alloc, side, *right, second)?;
     Ok(Divided {
         rule: implication(side, main),
-        parts: disjoined(side, first, second),
+        premises: disjoined(side, first, second),
     })
 }
 
-// A rule and the one tree that takes the place of its own.
-fn divide_one(rule: Rule, side: Side, part: &Exp) -> Result<Divided, AllocError>
-    ensures { IfOk result (λ d. divided d ≡ record { rule = rule; premises = (on side part.now ∷ []) ∷ [] }) }
+// The rule of a strong quantifier and the instance by its variable.
+fn divide_strong<'e>(
+    arena: &mut Arena,
+    alloc: Global,
+    side: Side,
+    main: u32,
+    variable: &Var,
+    child: &'e Exp,
+) -> Result<Divided<'e>, AllocError>
+    requires { IsFormulaAt arena.old main }
+    ensures divided { IfOk result (λ d. divided arena.new d ≡ record { rule = strong_rule side (formula_at arena.old main) variable.now; premises = (on side child.now ∷ []) ∷ [] }) }
+    ensures rule { IfOk result (λ d. HasRuleParts arena.new d.rule) }
+    ensures numbers { IfOk result (λ d. ArePremisesNumbered arena.new d.premises) }
+    ensures grown { Extends arena.old arena.new }
 {
-    let part = PlacedExp::whole(side, part.copy()?);
+    let variable = arena.import_variable(alloc, variable)?;
+    let child = place_tree(arena, alloc, side, child)?;
     Ok(Divided {
-        rule,
-        parts: Parts::One(part),
+        rule: strong(side, main, variable),
+        premises: Premises::One(Added::One(child)),
     })
 }
 
-/// The rule of a tree's connective or strong quantifier on the side, and what takes the place of the tree.
-pub(crate) fn divide(side: Side, tree: &Exp) -> Result<Option<Divided>, AllocError>
-    ensures { IfOk result (λ o. parts_of side tree.now ≡ option_map divided o) }
+/// The rule of a tree's connective or strong quantifier on its side, and what takes the place of the tree.
+pub(crate) fn divide<'e>(
+    arena: &mut Arena,
+    alloc: Global,
+    placed: PlacedExp<'e>,
+) -> Result<Divided<'e>, AllocError>
+    requires number { IsNumbered arena.old placed }
+    requires compound { is_some (parts placed.placed) ≡ true }
+    ensures divided { IfOk result (λ d. parts placed.entry.placed ≡ Some (divided arena.new d)) }
+    ensures rule { IfOk result (λ d. HasRuleParts arena.new d.rule) }
+    ensures numbers { IfOk result (λ d. ArePremisesNumbered arena.new d.premises) }
+    ensures grown { Extends arena.old arena.new }
 {
-    Ok(Some(match tree.root() {
-        ExpRoot::Wk(_) | ExpRoot::Leaf(_) | ExpRoot::Weak(_, _) => return Ok(None),
-        ExpRoot::Not(body) => divide_one(negation(side, tree.shallow()?), other(side), body)?,
-        ExpRoot::And(first, second) => divide_and(side, tree.shallow()?, first, second)?,
-        ExpRoot::Or(first, second) => divide_or(side, tree.shallow()?, first, second)?,
-        ExpRoot::Imp(first, second) => divide_imp(side, tree.shallow()?, first, second)?,
-        ExpRoot::Strong(formula, var, child) => {
-            let rule = strong(side, formula.copy()?, var.copy()?);
-            divide_one(rule, side, child)?
-        }
-    }))
+    let side = placed.side();
+    let main = placed.formula();
+    match placed.into_root() {
+        Root::Not(body) => divide_not(arena, alloc, side, main, body),
+        Root::And(first, second) => divide_and(arena, alloc, side, main, first, second),
+        Root::Or(first, second) => divide_or(arena, alloc, side, main, first, second),
+        Root::Imp(first, second) => divide_imp(arena, alloc, side, main, first, second),
+        Root::Strong(_, var, child) => divide_strong(arena, alloc, side, main, var, child),
+        Root::Wk(_) | Root::Leaf(_) | Root::Weak(..) => unreachable!(),
+    }
 }

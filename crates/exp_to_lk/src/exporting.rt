@@ -50,7 +50,7 @@ fn build_tree(
     laws::proofs();
     laws::lists();
     known(exps);
-    let list = start(alloc, exps.tree())?;
+    let list = start(arena, alloc, exps.tree())?;
     let mut left = budget;
     match build_list(arena, alloc, list, &mut left) {
         Ok(built) => Ok(built),

@@ -1,178 +1,154 @@
 //! The rule without premises by which the leaves of a list end a branch.
-ghost use Rattle.std.specs.Prelude.{◌≡◌, ◌++◌, ℕ, find, filter, map, option_to_list, option_copied, IfOk};
+ghost use Rattle.std.specs.Prelude.{◌≡◌, ◌++◌, ℕ, filter, option_map, option_to_list, IfOk, IfSome};
 ghost use Rattle.std.specs.List.{All, list_any};
-ghost use Rattle.std.specs.Ordering.{nat_cmp, eq_by_cmp};
-ghost use Rattle.fol.specs.Syntax.{top, bot};
-ghost use Rattle.fol.specs.Facts.{formula_fingerprint};
-ghost use Rattle.fol.specs.Formed.{IsFormed};
-ghost use Rattle.fol.specs.Order.{formula_cmp};
+ghost use Rattle.std.specs.Ordering.{nat_cmp};
 ghost use Rattle.finite.specs.Finite as set;
-ghost use Rattle.building_laws.specs.Lists.{trees_on, leaf_formulas, leaf_sequent};
+ghost use Rattle.lk_rules.specs.declared.sequent.Side.TheVariants.{Left as OnLeft};
+ghost use Rattle.arena_cells.specs.Standing.{IsFormulaAt};
+ghost use Rattle.arena_cells.specs.Meaning.{rule_at, HasRuleParts};
+ghost use Rattle.building_laws.specs.Lists.{leaf_sequent};
 ghost use Rattle.building_laws.specs.Building.{closing_rule};
-ghost use Rattle.lk_rules.specs.declared.sequent.Side.TheVariants.{Left as OnLeft, Right as OnRight};
-ghost use Rattle.exp_to_lk.specs.Leaves.{leaf_on, is_leaf_on, has_print};
+ghost use Rattle.exp_to_lk.specs.Leaves.{is_truth_leaf, is_falsity_leaf, leaf_number, leaf_numbers, is_number_in, is_common, lesser_of, IsLeastAt};
+ghost use Rattle.exp_to_lk.specs.Numbered.{trees, IsNumbered};
 
 use crate::placed::PlacedExp;
-use fol::{Formula, FormulaNode};
+use arena::{Arena, RuleKey};
 use free_variables::rising;
-use lk_rules::{Formulas, Rule, Side};
+use lk_rules::Side;
 use std::alloc::{AllocError, Global};
+use std::cmp::Ordering;
 
-// Appends the fingerprint of a leaf on the side.
-fn push_print(prints: &mut Vec<u64>, placed: &PlacedExp, side: Side) -> Result<(), AllocError>
-    ensures { IfOk result (λ _. prints.new.items ≡ prints.old.items ++ map formula_fingerprint (option_to_list (leaf_on side placed.now))) }
+// Appends the number of a leaf on the side.
+fn push_leaf(numbers: &mut Vec<u32>, placed: &PlacedExp<'_>, side: Side) -> Result<(), AllocError>
+    ensures { IfOk result (λ _. numbers.new.items ≡ numbers.old.items ++ option_to_list (leaf_number side placed.now)) }
 {
-    if let Some(formula) = placed.leaf_on(side) {
-        prints.push(formula.fingerprint())?;
+    if let Some(number) = placed.leaf_on(side) {
+        numbers.push(number)?;
     }
     Ok(())
 }
 
-// The fingerprints of the leaves on a side, in rising order.
-fn prints(alloc: Global, list: &[PlacedExp], side: Side) -> Result<Vec<u64>, AllocError>
-    ensures rises { IfOk result (λ ps. set.IsRising nat_cmp ps.items) }
-    ensures same { IfOk result (λ ps. (n : ℕ) → list_any (eq_by_cmp nat_cmp n) ps.items ≡ list_any (eq_by_cmp nat_cmp n) (map formula_fingerprint (leaf_formulas (trees_on side list.now)))) }
+// The numbers of the leaves on a side, in rising order.
+fn leaves_on(alloc: Global, list: &[PlacedExp<'_>], side: Side) -> Result<Vec<u32>, AllocError>
+    ensures rises { IfOk result (λ ns. set.IsRising nat_cmp ns.items) }
+    ensures same { IfOk result (λ ns. (n : ℕ) → is_number_in ns.items n ≡ is_number_in (leaf_numbers side list.now) n) }
 {
-    let mut prints = Vec::new(alloc);
+    let mut numbers = Vec::new(alloc);
     for placed in list {
-        push_print(&mut prints, placed, side)?;
+        push_leaf(&mut numbers, placed, side)?;
     }
-    rising::sort_distinct(&mut prints);
-    Ok(prints)
+    rising::sort_distinct(&mut numbers);
+    Ok(numbers)
 }
 
-// Whether the formula's fingerprint is among these.
-fn is_printed(prints: &[u64], formula: &Formula) -> bool
-    requires { set.IsRising nat_cmp prints.now }
-    ensures { result ≡ has_print prints.now formula.now }
+// Whether the number is among these.
+fn is_among(numbers: &[u32], number: u32) -> bool
+    requires { set.IsRising nat_cmp numbers.now }
+    ensures { result ≡ is_number_in numbers.now number }
 {
-    finite::search(prints, &formula.fingerprint()).is_ok()
+    finite::search(numbers, &number).is_ok()
 }
 
-// Appends the formula of a leaf on the left whose fingerprint is among these.
-fn push_with_print(
-    formulas: &mut Vec<Formula>,
-    placed: &PlacedExp,
-    prints: &[u64],
+// Appends the number of a leaf on the left that is among these.
+fn push_among(
+    common: &mut Vec<u32>,
+    placed: &PlacedExp<'_>,
+    numbers: &[u32],
 ) -> Result<(), AllocError>
-    requires formed { All IsFormed formulas.old.items }
-    requires rises { set.IsRising nat_cmp prints.now }
-    ensures leaf { IfOk result (λ _. formulas.new.items ≡ formulas.old.items ++ filter (has_print prints.now) (option_to_list (leaf_on OnLeft placed.now))) }
-    ensures formed { IfOk result (λ _. All IsFormed formulas.new.items) }
+    requires { set.IsRising nat_cmp numbers.now }
+    ensures { IfOk result (λ _. common.new.items ≡ common.old.items ++ filter (is_number_in numbers.now) (option_to_list (leaf_number OnLeft placed.now))) }
 {
-    if let Some(formula) = placed.leaf_on(Side::Left) {
-        if is_printed(prints, formula) {
-            formulas.push(formula.copy()?)?;
+    if let Some(number) = placed.leaf_on(Side::Left) {
+        if is_among(numbers, number) {
+            common.push(number)?;
         }
     }
     Ok(())
 }
 
-// The formulas of the leaves on the left whose fingerprints are among these.
-fn with_print(alloc: Global, list: &[PlacedExp], prints: &[u64]) -> Result<Vec<Formula>, AllocError>
-    requires { set.IsRising nat_cmp prints.now }
-    ensures leaves { IfOk result (λ fs. fs.items ≡ filter (has_print prints.now) (leaf_formulas (trees_on OnLeft list.now))) }
-    ensures formed { IfOk result (λ fs. All IsFormed fs.items) }
+// The numbers of the leaves on the left that are among these.
+fn among(alloc: Global, list: &[PlacedExp<'_>], numbers: &[u32]) -> Result<Vec<u32>, AllocError>
+    requires { set.IsRising nat_cmp numbers.now }
+    ensures { IfOk result (λ common. common.items ≡ filter (is_number_in numbers.now) (leaf_numbers OnLeft list.now)) }
 {
-    let mut formulas = Vec::new(alloc);
+    let mut common = Vec::new(alloc);
     for placed in list {
-        push_with_print(&mut formulas, placed, prints)?;
+        push_among(&mut common, placed, numbers)?;
     }
-    Ok(formulas)
+    Ok(common)
 }
 
-// Whether the tree is a leaf of the formula on the side.
-fn is_leaf_of(placed: &PlacedExp, side: Side, formula: &Formula) -> bool
-    ensures { result ≡ list_any (eq_by_cmp formula_cmp formula.now) (option_to_list (leaf_on side placed.now)) }
+// The numbers of the formulas that are leaves on both sides.
+fn common(alloc: Global, list: &[PlacedExp<'_>]) -> Result<Vec<u32>, AllocError>
+    ensures { IfOk result (λ common. (n : ℕ) → is_number_in common.items n ≡ is_common list.now n) }
 {
-    match placed.leaf_on(side) {
-        Some(leaf) => formula == leaf,
-        None => false,
-    }
+    let right = leaves_on(alloc, list, Side::Right)?;
+    among(alloc, list, &right)
 }
 
-// Whether the formula is a leaf on the side.
-fn has_leaf(list: &[PlacedExp], side: Side, formula: &Formula) -> bool
-    ensures { result ≡ is_leaf_on side list.now formula.now }
+// The number of the lesser formula of two, or of the one that there is.
+fn lesser(arena: &Arena, least: Option<u32>, number: u32) -> u32
+    requires least { IfSome least (IsFormulaAt arena.now) }
+    requires number { IsFormulaAt arena.now number }
+    ensures { result ≡ lesser_of arena.now least number }
 {
-    list.iter().any(|placed| is_leaf_of(placed, side, formula))
-}
-
-// The least formula of the set that is a leaf on the right.
-fn first_on_right<'f>(formulas: &'f Formulas, list: &[PlacedExp]) -> Option<&'f Formula>
-    ensures { option_copied result ≡ find (is_leaf_on OnRight list.now) (set.listing formulas.now) }
-{
-    for formula in formulas.as_slice() {
-        if has_leaf(list, Side::Right, formula) {
-            return Some(formula);
-        }
-    }
-    None
-}
-
-// The least formula that is a leaf on both sides. Where no fingerprint is on both sides, no two formulas are compared.
-fn common(alloc: Global, list: &[PlacedExp]) -> Result<Option<Formula>, AllocError>
-    ensures { IfOk result (λ f. f ≡ find (is_leaf_on OnRight list.now) (set.listing (leaf_sequent list.now).left)) }
-{
-    let prints = prints(alloc, list, Side::Right)?;
-    let formulas = with_print(alloc, list, &prints)?;
-    if formulas.is_empty() {
-        return Ok(None);
-    }
-    let formulas = Formulas::from_vec(alloc, formulas)?;
-    match first_on_right(&formulas, list) {
-        Some(formula) => Ok(Some(formula.copy()?)),
-        None => Ok(None),
+    let Some(least) = least else {
+        return number;
+    };
+    match arena.formula(least).cmp(arena.formula(number)) {
+        Ordering::Less | Ordering::Equal => least,
+        Ordering::Greater => number,
     }
 }
 
-// Whether the tree is a leaf of truth on the right.
-fn is_truth(placed: &PlacedExp) -> bool
-    ensures { result ≡ list_any (eq_by_cmp formula_cmp top) (option_to_list (leaf_on OnRight placed.now)) }
+/// The number of the least formula of some.
+pub(crate) fn least(arena: &Arena, numbers: &[u32]) -> Option<u32>
+    requires { All (IsFormulaAt arena.now) numbers.now }
+    ensures there { IfSome result (IsFormulaAt arena.now) }
+    ensures least { IsLeastAt arena.now numbers.now result }
 {
-    match placed.leaf_on(Side::Right) {
-        Some(leaf) => matches!(leaf.node(), FormulaNode::Top),
-        None => false,
+    let mut least = None;
+    for number in numbers {
+        least = Some(lesser(arena, least, *number));
     }
+    least
 }
 
 // Whether truth is a leaf on the right.
-fn has_truth(list: &[PlacedExp]) -> bool
-    ensures { result ≡ is_leaf_on OnRight list.now top }
+fn has_truth(list: &[PlacedExp<'_>]) -> bool
+    ensures { result ≡ list_any is_truth_leaf list.now }
 {
-    list.iter().any(|placed| is_truth(placed))
-}
-
-// Whether the tree is a leaf of falsity on the left.
-fn is_falsity(placed: &PlacedExp) -> bool
-    ensures { result ≡ list_any (eq_by_cmp formula_cmp bot) (option_to_list (leaf_on OnLeft placed.now)) }
-{
-    match placed.leaf_on(Side::Left) {
-        Some(leaf) => matches!(leaf.node(), FormulaNode::Bot),
-        None => false,
-    }
+    list.iter().any(|placed| placed.is_truth())
 }
 
 // Whether falsity is a leaf on the left.
-fn has_falsity(list: &[PlacedExp]) -> bool
-    ensures { result ≡ is_leaf_on OnLeft list.now bot }
+fn has_falsity(list: &[PlacedExp<'_>]) -> bool
+    ensures { result ≡ list_any is_falsity_leaf list.now }
 {
-    list.iter().any(|placed| is_falsity(placed))
+    list.iter().any(|placed| placed.is_falsity())
 }
 
 /// The rule without premises at a list: an axiom on the least formula that is a leaf on both sides; else truth on the right; else falsity
 /// on the left.
-pub(crate) fn closing(alloc: Global, list: &[PlacedExp]) -> Result<Option<Rule>, AllocError>
-    ensures { IfOk result (λ rule. rule ≡ closing_rule (leaf_sequent list.now)) }
+pub(crate) fn closing(
+    arena: &Arena,
+    alloc: Global,
+    list: &[PlacedExp<'_>],
+) -> Result<Option<RuleKey>, AllocError>
+    requires { All (IsNumbered arena.now) list.now }
+    ensures rule { IfOk result (λ rule. option_map (rule_at arena.now) rule ≡ closing_rule (leaf_sequent (trees list.now))) }
+    ensures parts { IfOk result (λ rule. IfSome rule (HasRuleParts arena.now)) }
 {
-    if let Some(formula) = common(alloc, list)? {
-        return Ok(Some(Rule::Ax(formula)));
+    arena.known();
+    let common = common(alloc, list)?;
+    if let Some(formula) = least(arena, &common) {
+        return Ok(Some(RuleKey::Ax(formula)));
     }
     if has_truth(list) {
-        return Ok(Some(Rule::TopR));
+        return Ok(Some(RuleKey::TopR));
     }
     if has_falsity(list) {
-        return Ok(Some(Rule::BotL));
+        return Ok(Some(RuleKey::BotL));
     }
     Ok(None)
 }

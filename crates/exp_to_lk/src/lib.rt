@@ -1,6 +1,7 @@
 //! Proofs from expansion proofs, after Miller (1987).
 #![tactic(auto)]
 
+mod added;
 mod building;
 mod dividing;
 mod exporting;
@@ -10,6 +11,7 @@ pub mod laws;
 mod leaves;
 mod lists;
 mod placed;
+mod sides;
 mod steps;
 
 pub use exporting::build;

@@ -1,78 +1,81 @@
 //! Lists of trees on sides.
-ghost use Rattle.std.specs.Prelude.{◌≡◌, ◌∷◌, [], ◌++◌, ◌≤◌, length, map, take, drop, IfOk};
+ghost use Rattle.std.specs.Prelude.{◌≡◌, ◌++◌, ◌≤◌, length, map, IfOk};
+ghost use Rattle.std.specs.List.{All};
 ghost use Rattle.finite.specs.Finite as set;
+ghost use Rattle.arena_cells.specs.Standing.{Extends};
 ghost use Rattle.building_laws.specs.Lists.{on, start as start_list, strongs_in_list};
-ghost use Rattle.exp_to_lk.specs.Dividing.{parts_each};
-ghost use Rattle.exp_to_lk.specs.Taking.{lists_of, put};
 ghost use Rattle.exp_tree.specs.Reads.{expansion_of};
+ghost use Rattle.exp_to_lk.specs.Choosing.{begins_closed as is_begun_closed, IsAsReady};
+ghost use Rattle.exp_to_lk.specs.Dividing.{items_of};
+ghost use Rattle.exp_to_lk.specs.Numbered.{trees as placed_in, IsNumbered};
+ghost use Rattle.exp_to_lk.specs.Putting.{put};
 
-use crate::dividing::Parts;
-use crate::placed::PlacedExp;
+use crate::dividing::Added;
+use crate::placed::{PlacedExp, place_tree};
+use crate::sides::Sides;
+use arena::Arena;
 use exp_tree::{Exp, ExpSequent};
 use free_variables::Vars;
 use lk_rules::Side;
 use std::alloc::{AllocError, Global};
 
-/// The lists of the premises of a step.
+/// What stays of a list when a tree is taken out, the place at which new trees are added, and the sides of the sequent of what stays.
 #[derive(Drop)]
-pub(crate) enum Premises {
-    Zero,
-    One(Vec<PlacedExp>),
-    Two(Vec<PlacedExp>, Vec<PlacedExp>),
+pub(crate) struct Rest<'e> {
+    pub list: Vec<PlacedExp<'e>>,
+    pub place: usize,
+    pub sides: Sides,
 }
 
-// The same list, whose trees are shared.
-fn copy_list(alloc: Global, list: &[PlacedExp]) -> Result<Vec<PlacedExp>, AllocError>
+// The same list, with room for two more trees.
+fn copy_list<'e>(alloc: Global, list: &[PlacedExp<'e>]) -> Result<Vec<PlacedExp<'e>>, AllocError>
     ensures { IfOk result (λ copies. copies.items ≡ list.now) }
 {
-    let mut copies = Vec::with_capacity(alloc, list.len())?;
+    let mut copies = Vec::with_capacity(alloc, list.len() + 2)?;
     for placed in list {
         copies.push(placed.copy(alloc)?)?;
     }
     Ok(copies)
 }
 
-// The list with a tree at a place, in front of the one that is there.
-fn put_one(
-    list: Vec<PlacedExp>,
-    place: usize,
-    part: PlacedExp,
-) -> Result<Vec<PlacedExp>, AllocError>
-    requires { place ≤ length list.items }
-    ensures { IfOk result (λ l. l.items ≡ put list.items place (part ∷ [])) }
-{
-    let mut list = list;
-    list.insert(place, part)?;
-    Ok(list)
-}
+impl<'e> Rest<'e> {
+    /// The same of a list.
+    pub fn copy(&self, alloc: Global) -> Result<Rest<'e>, AllocError>
+        ensures list { IfOk result (λ copy. copy.list.items ≡ self.now.list.items) }
+        ensures place { IfOk result (λ copy. copy.place ≡ self.now.place) }
+    {
+        let list = copy_list(alloc, &self.list)?;
+        Ok(Rest {
+            list,
+            place: self.place,
+            sides: self.sides,
+        })
+    }
 
-/// The lists of the premises, where these parts stand at a place, in front of the tree that is there.
-pub(crate) fn put_parts(
-    alloc: Global,
-    list: Vec<PlacedExp>,
-    place: usize,
-    parts: Parts,
-) -> Result<Premises, AllocError>
-    requires { place ≤ length list.items }
-    ensures { IfOk result (λ premises. lists_of premises ≡ map (put list.items place) (parts_each parts)) }
-{
-    match parts {
-        Parts::One(part) => Ok(Premises::One(put_one(list, place, part)?)),
-        Parts::Both(first, second) => {
-            let list = put_one(list, place, second)?;
-            Ok(Premises::One(put_one(list, place, first)?))
+    /// The list with trees that are added at the place.
+    pub fn with(self, added: Added<'e>) -> Result<Vec<PlacedExp<'e>>, AllocError>
+        requires { self.place ≤ length self.list.items }
+        ensures { IfOk result (λ list. list.items ≡ put self.entry.list.items self.entry.place (items_of added.entry)) }
+    {
+        let Rest {
+            mut list,
+            place,
+            ..
+        } = self;
+        match added {
+            Added::One(placed) => list.insert(place, placed)?,
+            Added::Two(first, second) => {
+                list.insert(place, second)?;
+                list.insert(place, first)?;
+            }
         }
-        Parts::Either(first, second) => {
-            let copy = copy_list(alloc, &list)?;
-            let list = put_one(list, place, first)?;
-            Ok(Premises::Two(list, put_one(copy, place, second)?))
-        }
+        Ok(list)
     }
 }
 
-/// The variables of the strong quantifiers that are still in the list.
-pub(crate) fn strong_vars(alloc: Global, list: &[PlacedExp]) -> Result<Vars, AllocError>
-    ensures { IfOk result (λ vars. vars ≡ set.adds_each set.empty (strongs_in_list list.now)) }
+// The variables of the strong quantifiers that are still in the list.
+fn strong_vars(alloc: Global, list: &[PlacedExp<'_>]) -> Result<Vars, AllocError>
+    ensures { IfOk result (λ vars. vars ≡ set.adds_each set.empty (strongs_in_list (placed_in list.now))) }
 {
     let mut vars = Vec::new(alloc);
     for placed in list {
@@ -81,22 +84,60 @@ pub(crate) fn strong_vars(alloc: Global, list: &[PlacedExp]) -> Result<Vars, All
     Ok(Vars::from_vec(vars))
 }
 
+// Whether the term of the first instance, by tree and then by term, has no free variable.
+fn begins_closed(list: &[PlacedExp<'_>]) -> bool
+    ensures { result ≡ is_begun_closed (placed_in list.now) }
+{
+    for placed in list {
+        if let Some(closed) = placed.first_closed() {
+            return closed;
+        }
+    }
+    false
+}
+
+/// Variables by which the first instance is found that may be taken. The variables of the strong quantifiers are looked for only where the
+/// first instance of all has a free variable.
+pub(crate) fn awaited_vars(alloc: Global, list: &[PlacedExp<'_>]) -> Result<Vars, AllocError>
+    ensures { IfOk result (λ vars. IsAsReady vars (set.adds_each set.empty (strongs_in_list (placed_in list.now))) (placed_in list.now)) }
+{
+    if begins_closed(list) {
+        return Ok(Vars::new(alloc));
+    }
+    strong_vars(alloc, list)
+}
+
 // Appends trees on a side.
-fn push_trees(list: &mut Vec<PlacedExp>, side: Side, trees: &[Exp]) -> Result<(), AllocError>
-    ensures { IfOk result (λ _. list.new.items ≡ list.old.items ++ map (on side) trees.now) }
+fn push_trees<'e>(
+    arena: &mut Arena,
+    alloc: Global,
+    list: &mut Vec<PlacedExp<'e>>,
+    side: Side,
+    trees: &'e [Exp],
+) -> Result<(), AllocError>
+    requires { All (IsNumbered arena.old) list.old.items }
+    ensures trees { IfOk result (λ _. placed_in list.new.items ≡ placed_in list.old.items ++ map (on side) trees.now) }
+    ensures numbers { IfOk result (λ _. All (IsNumbered arena.new) list.new.items) }
+    ensures grown { Extends arena.old arena.new }
 {
     for tree in trees {
-        list.push(PlacedExp::whole(side, tree.copy()?))?;
+        list.push(place_tree(arena, alloc, side, tree)?)?;
     }
     Ok(())
 }
 
 /// The list that building begins with: the trees of the left in order, then those of the right.
-pub(crate) fn start(alloc: Global, exps: &ExpSequent) -> Result<Vec<PlacedExp>, AllocError>
-    ensures { IfOk result (λ list. list.items ≡ start_list (expansion_of exps.now)) }
+pub(crate) fn start<'e>(
+    arena: &mut Arena,
+    alloc: Global,
+    exps: &'e ExpSequent,
+) -> Result<Vec<PlacedExp<'e>>, AllocError>
+    ensures list { IfOk result (λ list. placed_in list.items ≡ start_list (expansion_of exps.now)) }
+    ensures numbers { IfOk result (λ list. All (IsNumbered arena.new) list.items) }
+    ensures grown { Extends arena.old arena.new }
 {
     let mut list = Vec::new(alloc);
-    push_trees(&mut list, Side::Left, exps.left.as_slice())?;
-    push_trees(&mut list, Side::Right, exps.right.as_slice())?;
+    push_trees(arena, alloc, &mut list, Side::Left, exps.left.as_slice())?;
+    push_trees(arena, alloc, &mut list, Side::Right, exps.right.as_slice())?;
     Ok(list)
 }

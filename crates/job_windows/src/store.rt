@@ -32,11 +32,11 @@ pub struct Store {
 }
 
 impl Store {
-    /// A store with no proof and no name.
-    pub fn new(alloc: Global) -> Result<Store, AllocError>
+    /// A store with no proof and no name. It takes a runtime since a desk that is given up where memory ran out has to be closed.
+    pub fn new<R: Wait>(rt: &R, alloc: Global) -> Result<Store, AllocError>
         ensures { IfOk result (λ store. IsStore store []) }
     {
-        let (desk, pass) = Desk::new(alloc)?;
+        let (desk, pass) = Desk::new(rt, alloc)?;
         Ok(Store {
             desk,
             pass,

@@ -7,6 +7,7 @@ mod events;
 mod gates;
 mod given;
 mod laws;
+mod progress;
 mod records;
 mod runners;
 mod tasks;

@@ -97,9 +97,10 @@ fn unwrap_all<T: Drop>(slots: Vec<Option<T>>, mut answers: Vec<T>) -> Vec<T>
 }
 
 /// Runs the tasks of a window by so many workers at most, and answers each task's reply and the value that it holds, in the order of the
-/// tasks. A worker takes the first task whose needs are done, and leaves where there is none or where there is no memory to take it.
-/// What the workers have left the caller runs in the end, in order. Whoever runs a job passes the gate first. One worker is the caller with
-/// its own pass, and each other one has a pass that is split from it.
+/// tasks. A worker takes the first task whose needs are done. Where there is none, or no memory to take it, it waits until another worker has
+/// done a task, and leaves once no other one is at work or it has waited often. What the workers have left the caller runs in the end, in
+/// order. Whoever runs a job passes the gate first. One worker is the caller with its own pass, and each other one has a pass that is split
+/// from it, and a thread with a large stack.
 pub fn run_window<W: Threads + Wait + Sync, R: Runner, G: Gate>(
     rt: &W,
     alloc: Global,

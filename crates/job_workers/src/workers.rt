@@ -1,14 +1,52 @@
 //! The workers of a window.
-ghost use Rattle.std.specs.Prelude.{◌≡◌};
+ghost use Rattle.std.specs.Prelude.{◌≡◌, IfOk, IfErr};
 ghost use Rattle.job_workers.specs.Boards.{runner_of, IsPassOf};
 ghost use denote.Param.Send.{IsSync};
 
 use crate::boards::{Board, BoardPass};
 use crate::gates::Gate;
+use crate::progress::Progress;
 use crate::runners::Runner;
+use core::thread::Stack;
 use std::alloc::Global;
+use std::snapshot::Snapshot;
 use std::sync::Wait;
-use std::thread::{Threads, join};
+use std::thread;
+use std::thread::{Promise, PromisedHandle, Scope, Threads};
+
+// The bytes of stack of a worker's thread, since a job may work on deeply nested proofs. The system gives memory only to the part that is
+// used.
+const STACK_SIZE: usize = 1 << 30;
+
+// The bytes of stack where the system refuses a thread with that many.
+const SMALL_STACK_SIZE: usize = 64 << 20;
+
+// How often a worker waits in a window before it leaves. The bound keeps the cost of waking workers small where each task needs the one before
+// it, so that more than one can't be run at a time.
+const MOST_WAITS: u64 = 4;
+
+// What a worker promises: the passes that it gives back are of the board, and fit the runner's home.
+#[derive(Drop)]
+struct Worker<R: Runner> {
+    board: Snapshot<Board<R>>,
+    runner: Snapshot<R>,
+}
+
+impl<R: Runner> Promise<(BoardPass<R>, R::Pass)> for Worker<R> {
+    ghost kept_by = { λ worker passes. IsPassOf R.sense R.Belongs worker.board.value passes.0 × R.PassFits (R.home worker.runner.value) passes.1 };
+}
+
+impl<R: Runner> Worker<R> {
+    fn new(board: &Board<R>, runner: &R) -> Worker<R>
+        ensures board { result.board.value ≡ board.now }
+        ensures runner { result.runner.value ≡ runner.now }
+    {
+        Worker {
+            board: Snapshot::of(board),
+            runner: Snapshot::of(runner),
+        }
+    }
+}
 
 // Takes, runs and puts one task. The answer is false where none was ready, or where there was no memory to take it.
 fn step<W: Threads + Wait + Sync, R: Runner, G: Gate>(
@@ -36,13 +74,14 @@ fn step<W: Threads + Wait + Sync, R: Runner, G: Gate>(
     true
 }
 
-// One worker: it leaves where it finds no task ready.
+// One worker. Where it finds no task ready it waits until another worker has done one, and leaves once none is busy or it has waited often.
 fn work<W: Threads + Wait + Sync, R: Runner, G: Gate>(
     rt: &W,
     alloc: Global,
     board: &Board<R>,
     runner: &R,
     gate: &G,
+    progress: &Progress,
     mut mine: BoardPass<R>,
     mut pass: R::Pass,
 ) -> (BoardPass<R>, R::Pass)
@@ -52,23 +91,66 @@ fn work<W: Threads + Wait + Sync, R: Runner, G: Gate>(
     ensures mine { IsPassOf R.sense R.Belongs board.now result.0 }
     ensures pass { R.PassFits (R.home runner.now) result.1 }
 {
+    let mut waits = 0;
     for _ in 0..board.count() {
-        if !step(rt, alloc, board, runner, gate, &mut mine, &mut pass) {
-            break;
+        let seen = progress.begin(rt);
+        let has_done = step(rt, alloc, board, runner, gate, &mut mine, &mut pass);
+        progress.end(rt, has_done);
+        if !has_done {
+            if waits >= MOST_WAITS || !progress.wait(rt, seen) {
+                break;
+            }
+            waits += 1;
         }
     }
     (mine, pass)
 }
 
-// So many workers at the same time. They are halved until one is left: the one half stays in this thread, with the pass that is handed in,
-// and the other has a thread of its own, where one can be started.
-#[cycle(workers)]
-pub fn work_all<W: Threads + Wait + Sync, R: Runner, G: Gate>(
-    rt: &W,
+// Starts a worker in a thread of the scope. Where none can be started, its work is done in this thread.
+fn start<'s, E, W: Threads + Wait + Sync, R: Runner, G: Gate>(
+    scope: &Scope<'s, E>,
+    rt: &'s W,
     alloc: Global,
-    board: &Board<R>,
-    runner: &R,
-    gate: &G,
+    board: &'s Board<R>,
+    runner: &'s R,
+    gate: &'s G,
+    progress: &'s Progress,
+    mine: BoardPass<R>,
+    pass: R::Pass,
+) -> Result<PromisedHandle<(BoardPass<R>, R::Pass), Worker<R>>, (BoardPass<R>, R::Pass)>
+    requires mine { IsPassOf R.sense R.Belongs board.now mine }
+    requires home { R.home runner.now ≡ R.home (runner_of board.now) }
+    requires pass { R.PassFits (R.home runner.now) pass }
+    ensures board { IfOk result (λ worker. worker.promise.board.value ≡ board.now) }
+    ensures runner { IfOk result (λ worker. worker.promise.runner.value ≡ runner.now) }
+    ensures mine { IfErr result (λ passes. IsPassOf R.sense R.Belongs board.now passes.0) }
+    ensures pass { IfErr result (λ passes. R.PassFits (R.home runner.now) passes.1) }
+{
+    let job = move || -> (BoardPass<R>, R::Pass)
+        requires { IsSync W.row × IsPassOf R.sense R.Belongs board.now mine × (R.home runner.now ≡ R.home (runner_of board.now)) × R.PassFits (R.home runner.now) pass }
+        ensures { IsPassOf R.sense R.Belongs board.entry.now result.0 × R.PassFits (R.home runner.entry.now) result.1 }
+    { work(rt, alloc, board, runner, gate, progress, mine, pass) };
+    let large = Stack::new().stack_size(STACK_SIZE);
+    let refused = match large.spawn_scoped_with(scope, Worker::new(board, runner), job) {
+        Ok(worker) => return Ok(worker),
+        Err(refused) => refused,
+    };
+    let small = Stack::new().stack_size(SMALL_STACK_SIZE);
+    match small.spawn_scoped_with(scope, Worker::new(board, runner), refused.value) {
+        Ok(worker) => Ok(worker),
+        Err(refused) => Err((refused.value)()),
+    }
+}
+
+// So many workers at the same time: this thread, with the passes that are handed in, and each other one in a thread of the scope.
+fn work_in<'s, E, W: Threads + Wait + Sync, R: Runner, G: Gate>(
+    scope: &Scope<'s, E>,
+    rt: &'s W,
+    alloc: Global,
+    board: &'s Board<R>,
+    runner: &'s R,
+    gate: &'s G,
+    progress: &'s Progress,
     mut mine: BoardPass<R>,
     mut pass: R::Pass,
     workers: u64,
@@ -80,22 +162,62 @@ pub fn work_all<W: Threads + Wait + Sync, R: Runner, G: Gate>(
     ensures pass { R.PassFits (R.home runner.now) result.1 }
 {
     if workers <= 1 {
-        return work(rt, alloc, board, runner, gate, mine, pass);
+        return work(rt, alloc, board, runner, gate, progress, mine, pass);
     }
-    let half = workers / 2;
-    let rest = workers - half;
     let other = board.split(&mut mine);
     let theirs = runner.split(&mut pass);
-    let left = || -> (BoardPass<R>, R::Pass)
-        requires { IsSync W.row × IsPassOf R.sense R.Belongs board.now mine × (R.home runner.now ≡ R.home (runner_of board.now)) × R.PassFits (R.home runner.now) pass }
-        ensures { IsPassOf R.sense R.Belongs board.entry.now result.0 × R.PassFits (R.home runner.entry.now) result.1 }
-    { work_all(rt, alloc, board, runner, gate, mine, pass, half) };
-    let right = || -> (BoardPass<R>, R::Pass)
-        requires { IsSync W.row × IsPassOf R.sense R.Belongs board.now other × (R.home runner.now ≡ R.home (runner_of board.now)) × R.PassFits (R.home runner.now) theirs }
-        ensures { IsPassOf R.sense R.Belongs board.entry.now result.0 × R.PassFits (R.home runner.entry.now) result.1 }
-    { work_all(rt, alloc, board, runner, gate, other, theirs, rest) };
-    let ((other, theirs), (mut mine, mut pass)) = join(rt, right, left);
+    let started = start(
+        scope, rt, alloc, board, runner, gate, progress, other, theirs,
+    );
+    let (mut mine, mut pass) = work_in(
+        scope,
+        rt,
+        alloc,
+        board,
+        runner,
+        gate,
+        progress,
+        mine,
+        pass,
+        workers - 1,
+    );
+    let (other, theirs) = match started {
+        Ok(worker) => worker.join(rt),
+        Err(passes) => passes,
+    };
     board.join(&mut mine, other);
     runner.join(&mut pass, theirs);
     (mine, pass)
+}
+
+/// So many workers at the same time, of which one is this thread with the passes that are handed in.
+pub fn work_all<W: Threads + Wait + Sync, R: Runner, G: Gate>(
+    rt: &W,
+    alloc: Global,
+    board: &Board<R>,
+    runner: &R,
+    gate: &G,
+    mine: BoardPass<R>,
+    pass: R::Pass,
+    workers: u64,
+) -> (BoardPass<R>, R::Pass)
+    requires mine { IsPassOf R.sense R.Belongs board.now mine }
+    requires home { R.home runner.now ≡ R.home (runner_of board.now) }
+    requires pass { R.PassFits (R.home runner.now) pass }
+    ensures mine { IsPassOf R.sense R.Belongs board.now result.0 }
+    ensures pass { R.PassFits (R.home runner.now) result.1 }
+{
+    let progress = &Progress::new();
+    thread::scope(
+        thread::scope_env(),
+        rt,
+        move |scope| -> (BoardPass<R>, R::Pass)
+            requires { IsSync W.row × IsPassOf R.sense R.Belongs board.now mine × (R.home runner.now ≡ R.home (runner_of board.now)) × R.PassFits (R.home runner.now) pass }
+            ensures { IsPassOf R.sense R.Belongs board.entry.now result.0 × R.PassFits (R.home runner.entry.now) result.1 }
+        {
+            work_in(
+                scope, rt, alloc, board, runner, gate, progress, mine, pass, workers,
+            )
+        },
+    )
 }

@@ -1,2 +1,3 @@
+pub mod Crossing
 mod Finds
 pub mod Listed

@@ -51,6 +51,7 @@ impl<L: Law> MemoOf<TurnLog<Rows<L>>> {
         ensures found { IfOk result (λ o. IfSome o (λ val. L.Truth (home_of self.now) key.now val)) }
         ensures some { IfOk result (λ o. IsIn L.Key.cmp (seen pass.new) key.now → IsSome o) }
         ensures known { IfOk result (λ o. IsIn L.Key.cmp (seen pass.old) key.now → IsSome o) }
+        ensures stands { IfOk result (λ o. IsSome o → IsIn L.Key.cmp (seen pass.new) key.now) }
         ensures none { IfOk result (λ o. IsNone o → IsAbsent L.Key.cmp (seen pass.new) key.now) }
     {
         let turn = self.log.take(rt, pass);

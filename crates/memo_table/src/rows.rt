@@ -74,6 +74,7 @@ impl<L: Law> Rows<L> {
         requires { home.now ≡ self.now.home }
         ensures found { IfOk result (λ o. IfSome o (λ val. L.Truth home.now key.now val)) }
         ensures some { IfOk result (λ o. IsIn L.Key.cmp self.now.pairs key.now → IsSome o) }
+        ensures stands { IfOk result (λ o. IsSome o → IsIn L.Key.cmp self.now.pairs key.now) }
         ensures none { IfOk result (λ o. IsNone o → IsAbsent L.Key.cmp self.now.pairs key.now) }
     {
         match self.values.get(key) {

@@ -11,3 +11,4 @@ pub mod Interpolated
 pub mod Instanced
 pub mod Introduced
 pub mod Crossing
+pub mod Noted

@@ -12,6 +12,7 @@ ghost use Rattle.operation_laws.specs.Answers.{product, problem as problem_made}
 ghost use Rattle.operation_laws.specs.Given.{names_in};
 ghost use Rattle.operation_laws.specs.Running.{run};
 ghost use Rattle.operations.specs.Means.{sense, Fits, a_graph, a_bench, needs, Comes, is_refusal, IsAnswerOf};
+ghost use Rattle.operations.specs.Noted.{IsNoted, is_done, is_reduced};
 
 use crate::answers::{Made, Ran};
 use crate::building::build_from;
@@ -145,6 +146,7 @@ fn run_given<R: Wait + Threads + Sync>(
     requires op { IsFormedOp op.now }
     requires fits { All (Fits (graph_of (bench_of desk.now))) given.now }
     ensures ran { Comes (graph_of (bench_of desk.now)) result (run op.now (map sense given.now)) }
+    ensures noted { is_done result ≡ true → IsNoted op.now given.now pass.new }
     ensures unchanged { is_refusal result ≡ true → history (pass_in (bench_pass_in pass.new)) ≡ history (pass_in (bench_pass_in pass.old)) }
     ensures grown { IsPrefix (history (pass_in (bench_pass_in pass.old))) (history (pass_in (bench_pass_in pass.new))) }
     ensures pass_stays { IsDeskPassOf desk.now pass.new }
@@ -195,6 +197,8 @@ pub fn answer<R: Wait + Threads + Sync>(
     requires fits { All (Fits (graph_of (bench_of desk.now))) given.now }
     ensures answered { IsAnswerOf result (run op.now (map sense given.now)) }
     ensures fits { Fits (graph_of (bench_of desk.now)) result.1 }
+    // An elimination of cuts that is done has noted the proof that it was given.
+    ensures noted { is_reduced result.0 ≡ true → IsNoted op.now given.now pass.new }
     // A refusal comes before any work, and what work found to have no product is thrown away.
     ensures unchanged { result.1 ≡ Held.Refused → history (pass_in (bench_pass_in pass.new)) ≡ history (pass_in (bench_pass_in pass.old)) }
     ensures grown { IsPrefix (history (pass_in (bench_pass_in pass.old))) (history (pass_in (bench_pass_in pass.new))) }

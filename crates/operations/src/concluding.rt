@@ -6,6 +6,7 @@ ghost use Rattle.exp_tree.specs.Reads.{expansion_of};
 ghost use Rattle.tptp_problem.specs.ProblemClauses.{IsReadProblem};
 ghost use Rattle.operation_laws.specs.Answers.{Answer, product, proof as proof_made, reduced as reduced_made, problem as problem_made, expansion as expansion_made, interpolant as interpolant_made, introduced as introduced_made, summary_of, exp_summary_of, shown_refusal as refusal_shown, shown_failure as failure_shown};
 ghost use Rattle.operations.specs.Means.{Fits, FitsMade, made_of, Comes, is_refusal, IsAnswerOf};
+ghost use Rattle.operations.specs.Noted.{is_done, is_reduced};
 
 use crate::answers::{Made, Ran};
 use crate::held::Held;
@@ -228,6 +229,7 @@ pub fn conclude(graph: &Graph, alloc: Global, ran: Ran) -> (Outcome, Held)
     ensures answered { (wanted : Answer) → Comes graph.now ran wanted → IsAnswerOf result wanted }
     ensures fits { Fits graph.now result.1 }
     ensures refused { result.1 ≡ Held.Refused → is_refusal ran ≡ true }
+    ensures reduced { is_reduced result.0 ≡ true → is_done ran ≡ true }
 {
     match ran {
         Ran::Refused(refusal) => (shown_refusal(refusal), Held::Refused),

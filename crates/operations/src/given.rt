@@ -1,5 +1,5 @@
 //! What the names of jobs in an operation are given.
-ghost use Rattle.std.specs.Prelude.{◌≡◌, ◌<◌, IfOk, IfSome, is_some, length, map, option_map, slice_get};
+ghost use Rattle.std.specs.Prelude.{◌≡◌, ◌<◌, Some, IfOk, IfSome, is_some, length, map, option_map, slice_get};
 ghost use Rattle.std.specs.List.{All};
 ghost use Rattle.proof_graph.specs.declared.graph.Graph.{Graph};
 ghost use Rattle.proof_graph.specs.Graphs.{IsOf};
@@ -7,6 +7,7 @@ ghost use Rattle.operation_laws.specs.declared.refusals.Refusal.TheVariants.{Unk
 ghost use Rattle.exp_tree.specs.Reads.{expansion_of};
 ghost use Rattle.operation_laws.specs.Given.{names_in, without as without_suffix, first_name, second_name, pair_name as pair_of, base_name as base_of, one_of as one_named, proof_given as proof_found, problem_given as problem_found, expansion_given as expansion_found, shown_given as shown_found, first_of, second_of};
 ghost use Rattle.operations.specs.Means.{sense, Fits, FitsShown, Finds, shown_as, IsAbsent};
+ghost use Rattle.operations.specs.Noted.{proof_in, first_held};
 ghost use Rattle.operations.specs.declared.held.Held.TheVariants.{Problem as ProblemHeld};
 
 use crate::answers::Absent;
@@ -125,6 +126,7 @@ fn other_kind(alloc: Global, text: &Utf8Text) -> Absent
 fn one_of<'h>(text: &Utf8Text, first: &'h ProofRef, second: &'h ProofRef) -> Option<&'h ProofRef>
     ensures fits { IfSome result (λ r. (g : Graph) → IsOf g first.now → IsOf g second.now → IsOf g r.now) }
     ensures value { option_map (λ r. r.now.tree) result ≡ one_named text.now first.now.tree second.now.tree }
+    ensures reference { option_map (λ r. r.now) result ≡ one_named text.now first.now second.now }
 {
     if is_first(text) {
         return Some(first);
@@ -143,6 +145,7 @@ pub fn proof_given<'h>(
 ) -> Result<&'h ProofRef, Absent>
     ensures fits { IfOk result (λ r. (g : Graph) → Fits g value.now → IsOf g r.now) }
     ensures found { Finds (λ r. r.now.tree) result (proof_found text.now (sense value.now)) }
+    ensures reference { IfOk result (λ r. proof_in text.now value.now ≡ Some r.now) }
 {
     match value {
         Held::Unknown => Err(unknown(alloc, text)),
@@ -253,6 +256,7 @@ pub fn shown_given<'h>(
 pub fn first(given: &[Held]) -> &Held
     requires { 0 < length given.now }
     ensures value { sense result.now ≡ first_of (map sense given.now) }
+    ensures first { result.now ≡ first_held given.now }
     ensures fits { (g : Graph) → All (Fits g) given.now → Fits g result.now }
 {
     &given[0]

@@ -10,10 +10,12 @@ ghost use Rattle.cut_laws.specs.Elimination.{elimination};
 ghost use Rattle.lk_check.specs.Admission.{admission};
 ghost use Rattle.proof_graph.specs.Graphs.{IsOf, history};
 ghost use Rattle.proof_subst.specs.Benches.{graph_of, pass_in, IsBenchPassOf};
-ghost use Rattle.cut_elim.specs.Desks.{bench_of, pass_in as bench_pass_in, IsDeskPassOf};
+ghost use Rattle.cut_elim.specs.Desks.{bench_of, pass_in as bench_pass_in, HasElimination, IsDeskPassOf};
 ghost use Rattle.operation_laws.specs.Answers.{product, proof as proof_made};
 ghost use Rattle.operation_laws.specs.Running.{step_shown as shown_step, admits, eliminates, run};
 ghost use Rattle.operations.specs.Means.{sense, Fits, Comes, is_refusal};
+ghost use Rattle.operations.specs.Noted.{proof_in, is_done};
+ghost use Rattle.std.specs.Option.{IsSomeAnd};
 
 use crate::answers::{Made, Ran};
 use crate::given::proof_given;
@@ -32,6 +34,7 @@ use std::alloc::Global;
 use std::marker::Brand;
 use std::sync::Wait;
 use std::sync::ledger::{Blank, Ledger};
+use std::thread::Threads;
 use substitution::Subst;
 
 fn step_shown(cause: StepCause) -> StepShown
@@ -120,7 +123,7 @@ pub fn substitute_in<R: Wait>(
 
 // The elimination of a proof's cuts, with a ledger for the contractions.
 #[tactic(auto, using(crate::proofs::Eliminated::elimination_gives, crate::proofs::Eliminated::elimination_fails, crate::proofs::Eliminated::elimination_lacks))]
-fn eliminate_counted<R: Wait, L: Ledger>(
+fn eliminate_counted<R: Wait + Threads + Sync, L: Ledger>(
     rt: &R,
     alloc: Global,
     desk: &Desk,
@@ -135,12 +138,15 @@ fn eliminate_counted<R: Wait, L: Ledger>(
     requires parts { ledger.parts ≡ L.parts }
     requires one_part { 0 < ledger.parts }
     ensures ran { Comes (graph_of (bench_of desk.now)) result (eliminates (elimination proof.now.tree budget)) }
+    ensures noted { is_done result ≡ true → HasElimination pass.new proof.now.number }
     ensures unchanged { is_refusal result ≡ true → history (pass_in (bench_pass_in pass.new)) ≡ history (pass_in (bench_pass_in pass.old)) }
     ensures grown { IsPrefix (history (pass_in (bench_pass_in pass.old))) (history (pass_in (bench_pass_in pass.new))) }
     ensures pass_stays { IsDeskPassOf desk.now pass.new }
 {
     let mut contractions = Contractions::<L>::new(ledger);
-    match eliminate(rt, alloc, desk, pass, proof, budget, &mut contractions) {
+    let made = eliminate(rt, alloc, desk, pass, proof, budget, &mut contractions);
+    contractions.end();
+    match made {
         Ok(Reduced { proof, reductions }) => Ran::Done(Made::Reduced(proof, reductions)),
         Err(ElimFault::Budget) => Ran::Failed(Failure::Budget),
         Err(ElimFault::Memory) => Ran::Lacking,
@@ -149,7 +155,7 @@ fn eliminate_counted<R: Wait, L: Ledger>(
 
 /// The proof that is named, with its cuts eliminated.
 #[tactic(auto, using(crate::proofs::Givings::absent_comes))]
-pub fn eliminate_in<R: Wait>(
+pub fn eliminate_in<R: Wait + Threads + Sync>(
     rt: &R,
     alloc: Global,
     desk: &Desk,
@@ -161,6 +167,7 @@ pub fn eliminate_in<R: Wait>(
     requires pass { IsDeskPassOf desk.now pass.old }
     requires fits { Fits (graph_of (bench_of desk.now)) value.now }
     ensures ran { Comes (graph_of (bench_of desk.now)) result (run (Op.Cutelim of.now budget) (sense value.now ∷ [])) }
+    ensures noted { is_done result ≡ true → IsSomeAnd (proof_in of.now value.now) (λ r. HasElimination pass.new r.number) }
     ensures unchanged { is_refusal result ≡ true → history (pass_in (bench_pass_in pass.new)) ≡ history (pass_in (bench_pass_in pass.old)) }
     ensures grown { IsPrefix (history (pass_in (bench_pass_in pass.old))) (history (pass_in (bench_pass_in pass.new))) }
     ensures pass_stays { IsDeskPassOf desk.now pass.new }

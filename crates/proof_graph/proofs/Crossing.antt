@@ -1,4 +1,4 @@
--- A graph may be shared by threads, and its references and passes may cross to another, as a set for `search`.
+-- A graph may be shared by threads, and it, its references and its passes may cross to another, as a set for `search`.
 use denote.Param.Send.{IsSend, IsSync, sendable}
 use Rattle.std.proofs.Crossing as std
 use Rattle.std.proofs.MapsCrossing as maps
@@ -51,4 +51,7 @@ pass_send = search (sendable, std.crosses, pass_of.the_field_send, index_send) d
 pub graph_sync : IsSync (graph.the_field).row
 graph_sync = search (sendable, std.crosses, boxcar.the_sync, log.the_field_sync, index_send, stamp_send, stamp_sync) depth 20
 
-pub ruleset crosses = (proof_send, proof_sync, pass_send, graph_sync)
+pub graph_send : IsSend (graph.the_field).row
+graph_send = search (sendable, std.crosses, boxcar.the_send, log.the_field_send, index_send, stamp_send) depth 20
+
+pub ruleset crosses = (proof_send, proof_sync, pass_send, graph_send, graph_sync)

@@ -1,18 +1,17 @@
 -- The lines of generated jobs: each is a job, and none is too long.
-use Rattle.std.proofs.Common.{◌≡◌, ℕ, zero, suc, ◌+◌, ◌-◌, ◌<◌, ◌≤◌, ◌==◌, ◌%◌, ◌||◌, Bool, true, false, cond, List, [], ◌∷◌, ◌++◌, length, take, refl, sym, ap, ◌∙◌, subst, arith, append_assoc, append-nil, length-append}
+use Rattle.std.proofs.Common.{◌≡◌, ℕ, ◌+◌, ◌-◌, ◌≤◌, ◌==◌, ◌%◌, ◌||◌, Bool, true, false, cond, List, [], ◌∷◌, ◌++◌, length, take, refl, sym, ap, ◌∙◌, subst, arith, length-append}
 use Rattle.std.specs.Prelude.{if◌then◌else◌}
-use Rattle.std.specs.List.{All, list_all, flat_map, range_with_len}
+use Rattle.std.specs.List.{All}
 use Rattle.std.proofs.lemmas.Bool.Decides.{nat_tests}
 use Rattle.std.proofs.lemmas.List.{same_from_push, take_at}
 use Rattle.std.proofs.lemmas.List.Elements.{filter-append}
 use Rattle.serde_json.specs.Data.{Data, object, Members}
 use Rattle.serde_json.specs.Written.{compact_text, members_text}
-use Rattle.edge_io.specs.Lines.{is_newline, OneLine, AreLines, lines_of}
-use Rattle.edge_io.proofs.LinesLemmas.{lines_nil, lines_more, lines_of_at}
+use Rattle.edge_io.specs.Lines.{OneLine, AreLines}
+use Rattle.edge_io.proofs.LinesLemmas.{lines_nil, lines_more}
 use Rattle.job_gen.specs.Generated.{job_by, job_data, generated_line, generated}
-use Rattle.job_gen.specs.PrintableLine.{IsPrintableLine}
 use Rattle.job_gen.proofs.JobTexts.{generated-more}
-use Rattle.session_laws.specs.Jobs.{max_line, is_too_long, is_blank, is_job, jobs}
+use Rattle.session_laws.specs.Jobs.{max_line, is_too_long, is_job, jobs}
 
 -- a job is an object
 abbrev IsObject : Data → Type 0

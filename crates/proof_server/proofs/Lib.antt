@@ -1,10 +1,5 @@
-pub mod Learned
-pub mod Standing
-pub mod Taken
-pub mod Concluding
-pub mod LongLines
-pub mod Midway
 pub mod Turns
+pub mod Midway
 pub mod Endings
 pub mod GeneratedLines
 pub mod GeneratedRuns

@@ -11,8 +11,7 @@ use Rattle.edge_io.specs.Reader.{Reader, allowance}
 use Rattle.edge_io.specs.Reading.{HandsOn, IsText}
 use Rattle.edge_io.proofs.LinesLemmas.{lines_nil, lines_more, lines_of_last}
 use Rattle.session_laws.specs.Jobs.{Past, in_order, is_job, jobs}
-use Rattle.session_laws.specs.Session.{out}
-use Rattle.proof_server.specs.Turn.{IsBehind, IsTaken}
+use Rattle.proof_server.specs.Turn.{seats_in, IsAt, WritesMore}
 use Rattle.proof_server.specs.declared.session.Session.{Session}
 
 -- the bytes of the lines handed on are these lines: each with its newline, or all of an input that has ended
@@ -26,17 +25,16 @@ pub record ReadSoFar (limit : ℕ) (before now : Option (List ℕ)) (reader : Re
   pub within : length got + allowance reader ≡ limit
   pub stands : Stands now reader got lines
 
--- the lines handed on have been answered, and nothing else was written
+-- the lines handed on have been taken in by the session, and nothing else was written than what it wrote
 pub record Midway (limit f f' k k' : ℕ) (before now : Option (List ℕ)) (reader : Reader) (old mid : Option (List ℕ)) (session : Session) : Type 0 where
   pub got : List ℕ
   pub lines : List (List ℕ)
-  pub done : List Past
+  pub written : List ℕ
   pub read : ReadSoFar limit before now reader got lines
   pub going : reader.ended ≡ false
-  pub asked : in_order done ≡ jobs lines
-  pub to : Appends old mid (out done)
-  pub behind : IsBehind session done
-  pub few : session.count + allowance reader ≤ limit
+  pub to : Appends old mid written
+  pub at : IsAt session (jobs lines) written
+  pub few : session.count + seats_in session + allowance reader ≤ limit
   pub reads : f ≤ f'
   pub writes : k ≤ k'
 
@@ -45,23 +43,31 @@ pub Rose-since : (a b c : ℕ) → a ≤ b → Rose b c → Rose a c
 Rose-since a b c le (inl up) = inl (omega arith)
 Rose-since a b c le (inr most) = inr most
 
+-- there are as many lines as jobs
+length-in_order : (done : List Past) → length (in_order done) ≡ length done
+length-in_order [] = refl
+length-in_order (job ∷ earlier) = omega (arith, length-append (in_order earlier) (job.line ∷ []), length-in_order earlier)
+
+-- a session that was handed no job has none
+pub none_handed : (session : Session) (written : List ℕ) → IsAt session [] written → session.count + seats_in session ≡ 0
+none_handed session written at = omega (arith, at.answered.number, at.gathered.counted, ap length at.each, length-append (in_order at.done) at.waiting, length-in_order at.done)
+
 pub jobs-append : (xs ys : List (List ℕ)) → jobs (xs ++ ys) ≡ jobs xs ++ jobs ys
 jobs-append xs ys = filter-append is_job xs ys
 
 pub start : (limit f k : ℕ) (before old : Option (List ℕ)) (reader : Reader) (session : Session)
-    → reader ≡ record { pending = []; room = limit; at_end = false; ended = false } → IsBehind session []
+    → reader ≡ record { pending = []; room = limit; at_end = false; ended = false } → IsAt session [] []
     → Midway limit f f k k before before reader old old session
-start limit f k before old reader session fresh behind =
+start limit f k before old reader session fresh at =
     subst (λ (r : Reader). Midway limit f f k k before before r old old session) (sym fresh) (record {
       got = [];
       lines = [];
-      done = [];
+      written = [];
       read = record { from = Consumes-nil before; within = omega arith; stands = inl (refl, lines_nil) };
       going = refl;
-      asked = refl;
       to = Appends-nil old;
-      behind = behind;
-      few = let counted = behind.counted in omega arith;
+      at = at;
+      few = omega (arith, none_handed session [] at);
       reads = omega arith;
       writes = omega arith;
     })
@@ -101,21 +107,25 @@ text_is_some text line new after whole = elim whole [
   | inr w ↦ omega (arith, ap length w.1, w.2)
 ]
 
--- the line is answered
+-- the session took the line in
 pub go_on : {limit max f f' f'' k k' k'' : ℕ} {before now later old mid new : Option (List ℕ)} {reader reader' : Reader} {session session' : Session} {next : Next}
     → (midway : Midway limit f f' k k' before now reader old mid session) → (handed : HandsOn next max reader reader' now later)
-    → IsTaken midway.done handed.line session session' mid new → f' ≤ f'' → k' ≤ k''
+    → WritesMore (IsAt session' (jobs midway.lines ++ jobs (handed.line ∷ []))) midway.written mid new
+    → session'.count + seats_in session' ≤ session.count + seats_in session + 1 → f' ≤ f'' → k' ≤ k''
     → Midway limit f f'' k k'' before later reader' old new session'
-go_on {later = later} {old = old} {mid = mid} {new = new} {reader = reader} {reader' = reader'} {session = session} {session' = session'} midway handed taken reads writes = record {
+go_on {later = later} {old = old} {mid = mid} {new = new} {reader = reader} {reader' = reader'} {session = session} {session' = session'} midway handed took few reads writes = record {
   got = midway.got ++ handed.text;
   lines = midway.lines ++ handed.line ∷ [];
-  done = taken.done;
+  written = midway.written ++ took.more;
   read = hand midway.read handed;
   going = handed.goes_on;
-  asked = taken.asked ∙ ap (λ (x : List (List ℕ)). x ++ jobs (handed.line ∷ [])) midway.asked ∙ sym (jobs-append midway.lines (handed.line ∷ []));
-  to = subst (Appends old new) (sym taken.bytes) (Appends-trans old mid new (out midway.done) taken.written midway.to taken.to);
-  behind = taken.behind;
-  few = let some = text_is_some handed.text handed.line reader' later handed.whole in let few = midway.few in let more = handed.within in let one = taken.few in omega arith;
-  reads = let so_far = midway.reads in omega arith;
-  writes = let so_far = midway.writes in omega arith;
+  to = Appends-trans old mid new midway.written took.more midway.to took.to;
+  at = subst (λ (asked : List (List ℕ)). IsAt session' asked (midway.written ++ took.more)) (sym (jobs-append midway.lines (handed.line ∷ []))) took.holds;
+  few =
+      let some = text_is_some handed.text handed.line reader' later handed.whole in
+      let before = midway.few in
+      let within = handed.within in
+      omega arith;
+  reads = let since = midway.reads in omega arith;
+  writes = let since = midway.writes in omega arith;
 }

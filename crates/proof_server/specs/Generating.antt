@@ -6,7 +6,6 @@ use Rattle.std.specs.Io.KnownBytes.{Appends, Keeps}
 use Rattle.edge_io.specs.Causes.{Rose}
 use Rattle.edge_io.specs.Lines.{lines_of}
 use Rattle.job_gen.specs.Generated.{generated}
-use Rattle.session_laws.specs.Jobs.{Past}
 use Rattle.session_laws.specs.Session.{Replies}
 use Rattle.proof_server.specs.Counting.{counts_of, counts_line}
 use Rattle.proof_server.specs.Ending.{status_of}

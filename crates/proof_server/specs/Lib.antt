@@ -1,5 +1,3 @@
-pub mod Means
-pub mod Shown
 pub mod Ending
 pub mod Turn
 pub mod Counting

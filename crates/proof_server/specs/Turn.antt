@@ -1,50 +1,86 @@
--- What the session does with one line.
-use Rattle.std.specs.Prelude.{◌≡◌, ℕ, ◌+◌, ◌≤◌, ◌⊎◌, List, [], ◌∷◌, ◌++◌, length, Option, Result, Ok, Err}
+-- What a session does with one line, and with a window.
+--     IsAt      what the session has been handed, and what it has written
+--     AreInPart      bytes are the replies to the first of some jobs, and perhaps a part of the next one
+--     Goes      the session goes on, or stops
+use Rattle.std.specs.Prelude.{◌≡◌, ℕ, Bool, false, ◌||◌, List, [], ◌∷◌, ◌++◌, length, Option, Result, Ok, Err}
 use Rattle.std.specs.Io.KnownBytes.{Appends}
 use Rattle.edge_io.specs.Causes.{Rose}
-use Rattle.session_laws.specs.Jobs.{Past, in_order, jobs}
+use Rattle.session_laws.specs.Jobs.{Past, in_order}
 use Rattle.session_laws.specs.Answers.{IsLawful}
-use Rattle.proof_server.specs.Means.{IsStore}
 use Rattle.session_laws.specs.Session.{out, all_ok, IsPartOfNext}
+use Rattle.job_windows.specs.Means.{IsGathered, IsPending}
+use Rattle.job_windows.specs.declared.seats.Due.{Due}
+use Rattle.proof_server.specs.Counting.{counts_of}
 use Rattle.proof_server.specs.declared.session.Session.{Session}
 use Rattle.proof_server.specs.declared.session.Stop.{Stop}
 use Rattle.proof_server.specs.declared.session.Stop.TheVariants.{WriteFault, Memory}
 use Rattle.proof_server.specs.declared.ending.Ended.{Ended}
 use Rattle.proof_server.specs.declared.ending.Ended.TheVariants as ended
 
--- the session stands behind these jobs
-pub record IsBehind (session : Session) (done : List Past) : Type 0 where
+-- how many jobs the window of a session has
+abbrev pub seats_in : Session → ℕ
+seats_in session = length session.window.seats.items
+
+-- some of these jobs lacked memory
+abbrev pub any_lacked : List Past → Bool
+any_lacked [] = false
+any_lacked (job ∷ earlier) = any_lacked earlier || job.lacked
+
+-- the session has answered these jobs, and counted their replies
+pub record HasAnswered (session : Session) (done : List Past) : Type 0 where
   pub lawful : IsLawful done
-  pub counted : session.count ≡ length done
-  pub store : IsStore session.store done
+  pub number : session.count ≡ length done
+  pub counts : session.counts ≡ counts_of done
   pub good_is : session.good ≡ all_ok done
+  pub lacked_is : session.lacked ≡ any_lacked done
 
--- the reply to the line, if it is a job, was written whole
-pub record IsTaken (earlier : List Past) (line : List ℕ) (before after : Session) (old new : Option (List ℕ)) : Type 0 where
+-- The session has been handed these jobs. The first of them are answered, by these bytes, and the others are gathered in the window.
+pub record IsAt (session : Session) (asked : List (List ℕ)) (written : List ℕ) : Type 0 where
   pub done : List Past
-  pub behind : IsBehind after done
-  pub asked : in_order done ≡ in_order earlier ++ jobs (line ∷ [])
-  pub written : List ℕ
-  pub to : Appends old new written
-  pub bytes : out done ≡ out earlier ++ written
-  pub few : after.count ≤ before.count + 1
+  pub waiting : List (List ℕ)
+  pub each : in_order done ++ waiting ≡ asked
+  pub bytes : written ≡ out done
+  pub answered : HasAnswered session done
+  pub gathered : IsGathered session.store session.window done waiting
 
--- a part of the reply was written, but not the whole of it
-pub record IsTakenInPart (earlier : List Past) (line : List ℕ) (old new : Option (List ℕ)) : Type 0 where
+-- The first of these jobs are answered, by these bytes, and these answers are due for the others, whose window was run.
+pub record IsWriting (session : Session) (asked : List (List ℕ)) (written : List ℕ) (dues : List Due) : Type 0 where
+  pub done : List Past
+  pub waiting : List (List ℕ)
+  pub each : in_order done ++ waiting ≡ asked
+  pub bytes : written ≡ out done
+  pub answered : HasAnswered session done
+  pub pending : IsPending session.store done waiting dues
+
+-- the bytes are the replies to the first of these jobs, and then perhaps a part of the next one's
+pub record AreInPart (asked : List (List ℕ)) (written : List ℕ) : Type 0 where
+  pub done : List Past
+  pub waiting : List (List ℕ)
   pub part : List ℕ
-  pub to : Appends old new part
-  pub next : IsPartOfNext earlier (jobs (line ∷ [])) part
+  pub each : in_order done ++ waiting ≡ asked
+  pub lawful : IsLawful done
+  pub bytes : written ≡ out done ++ part
+  pub next : IsPartOfNext done waiting part
 
-abbrev pub Takes : Result (Unit {0}) Stop → List Past → List ℕ → Session → Session → ℕ → ℕ → Option (List ℕ) → Option (List ℕ) → Type 0
-Takes (Ok _) earlier line before after k k' old new = IsTaken earlier line before after old new
-Takes (Err WriteFault) earlier line before after k k' old new = Rose k k' × IsTakenInPart earlier line old new
-Takes (Err Memory) earlier line before after k k' old new = Appends old new []
+-- more was written to the sink, behind these bytes
+pub record WritesMore (P : List ℕ → Type 0) (written : List ℕ) (old new : Option (List ℕ)) : Type 0 where
+  pub more : List ℕ
+  pub to : Appends old new more
+  pub holds : P (written ++ more)
+
+-- the session was handed these jobs, with what was written so far
+abbrev pub Goes : Result (Unit {0}) Stop → Session → List (List ℕ) → List ℕ → ℕ → ℕ → Option (List ℕ) → Option (List ℕ) → Type 0
+Goes (Ok _) after asked written k k' old new = WritesMore (IsAt after asked) written old new
+Goes (Err WriteFault) after asked written k k' old new = Rose k k' × WritesMore (AreInPart asked) written old new
+Goes (Err Memory) after asked written k k' old new = WritesMore (AreInPart asked) written old new
+
+-- the same where answers are still due
+abbrev pub Writes : Result (Unit {0}) Stop → Session → List (List ℕ) → List ℕ → List Due → ℕ → ℕ → Option (List ℕ) → Option (List ℕ) → Type 0
+Writes (Ok _) after asked written dues k k' old new = WritesMore (λ bytes. IsWriting after asked bytes dues) written old new
+Writes (Err WriteFault) after asked written dues k k' old new = Rose k k' × WritesMore (AreInPart asked) written old new
+Writes (Err Memory) after asked written dues k k' old new = WritesMore (AreInPart asked) written old new
 
 -- how a session ends that can't go on
 abbrev pub ended_of : Stop → Ended
 ended_of WriteFault = ended.WriteFault
 ended_of Memory = ended.Memory
-
--- the end stands and all that was written is flushed, or the flush failed
-abbrev pub Finishes : Ended → Ended → ℕ → ℕ → Option (List ℕ) → Option (List ℕ) → Type 0
-Finishes result wanted k k' written flushed = ((result ≡ wanted) × (flushed ≡ written)) ⊎ ((result ≡ ended.WriteFault) × Rose k k')

@@ -5,11 +5,11 @@ ghost use Rattle.proof_server.specs.Ending.{status_of};
 ghost use Rattle.proof_server.specs.Generating.{Generates};
 
 use crate::ending::Ended;
-use crate::gates::Gate;
 use crate::generating::generate;
-use crate::serving::serve;
+use crate::serving::serve_session;
 use command_words::{WordsError, read_words};
 use edge_io::{Sink, Source, write_whole};
+use job_workers::Gate;
 use std::alloc::Global;
 use std::sync::Wait;
 use std::thread::Threads;
@@ -45,13 +45,33 @@ fn note(status: u8) -> &'static [u8]
     }
 }
 
+/// A whole session: every job of the source, one a line, gets its reply on the sink, in order. Jobs gather in a window, which is run by so
+/// many workers at most where a line is empty, where there are 64 jobs or 16 MiB of lines, and in the end. The answer is the status of the
+/// session's end, as that of `top`. The gate is passed by the worker that took a job, before the job is run.
+pub fn serve<R: Wait + Threads + Sync, S: Source, K: Sink, G: Gate>(
+    rt: &R,
+    alloc: Global,
+    source: &mut S,
+    sink: &mut K,
+    gate: &G,
+    workers: u64,
+) -> u8
+    ensures served { Serves result (S.faults source.old) (S.faults source.new) (K.faults sink.old) (K.faults sink.new)
+        (S.left source.old) (S.left source.new) (K.written sink.old) (K.written sink.new) (K.flushed sink.new) }
+    ensures complete { IsComplete result (S.faults source.old) (S.faults source.new) (K.faults sink.old) (K.faults sink.new)
+        (S.left source.old) }
+{
+    status(serve_session(rt, alloc, source, sink, gate, workers))
+}
+
 /// Serves the source or runs generated jobs, as the words ask.
-fn run<R: Wait + Threads + Sync, S: Source, K: Sink>(
+fn run<R: Wait + Threads + Sync, S: Source, K: Sink, G: Gate>(
     rt: &R,
     alloc: Global,
     words: &[String],
     source: &mut S,
     sink: &mut K,
+    gate: &G,
 ) -> u8
     ensures refused { IsNone (settings_of (map string_bytes words.now))
         → ((result ≡ 2) ⊎ (result ≡ 5)) × (source.new ≡ source.old) × (sink.new ≡ sink.old) }
@@ -68,15 +88,15 @@ fn run<R: Wait + Threads + Sync, S: Source, K: Sink>(
         Err(WordsError::Memory) => return status(Ended::Memory),
     };
     match settings.generate {
-        None => status(serve(rt, alloc, source, sink)),
-        Some(n) => status(generate(rt, alloc, sink, n)),
+        None => serve(rt, alloc, source, sink, gate, settings.workers),
+        Some(n) => status(generate(rt, alloc, sink, gate, settings.workers, n)),
     }
 }
 
 /// Runs the command with the words that follow the program's name, and answers its exit status.
 ///
-/// The words are those of `gaptd [--workers N] [--gen N]`, as `command_words` reads them; the number of workers has no use yet. If they are
-/// taken and have no `--gen`, the jobs of `source`, one a line, are answered on `sink`, a reply line for each job in order:
+/// The words are those of `gaptd [--workers N] [--gen N]`, as `command_words` reads them. If they are taken and have no `--gen`, the jobs
+/// of `source`, one a line, are answered on `sink`, a reply line for each job in order, as by `serve` with so many workers:
 ///
 /// - 0: the input was read to its end, all was written and flushed, and every reply is Ok;
 /// - 1: the same, and some reply is an error;
@@ -98,7 +118,7 @@ pub fn top<R: Wait + Threads + Sync, S: Source, K: Sink, E: Sink, G: Gate>(
     source: &mut S,
     sink: &mut K,
     notes: &mut E,
-    _gate: &G,
+    gate: &G,
 ) -> u8
     ensures refused { IsNone (settings_of (map string_bytes words.now))
         → ((result ≡ 2) ⊎ (result ≡ 5)) × (source.new ≡ source.old) × (sink.new ≡ sink.old) }
@@ -110,7 +130,7 @@ pub fn top<R: Wait + Threads + Sync, S: Source, K: Sink, E: Sink, G: Gate>(
         × Generates result n (K.faults sink.old) (K.faults sink.new) (K.written sink.old) (K.written sink.new) (K.flushed sink.new) }
     ensures noted { Notes result (E.faults notes.old) (E.faults notes.new) (E.written notes.old) (E.written notes.new) }
 {
-    let answer = run(rt, alloc, words, source, sink);
+    let answer = run(rt, alloc, words, source, sink, gate);
     let _ = write_whole(notes, note(answer));
     answer
 }

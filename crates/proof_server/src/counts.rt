@@ -1,12 +1,11 @@
 //! What is counted of the replies to jobs.
 ghost use Rattle.std.specs.Prelude.{◌≡◌, [], ◌∷◌, ℕ, List, IfOk};
 ghost use Rattle.serde_json.specs.View.{view};
-ghost use Rattle.proof_server.specs.declared.store.Store.{Store as StoreMeaning};
-ghost use Rattle.session_laws.specs.Jobs.{Past};
-ghost use Rattle.proof_server.specs.Shown.{job_of, IsReply};
+ghost use Rattle.session_laws.specs.Jobs.{Past, job_of};
+ghost use Rattle.job_windows.specs.Replying.{IsReply};
 ghost use Rattle.proof_server.specs.Counting.{counts_of, counts_data, counts_line as line_of_counts};
 
-use crate::reply::ReplyLine;
+use job_windows::ReplyLine;
 use serde_json::{Value, json};
 use std::alloc::{AllocError, Global};
 
@@ -37,8 +36,8 @@ impl Counts {
 
     /// Counts one reply more.
     pub fn add(&mut self, reply: &ReplyLine)
-        ensures { (earlier : List Past) (text : List ℕ) (store : StoreMeaning) → self.old ≡ counts_of earlier
-            → IsReply reply.now store text earlier
+        ensures { (earlier : List Past) (text : List ℕ) → self.old ≡ counts_of earlier
+            → IsReply reply.now text earlier
             → self.new ≡ counts_of (job_of text reply.now.lacked ∷ earlier) }
     {
         self.bytes = self.bytes.saturating_add(reply.bytes.len() as u64);

@@ -1,101 +1,93 @@
 //! A run over generated jobs: their replies are counted, and nothing else is written.
-ghost use Rattle.std.specs.Prelude.{◌≡◌, ◌+◌, ◌<◌, ◌^◌, ◌∷◌, ◌++◌, [], List, ℕ, IfOk, length, false};
+ghost use Rattle.std.specs.Prelude.{◌≡◌, ◌∷◌, ◌++◌, [], List, ℕ, IfOk};
 ghost use Rattle.job_gen.specs.Generated.{generated_line};
-ghost use Rattle.session_laws.specs.Jobs.{Past};
-ghost use Rattle.proof_server.specs.Means.{HasPass, IsStore, IsSomeStore};
-ghost use Rattle.proof_server.specs.Shown.{IsReply};
+ghost use Rattle.job_windows.specs.Means.{HasPass};
+ghost use Rattle.proof_server.specs.Turn.{IsAt};
 ghost use Rattle.proof_server.specs.Counting.{counts_line as line_of_counts};
 ghost use Rattle.proof_server.specs.Generating.{AreCounts, EndsCounting};
 
 use crate::counts::{Counts, counts_line};
 use crate::ending::Ended;
-use crate::reply::{ReplyLine, reply_to};
-use crate::store::Store;
-use edge_io::{Sink, write_whole};
+use crate::session::Session;
+use edge_io::{NeverSink, Sink, write_whole};
 use job_gen::generate_line;
 use job_gen::laws::lines;
+use job_workers::Gate;
 use session_laws::laws::{held_proofs, replies};
 use std::alloc::{AllocError, Global};
 use std::sync::Wait;
 use std::thread::Threads;
-use text_tables::TextTables;
 
-/// The reply to the generated job that comes after `count` others, unless memory runs out or the job lacks it.
-fn reply_to_generated<R: Wait + Threads + Sync>(
-    store: &mut Store,
-    rt: &R,
-    alloc: Global,
-    texts: &mut TextTables,
-    count: u64,
-) -> Result<ReplyLine, AllocError>
-    requires room { count + 1 < 2 ^ 64 }
-    requires store { IsSomeStore store.old }
-    ensures reply { (earlier : List Past) (text : List ℕ) → count ≡ length earlier → IsStore store.old earlier
-        → generated_line count ≡ text ++ 10 ∷ []
-        → IfOk result (λ r. IsReply r store.new text earlier) }
-    ensures ample { IfOk result (λ r. r.lacked ≡ false) }
-    ensures pass { HasPass store.new }
+// The line of the generated job that comes after `count` others, without its newline.
+fn generated_text(alloc: Global, count: u64) -> Result<Vec<u8>, AllocError>
+    ensures { (text : List ℕ) → generated_line count ≡ text ++ 10 ∷ [] → IfOk result (λ line. line.items ≡ text) }
 {
-    lines();
     let mut line = generate_line(alloc, count)?;
     line.pop();
-    let reply = reply_to(store, rt, alloc, texts, count, Some(line.as_slice()))?;
-    if reply.lacked {
-        return Err(AllocError);
-    }
-    Ok(reply)
+    Ok(line)
 }
 
-/// The counts of the replies to n generated jobs, unless memory runs out or a job lacks it. One line and one reply at a time are kept.
-fn count_replies<R: Wait + Threads + Sync>(
-    store: &mut Store,
+// The counts of the replies to n generated jobs in a new session, unless memory runs out or a job lacks it. The jobs of one window and one
+// reply at a time are kept.
+fn count_replies<R: Wait + Threads + Sync, G: Gate>(
+    session: &mut Session,
     rt: &R,
     alloc: Global,
+    gate: &G,
     n: u64,
 ) -> Result<Counts, AllocError>
-    requires { IsStore store.old [] }
+    requires { IsAt session.old [] [] }
     ensures counts { IfOk result (AreCounts n) }
-    ensures pass { HasPass store.new }
+    ensures pass { HasPass session.new.store }
 {
     held_proofs();
     replies();
     lines();
-    let mut texts = TextTables::new(alloc);
-    let mut counts = Counts::new();
+    let mut sink = NeverSink::new();
     for i in 0..n {
-        let reply = reply_to_generated(store, rt, alloc, &mut texts, i)?;
-        counts.add(&reply);
+        let line = generated_text(alloc, i)?;
+        match session.take(rt, alloc, &mut sink, gate, Some(line.as_slice())) {
+            Ok(()) => {}
+            Err(_) => return Err(AllocError),
+        }
     }
-    Ok(counts)
+    match session.run(rt, alloc, &mut sink, gate) {
+        Ok(()) if !session.lacked => Ok(session.counts),
+        _ => Err(AllocError),
+    }
 }
 
-/// The counts of the replies to n generated jobs, in a session of their own, and the line of these counts.
-fn generated_counts<R: Wait + Threads + Sync>(
+// The counts of the replies to n generated jobs, in a session of their own, and the line of these counts.
+fn generated_counts<R: Wait + Threads + Sync, G: Gate>(
     rt: &R,
     alloc: Global,
+    gate: &G,
+    workers: u64,
     n: u64,
 ) -> Result<(Counts, Vec<u8>), AllocError>
     ensures counts { IfOk result (λ told. AreCounts n told.0) }
     ensures line { IfOk result (λ told. told.1.items ≡ line_of_counts told.0) }
 {
-    let mut store = Store::new(alloc)?;
-    let counts = count_replies(&mut store, rt, alloc, n);
-    store.close(rt);
+    let mut session = Session::new(rt, alloc, workers)?;
+    let counts = count_replies(&mut session, rt, alloc, gate, n);
+    session.close(rt);
     let counts = counts?;
     let line = counts_line(alloc, counts)?;
     Ok((counts, line))
 }
 
-/// Runs n generated jobs and writes the line of counts of their replies, which are written nowhere.
-pub fn generate<R: Wait + Threads + Sync, K: Sink>(
+/// Runs n generated jobs by so many workers at most, and writes the line of counts of their replies, which are written nowhere.
+pub fn generate<R: Wait + Threads + Sync, K: Sink, G: Gate>(
     rt: &R,
     alloc: Global,
     sink: &mut K,
+    gate: &G,
+    workers: u64,
     n: u64,
 ) -> Ended
     ensures ends { EndsCounting result n (K.faults sink.old) (K.faults sink.new) (K.written sink.old) (K.written sink.new) (K.flushed sink.new) }
 {
-    let (counts, line) = match generated_counts(rt, alloc, n) {
+    let (counts, line) = match generated_counts(rt, alloc, gate, workers, n) {
         Ok(told) => told,
         Err(_) => return Ended::Memory,
     };

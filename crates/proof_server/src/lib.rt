@@ -4,16 +4,12 @@
 mod command;
 mod counts;
 mod ending;
-mod gates;
 mod generating;
 pub mod laws;
-mod names;
-mod reply;
 mod serving;
 mod session;
-mod store;
 
-pub use command::top;
+pub use command::{serve, top};
 pub use ending::Ended;
-pub use gates::{Gate, NoGate};
+pub use job_workers::{Gate, NoGate};
 pub use operations::{Held, answer};

@@ -1,13 +1,14 @@
-ghost use Rattle.std.specs.Prelude.{◌≡◌, ◌+◌, ◌<◌, ◌≤◌, ◌^◌, List, [], ℕ, IfOk, length, false};
+//! A whole session.
+ghost use Rattle.std.specs.Prelude.{◌≡◌, [], false};
 ghost use Rattle.proof_server.specs.Ending.{Ends};
-ghost use Rattle.std.specs.Io.KnownBytes.{Keeps};
 ghost use Rattle.session_laws.specs.Jobs.{max_input};
-ghost use Rattle.proof_server.specs.Means.{HasPass};
-ghost use Rattle.proof_server.specs.Turn.{ended_of, Finishes, IsBehind};
+ghost use Rattle.job_windows.specs.Means.{HasPass};
+ghost use Rattle.proof_server.specs.Turn.{ended_of, IsAt};
 
 use crate::ending::Ended;
 use crate::session::{Session, Stop};
 use edge_io::{LineReader, Next, Sink, Source, next_line};
+use job_workers::Gate;
 use session_laws::laws::{held_proofs, replies};
 use std::alloc::Global;
 use std::sync::Wait;
@@ -27,29 +28,18 @@ fn ended_by(stop: Stop) -> Ended
     }
 }
 
-/// Flushes what was written, at the end of the reading.
-fn finish<K: Sink>(sink: &mut K, ended: Ended) -> Ended
-    ensures done { Finishes result ended (K.faults sink.old) (K.faults sink.new) (K.written sink.new) (K.flushed sink.new) }
-    ensures bytes { Keeps (K.written sink.old) (K.written sink.new) }
-    ensures kept { K.faults sink.old ≤ K.faults sink.new }
-{
-    match sink.flush() {
-        Ok(()) => ended,
-        Err(_) => Ended::WriteFault,
-    }
-}
-
-// All lines of the source, by a new reader and a new session.
-fn serve_lines<R: Wait + Threads + Sync, S: Source, K: Sink>(
+// All lines of the source, by a new reader and a new session. What is gathered is run in the end, also where reading fails.
+fn serve_lines<R: Wait + Threads + Sync, S: Source, K: Sink, G: Gate>(
     rt: &R,
     alloc: Global,
     reader: &mut LineReader,
     session: &mut Session,
     source: &mut S,
     sink: &mut K,
+    gate: &G,
 ) -> Ended
     requires reader { reader.old ≡ record { pending = []; room = max_input; at_end = false; ended = false } }
-    requires session { IsBehind session.old [] }
+    requires session { IsAt session.old [] [] }
     ensures ends { Ends result max_input (S.faults source.old) (S.faults source.new) (K.faults sink.old) (K.faults sink.new)
         (S.left source.old) (S.left source.new) (K.written sink.old) (K.written sink.new) (K.flushed sink.new) }
     ensures pass { HasPass session.new.store }
@@ -58,28 +48,39 @@ fn serve_lines<R: Wait + Threads + Sync, S: Source, K: Sink>(
     replies();
     'lines: loop {
         match next_line(reader, source, MAX_LINE) {
-            Next::Line(line) => match session.take(rt, alloc, sink, Some(line.as_slice())) {
+            Next::Line(line) => match session.take(rt, alloc, sink, gate, Some(line.as_slice())) {
                 Ok(()) => {}
                 Err(stop) => return ended_by(stop),
             },
-            Next::TooLong => match session.take(rt, alloc, sink, None) {
+            Next::TooLong => match session.take(rt, alloc, sink, gate, None) {
                 Ok(()) => {}
                 Err(stop) => return ended_by(stop),
             },
-            Next::End => return finish(sink, Ended::Done(session.good)),
-            Next::ReadFault => return finish(sink, Ended::ReadFault),
-            Next::InputFull => return finish(sink, Ended::InputFull),
+            Next::End => match session.run(rt, alloc, sink, gate) {
+                Ok(()) => return Ended::Done(session.good),
+                Err(stop) => return ended_by(stop),
+            },
+            Next::ReadFault => match session.run(rt, alloc, sink, gate) {
+                Ok(()) => return Ended::ReadFault,
+                Err(stop) => return ended_by(stop),
+            },
+            Next::InputFull => match session.run(rt, alloc, sink, gate) {
+                Ok(()) => return Ended::InputFull,
+                Err(stop) => return ended_by(stop),
+            },
             Next::Memory => return Ended::Memory,
         }
     }
 }
 
-/// A whole session: every job of the source gets its reply on the sink, in order.
-pub fn serve<R: Wait + Threads + Sync, S: Source, K: Sink>(
+/// A whole session, by so many workers at most: every job of the source gets its reply on the sink, in order.
+pub fn serve_session<R: Wait + Threads + Sync, S: Source, K: Sink, G: Gate>(
     rt: &R,
     alloc: Global,
     source: &mut S,
     sink: &mut K,
+    gate: &G,
+    workers: u64,
 ) -> Ended
     ensures ends { Ends result max_input (S.faults source.old) (S.faults source.new) (K.faults sink.old) (K.faults sink.new)
         (S.left source.old) (S.left source.new) (K.written sink.old) (K.written sink.new) (K.flushed sink.new) }
@@ -88,11 +89,11 @@ pub fn serve<R: Wait + Threads + Sync, S: Source, K: Sink>(
         Ok(reader) => reader,
         Err(_) => return Ended::Memory,
     };
-    let mut session = match Session::new(alloc) {
+    let mut session = match Session::new(rt, alloc, workers) {
         Ok(session) => session,
         Err(_) => return Ended::Memory,
     };
-    let ended = serve_lines(rt, alloc, &mut reader, &mut session, source, sink);
+    let ended = serve_lines(rt, alloc, &mut reader, &mut session, source, sink, gate);
     session.close(rt);
     ended
 }

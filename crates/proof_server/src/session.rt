@@ -1,25 +1,42 @@
-ghost use Rattle.std.specs.Prelude.{◌≡◌, ◌+◌, ◌<◌, ◌≤◌, ◌^◌, List, [], ℕ, IfOk, OnOk, length, IsTrue, false};
+//! A session between two lines.
+ghost use Rattle.std.specs.Prelude.{◌≡◌, ◌+◌, ◌<◌, ◌≤◌, ◌^◌, ◌∷◌, ◌++◌, List, [], ℕ, IfOk, OnOk, IfErr, length, false};
 ghost use Rattle.std.specs.List.{list_all};
 ghost use Rattle.std.specs.Option.{option_copied};
-ghost use Rattle.session_laws.specs.Jobs.{Past, IsKept, is_blank as is_blank_of, is_job};
-ghost use Rattle.proof_server.specs.Means.{HasPass, IsSomeStore};
-ghost use Rattle.proof_server.specs.Turn.{IsBehind, Takes};
+ghost use Rattle.session_laws.specs.Jobs.{IsKept, is_blank as is_blank_of, is_job as is_job_of, jobs};
+ghost use Rattle.job_windows.specs.Means.{HasPass};
+ghost use Rattle.job_windows.specs.declared.seats.Due.{Due as DueMeaning};
+ghost use Rattle.edge_io.specs.Causes.{Rose};
+ghost use Rattle.proof_server.specs.Turn.{IsAt, IsWriting, Goes, Writes, seats_in};
+ghost use Rattle.proof_server.specs.declared.session.Stop.TheVariants.{WriteFault};
 
-use crate::reply::reply_to;
-use crate::store::Store;
+use crate::counts::Counts;
 use edge_io::{Sink, write_whole};
+use job_windows::{Due, Store, Window};
+use job_workers::Gate;
 use std::alloc::{AllocError, Global};
+use std::mem;
 use std::sync::Wait;
 use std::thread::Threads;
 use text_tables::TextTables;
 
-/// Where a session stands: how many jobs it has answered, what they hold, the texts that were read and printed, and whether no reply was
-/// an error. It can't be dropped, and is ended by `close`.
+/// The most jobs that a window has.
+const MOST_JOBS: usize = 64;
+
+/// A window is run with the line with which its lines come to so many bytes.
+const MOST_BYTES: u64 = 16_777_216;
+
+/// Where a session stands: how many jobs it has answered, what they hold, the jobs of its window and the bytes of their lines, the texts
+/// that were read and printed, and what is counted of the replies. It can't be dropped, and is ended by `close`.
 pub struct Session {
+    pub workers: u64,
     pub count: u64,
     pub store: Store,
+    pub window: Window,
+    pub bytes: u64,
     pub texts: TextTables,
+    pub counts: Counts,
     pub good: bool,
+    pub lacked: bool,
 }
 
 /// Why a session can't go on.
@@ -42,17 +59,45 @@ fn is_empty_line(line: &[u8]) -> bool
     line.iter().all(|b| is_blank(*b))
 }
 
+/// Whether a line is a job. One that is too long, `None`, is a job.
+fn is_job(line: Option<&[u8]>) -> bool
+    ensures { (text : List ℕ) → IsKept (option_copied line.entry) text → result ≡ is_job_of text }
+{
+    match line {
+        Some(line) => !is_empty_line(line),
+        None => true,
+    }
+}
+
+/// Hands on all that was written.
+fn flush<K: Sink>(sink: &mut K) -> Result<(), Stop>
+    ensures bytes { K.written sink.new ≡ K.written sink.old }
+    ensures flushed { OnOk result (K.flushed sink.new ≡ K.written sink.new) }
+    ensures failed { IfErr result (λ stop. (stop ≡ WriteFault) × Rose (K.faults sink.old) (K.faults sink.new)) }
+    ensures faults { K.faults sink.old ≤ K.faults sink.new }
+{
+    match sink.flush() {
+        Ok(()) => Ok(()),
+        Err(_) => Err(Stop::WriteFault),
+    }
+}
+
 impl Session {
-    /// No job has been answered.
-    pub fn new(alloc: Global) -> Result<Session, AllocError>
-        ensures { IfOk result (λ session. IsBehind session []) }
+    /// No job has been answered. The jobs of a window are run by so many workers at most.
+    pub fn new<R: Wait>(rt: &R, alloc: Global, workers: u64) -> Result<Session, AllocError>
+        ensures { IfOk result (λ session. IsAt session [] []) }
     {
-        let store = Store::new(alloc)?;
+        let store = Store::new(rt, alloc)?;
         Ok(Session {
+            workers,
             count: 0,
             store,
+            window: Window::new(alloc),
+            bytes: 0,
             texts: TextTables::new(alloc),
+            counts: Counts::new(),
             good: true,
+            lacked: false,
         })
     }
 
@@ -61,81 +106,171 @@ impl Session {
         requires { HasPass self.store }
     {
         let Session {
+            workers: _workers,
             count: _count,
             store,
+            window: _window,
+            bytes: _bytes,
             texts: _texts,
+            counts: _counts,
             good: _good,
+            lacked: _lacked,
         } = self;
         store.close(rt);
     }
 
-    /// Answers a line, `None` for one that is too long: a job gets its reply, and an empty line has all replies
-    /// so far flushed.
-    pub fn take<R: Wait + Threads + Sync, K: Sink>(
+    /// Takes a line in, `None` for one that is too long: a job is gathered into the window, and an empty line closes it, as do the last job
+    /// that it may have and the last bytes.
+    pub fn take<R: Wait + Threads + Sync, K: Sink, G: Gate>(
         &mut self,
         rt: &R,
         alloc: Global,
         sink: &mut K,
+        gate: &G,
         line: Option<&[u8]>,
     ) -> Result<(), Stop>
-        requires room { self.old.count + 1 < 2 ^ 64 }
-        requires store { IsSomeStore self.old.store }
+        requires room { self.old.count + seats_in self.old + 1 < 2 ^ 64 }
         requires kept { (text : List ℕ) × IsKept (option_copied line) text }
-        ensures takes { (earlier : List Past) (text : List ℕ) → IsBehind self.old earlier
+        requires at { (asked : List (List ℕ)) × (written : List ℕ) × IsAt self.old asked written }
+        ensures takes { (asked : List (List ℕ)) (written text : List ℕ) → IsAt self.old asked written
             → IsKept (option_copied line.entry) text
-            → Takes result earlier text self.old self.new (K.faults sink.old) (K.faults sink.new)
+            → Goes result self.new (asked ++ jobs (text ∷ [])) written (K.faults sink.old) (K.faults sink.new)
             (K.written sink.old) (K.written sink.new) }
-        ensures flushed { (text : List ℕ) → IsKept (option_copied line.entry) text → is_job text ≡ false
+        ensures few { OnOk result (self.new.count + seats_in self.new ≤ self.old.count + seats_in self.old + 1) }
+        ensures flushed { (text : List ℕ) → IsKept (option_copied line.entry) text → is_job_of text ≡ false
             → OnOk result (K.flushed sink.new ≡ K.written sink.new) }
         ensures faults { K.faults sink.old ≤ K.faults sink.new }
         ensures pass { HasPass self.new.store }
     {
-        if let Some(bytes) = line {
-            if is_empty_line(bytes) {
-                return match sink.flush() {
-                    Ok(()) => Ok(()),
-                    Err(_) => Err(Stop::WriteFault),
-                };
-            }
+        if !is_job(line) {
+            return self.run(rt, alloc, sink, gate);
         }
-        self.answer(rt, alloc, sink, line)
+        match self.gather(alloc, line) {
+            Ok(true) => self.run(rt, alloc, sink, gate),
+            Ok(false) => Ok(()),
+            Err(_) => Err(Stop::Memory),
+        }
     }
 
-    fn answer<R: Wait + Threads + Sync, K: Sink>(
+    // Gathers a job into the window, and says whether the window is full. A line that is too long fills it.
+    fn gather(&mut self, alloc: Global, line: Option<&[u8]>) -> Result<bool, AllocError>
+        requires kept { (text : List ℕ) × IsKept (option_copied line) text }
+        ensures at { (asked : List (List ℕ)) (written text : List ℕ) → IsAt self.old asked written
+            → IsKept (option_copied line.entry) text
+            → OnOk result (IsAt self.new (asked ++ text ∷ []) written) }
+        ensures few { OnOk result (self.new.count + seats_in self.new ≤ self.old.count + seats_in self.old + 1) }
+        ensures pass { HasPass self.old.store → HasPass self.new.store }
+    {
+        let texts = &mut self.texts.formulas;
+        self.store.gather(alloc, texts, &mut self.window, line)?;
+        let bytes = match line {
+            Some(line) => line.len() as u64,
+            None => MOST_BYTES,
+        };
+        self.bytes = self.bytes.saturating_add(bytes);
+        Ok(self.window.len() >= MOST_JOBS || self.bytes >= MOST_BYTES)
+    }
+
+    /// Closes the window: its jobs are run, the reply of each is written, in their order, and all is flushed.
+    pub fn run<R: Wait + Threads + Sync, K: Sink, G: Gate>(
         &mut self,
         rt: &R,
         alloc: Global,
         sink: &mut K,
-        line: Option<&[u8]>,
+        gate: &G,
     ) -> Result<(), Stop>
-        requires room { self.old.count + 1 < 2 ^ 64 }
-        requires store { IsSomeStore self.old.store }
-        requires kept { (text : List ℕ) × IsKept (option_copied line) text }
-        ensures takes { (earlier : List Past) (text : List ℕ) → IsBehind self.old earlier
-            → IsKept (option_copied line.entry) text
-            → IsTrue (is_job text)
-            → Takes result earlier text self.old self.new (K.faults sink.old) (K.faults sink.new)
-            (K.written sink.old) (K.written sink.new) }
+        requires room { self.old.count + seats_in self.old < 2 ^ 64 }
+        requires at { (asked : List (List ℕ)) × (written : List ℕ) × IsAt self.old asked written }
+        ensures goes { (asked : List (List ℕ)) (written : List ℕ) → IsAt self.old asked written
+            → Goes result self.new asked written (K.faults sink.old) (K.faults sink.new) (K.written sink.old) (K.written sink.new) }
+        ensures empty { OnOk result (seats_in self.new ≡ 0) }
+        ensures few { OnOk result (self.new.count ≡ self.old.count + seats_in self.old) }
+        ensures flushed { OnOk result (K.flushed sink.new ≡ K.written sink.new) }
         ensures faults { K.faults sink.old ≤ K.faults sink.new }
         ensures pass { HasPass self.new.store }
     {
-        let reply = match reply_to(
-            &mut self.store,
-            rt,
-            alloc,
-            &mut self.texts,
-            self.count,
-            line,
-        ) {
+        let dues = match self.run_jobs(rt, alloc, gate) {
+            Ok(dues) => dues,
+            Err(_) => return Err(Stop::Memory),
+        };
+        match self.write_all(alloc, sink, dues) {
+            Ok(()) => {}
+            Err(stop) => return Err(stop),
+        }
+        flush(sink)
+    }
+
+    // Runs the jobs of the window, which is empty then, and answers what is due for each.
+    fn run_jobs<R: Wait + Threads + Sync, G: Gate>(
+        &mut self,
+        rt: &R,
+        alloc: Global,
+        gate: &G,
+    ) -> Result<Vec<Due>, AllocError>
+        requires { (asked : List (List ℕ)) × (written : List ℕ) × IsAt self.old asked written }
+        ensures writing { (asked : List (List ℕ)) (written : List ℕ) → IsAt self.old asked written
+            → IfOk result (λ dues. IsWriting self.new asked written dues.items) }
+        ensures length { IfOk result (λ dues. length dues.items ≡ seats_in self.old) }
+        ensures empty { (self.new.window.seats.items ≡ []) × (self.new.window.tasks.items ≡ []) }
+        ensures count { self.new.count ≡ self.old.count }
+        ensures pass { HasPass self.new.store }
+    {
+        let window = mem::replace(&mut self.window, Window::new(alloc));
+        self.bytes = 0;
+        self.store.run(rt, alloc, window, self.workers, gate)
+    }
+
+    // Writes the reply to each job, in their order.
+    fn write_all<K: Sink>(
+        &mut self,
+        alloc: Global,
+        sink: &mut K,
+        dues: Vec<Due>,
+    ) -> Result<(), Stop>
+        requires room { self.old.count + length dues.items < 2 ^ 64 }
+        requires writing { (asked : List (List ℕ)) × (written : List ℕ) × IsWriting self.old asked written dues.items }
+        ensures writes { (asked : List (List ℕ)) (written : List ℕ) → IsWriting self.old asked written dues.items
+            → Writes result self.new asked written [] (K.faults sink.old) (K.faults sink.new) (K.written sink.old) (K.written sink.new) }
+        ensures few { OnOk result (self.new.count ≡ self.old.count + length dues.items) }
+        ensures window { self.new.window ≡ self.old.window }
+        ensures faults { K.faults sink.old ≤ K.faults sink.new }
+        ensures pass { HasPass self.new.store }
+    {
+        for due in dues {
+            match self.write(alloc, sink, due) {
+                Ok(()) => {}
+                Err(stop) => return Err(stop),
+            }
+        }
+        Ok(())
+    }
+
+    // Writes the reply to a job, and keeps what it holds.
+    fn write<K: Sink>(&mut self, alloc: Global, sink: &mut K, due: Due) -> Result<(), Stop>
+        requires room { self.old.count + 1 < 2 ^ 64 }
+        requires pass { HasPass self.old.store }
+        ensures writes { (asked : List (List ℕ)) (written : List ℕ) (dues : List DueMeaning) → IsWriting self.old asked written (due ∷ dues)
+            → Writes result self.new asked written dues (K.faults sink.old) (K.faults sink.new) (K.written sink.old) (K.written sink.new) }
+        ensures few { OnOk result (self.new.count ≡ self.old.count + 1) }
+        ensures window { self.new.window ≡ self.old.window }
+        ensures faults { K.faults sink.old ≤ K.faults sink.new }
+        ensures pass { HasPass self.new.store }
+    {
+        let reply = match due.reply(alloc, &mut self.texts.canonical, self.count) {
             Ok(reply) => reply,
             Err(_) => return Err(Stop::Memory),
         };
+        self.counts.add(&reply);
         match write_whole(sink, &reply.bytes) {
             Ok(()) => {}
             Err(_) => return Err(Stop::WriteFault),
         }
         self.count += 1;
-        self.good = self.good && reply.is_ok;
-        Ok(())
+        self.good &= reply.is_ok;
+        self.lacked |= reply.lacked;
+        match self.store.keep(reply.held) {
+            Ok(()) => Ok(()),
+            Err(_) => Err(Stop::Memory),
+        }
     }
 }

@@ -1,3 +1,3 @@
-pub mod Images
+pub mod UnderMaps
 pub mod Passes
 pub mod Crossing

@@ -9,4 +9,4 @@ use Rattle.proof_subst.specs.Benches.{graph_of, arena_in, IsBenchPassOf}
 use Rattle.proof_subst.specs.Lending.{with_arena}
 
 pub pass_stays : (b : Bench) (p : BenchPass) (a : List Item) → IsBenchPassOf b p → Extends (arena_in p) a → IsBenchPassOf b (with_arena p a)
-pass_stays b p a h grown = record { graph = h.graph; numbers = numbers_stay (graph_of b) (arena_in p) a p.numbers h.numbers grown }
+pass_stays b p a h grown = record { graph = h.graph; images = h.images; numbers = numbers_stay (graph_of b) (arena_in p) a p.numbers h.numbers grown }

@@ -1,2 +1,4 @@
+pub mod ImageKeys
+pub mod Images
 pub mod Benches
 pub mod Lending

@@ -5,7 +5,7 @@ ghost use Rattle.proof_trees.specs.Trees.{IsValid};
 ghost use Rattle.proof_graph.specs.Graphs.{IsOf, history};
 ghost use Rattle.arena_cells.specs.Standing.{HasTree, tree_at, IsTreeAt};
 ghost use Rattle.proof_trees.specs.Conclusions.{HasFormedEnd};
-ghost use Rattle.proof_subst.specs.Benches.{graph_of, pass_in, arena_in, IsBenchPassOf};
+ghost use Rattle.proof_subst.specs.Benches.{graph_of, pass_in, images_in, arena_in, IsBenchPassOf};
 
 use crate::bench::{Bench, BenchPass};
 use arena::Arena;
@@ -24,6 +24,7 @@ pub fn make_room(alloc: Global, bench: &Bench, pass: &mut BenchPass)
     ensures bounded { length (arena_in pass.new) ≤ 2 ^ 18 }
     ensures kept { length (arena_in pass.old) ≤ 2 ^ 18 → arena_in pass.new ≡ arena_in pass.old }
     ensures graph_stays { pass_in pass.new ≡ pass_in pass.old }
+    ensures images_stay { images_in pass.new ≡ images_in pass.old }
     ensures pass_stays { IsBenchPassOf bench.now pass.new }
 {
     let _bench = bench;
@@ -46,6 +47,7 @@ pub fn number_of(
     ensures tree { IfOk result (λ n. HasTree (arena_in pass.new) n proof.now.tree) }
     ensures formed { IfOk result (λ _. HasFormedEnd proof.now.tree) }
     ensures graph_stays { pass_in pass.new ≡ pass_in pass.old }
+    ensures images_stay { images_in pass.new ≡ images_in pass.old }
     ensures pass_stays { IsBenchPassOf bench.now pass.new }
 {
     make_room(alloc, bench, pass);
@@ -73,6 +75,7 @@ pub fn proof_at<R: Wait>(
     ensures tree { IfOk result (λ r. r.tree ≡ tree_at (arena_in pass.old) number) }
     ensures of { IfOk result (IsOf (graph_of bench.now)) }
     ensures arena_stays { arena_in pass.new ≡ arena_in pass.old }
+    ensures images_stay { images_in pass.new ≡ images_in pass.old }
     ensures grown { IsPrefix (history (pass_in pass.old)) (history (pass_in pass.new)) }
     ensures pass_stays { IsBenchPassOf bench.now pass.new }
 {

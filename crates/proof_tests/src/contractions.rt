@@ -80,8 +80,9 @@ fn see_contraction<R: Abort + Wait, L: Ledger>(
     let graph = bench.graph();
     let cut = proof(rt, alloc, graph, Bench::graph_pass(pass), text)?;
     let mut steps = Steps::<L>::new(ledger);
-    let made = contracted(rt, alloc, bench, pass, &cut, &mut steps)?;
+    let made = contracted(rt, alloc, bench, pass, &cut, &mut steps);
     steps.end();
+    let made = made?;
     let graph_pass = Bench::graph_pass(pass);
     assert_proof(rt, alloc, graph, graph_pass, &made, contraction)
 }
@@ -97,7 +98,7 @@ fn assert_contraction<R: Abort + Wait, L: Ledger>(
     requires parts { ledger.parts ≡ L.parts }
     requires one_part { 0 < ledger.parts }
 {
-    let (bench, mut pass) = Bench::new(alloc)?;
+    let (bench, mut pass) = Bench::new(rt, alloc)?;
     let seen = see_contraction::<R, L>(rt, alloc, ledger, &bench, &mut pass, row);
     bench.close(rt, pass);
     seen

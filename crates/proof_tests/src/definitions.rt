@@ -21,6 +21,7 @@ use std::process::Abort;
 use std::sync::Wait;
 use std::sync::ledger::{Blank, Ledger};
 use std::test::Fail;
+use std::thread::Threads;
 
 // The atom of a text, with a body for its symbol.
 fn defined(alloc: Global, text: &str, body: &Formula) -> Result<Formula, Fail>
@@ -112,7 +113,7 @@ fn admitted<R: Wait>(
 
 // Sees on a desk what the elimination of such a cut comes to: a cut on its unfolding takes the place of the cut, and a weakening that of
 // the second one.
-fn see_eliminated<R: Abort + Wait, L: Ledger>(
+fn see_eliminated<R: Abort + Wait + Threads + Sync, L: Ledger>(
     rt: &R,
     alloc: Global,
     ledger: Blank,
@@ -131,8 +132,9 @@ fn see_eliminated<R: Abort + Wait, L: Ledger>(
     let bench_pass = Desk::bench_pass(pass);
     let cut = admitted(rt, alloc, desk.bench(), bench_pass, list.as_slice())?;
     let mut steps = Steps::<L>::new(ledger);
-    let made = eliminate(rt, alloc, desk, pass, &cut, 2, &mut steps)?;
+    let made = eliminate(rt, alloc, desk, pass, &cut, 2, &mut steps);
     steps.end();
+    let made = made?;
     assert_eq!(rt; made.reductions, 2);
     let graph_pass = Bench::graph_pass(Desk::bench_pass(pass));
     assert_proof(
@@ -146,7 +148,7 @@ fn see_eliminated<R: Abort + Wait, L: Ledger>(
 }
 
 // The same, on a desk of its own.
-fn assert_eliminated<R: Abort + Wait, L: Ledger>(
+fn assert_eliminated<R: Abort + Wait + Threads + Sync, L: Ledger>(
     rt: &R,
     alloc: Global,
     ledger: Blank,
@@ -155,14 +157,14 @@ fn assert_eliminated<R: Abort + Wait, L: Ledger>(
     requires parts { ledger.parts ≡ L.parts }
     requires one_part { 0 < ledger.parts }
 {
-    let (desk, mut pass) = Desk::new(alloc)?;
+    let (desk, mut pass) = Desk::new(rt, alloc)?;
     let seen = see_eliminated::<R, L>(rt, alloc, ledger, &desk, &mut pass);
     desk.close(rt, pass);
     seen
 }
 
 // The same, with a ledger of its own.
-fn assert_defined_cut<R: Abort + Wait>(rt: &R, alloc: Global) -> Result<(), Fail> {
+fn assert_defined_cut<R: Abort + Wait + Threads + Sync>(rt: &R, alloc: Global) -> Result<(), Fail> {
     assert_eliminated::<R, Brand>(rt, alloc, Blank::new(1))
 }
 

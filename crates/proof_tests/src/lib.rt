@@ -7,6 +7,8 @@ mod contractions;
 #[cfg(test)]
 mod definitions;
 #[cfg(test)]
+mod eliminations;
+#[cfg(test)]
 mod inferences;
 #[cfg(test)]
 mod merges;

@@ -94,16 +94,16 @@ fn same_key_two_threads(rt: HostRuntime) -> Result<(), Fail> {
     seen
 }
 
-// The axioms on two thousand atoms: those of the first thousand numbers, and those of another thousand.
-fn two_thousand_axioms(alloc: Global, thousand: u64) -> Result<Vec<Step>, Fail>
+// The axioms on ten thousand atoms: those of the first five thousand numbers, and those of another five thousand.
+fn ten_thousand_axioms(alloc: Global, block: u64) -> Result<Vec<Step>, Fail>
     ensures { IfOk result (λ v. All (λ step. IsFormedRule step.rule) v.items) }
 {
     let mut text = String::from_str(alloc, "ax {p0} {p0}/{p0}")?;
-    for number in 1..2000u64 {
-        let atom = if number < 1000 {
+    for number in 1..10_000u64 {
+        let atom = if number < 5000 {
             number
         } else {
-            thousand.wrapping_mul(1000).wrapping_add(number - 1000)
+            block.wrapping_mul(5000).wrapping_add(number - 5000)
         };
         let axiom = format!(in alloc; ";ax {{p{atom}}} {{p{atom}}}/{{p{atom}}}")?;
         text.push_str(axiom.as_str())?;
@@ -129,8 +129,8 @@ fn count_by_one<R: Wait>(
     requires { IsPassOf graph.now pass.old }
     ensures { IsPassOf graph.now pass.new }
 {
-    for thousand in 1..3u64 {
-        let list = two_thousand_axioms(alloc, thousand)?;
+    for block in 1..3u64 {
+        let list = ten_thousand_axioms(alloc, block)?;
         admit(graph, rt, alloc, pass, &list)?;
     }
     count(rt, alloc, graph, pass)
@@ -146,8 +146,8 @@ fn count_by_two<R: Abort + Threads + Wait + Sync>(
     requires { IsPassOf graph.now pass.old }
     ensures { IsPassOf graph.now pass.new }
 {
-    let first = two_thousand_axioms(alloc, 1)?;
-    let second = two_thousand_axioms(alloc, 2)?;
+    let first = ten_thousand_axioms(alloc, 1)?;
+    let second = ten_thousand_axioms(alloc, 2)?;
     put_both(rt, alloc, graph, pass, &first, &second)?;
     admit(graph, rt, alloc, pass, &first)?;
     admit(graph, rt, alloc, pass, &second)?;
@@ -170,12 +170,12 @@ fn entries_by_two<R: Abort + Threads + Wait + Sync>(rt: &R, alloc: Global) -> Re
     entries
 }
 
-// Two threads put in two thousand nodes each, half of which are the same. There are as many as by one thread: three thousand.
+// Two threads put in ten thousand nodes each, half of which are the same. There are as many as by one thread: fifteen thousand.
 #[test]
 fn shared_nodes_two_threads(rt: HostRuntime) -> Result<(), Fail> {
     let by_one = entries_by_one(&rt, rt.alloc())?;
     let by_two = entries_by_two(&rt, rt.alloc())?;
-    assert_eq!(rt; by_one, 3000);
+    assert_eq!(rt; by_one, 15_000);
     assert_eq!(rt; by_two, by_one);
     Ok(())
 }

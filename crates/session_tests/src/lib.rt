@@ -12,4 +12,6 @@ mod running;
 #[cfg(test)]
 mod sessions;
 #[cfg(test)]
+mod windows;
+#[cfg(test)]
 mod words;

@@ -3,14 +3,15 @@ use Rattle.std.proofs.Common.{◌≡◌, ℕ, ◌<◌, ◌≤◌, map, length, d
 use Rattle.finite.specs.Finite as set
 use Rattle.herbrand_laws.specs.Patterns.{TermSet}
 use Rattle.herbrand_laws.specs.Candidates.{least}
-use Rattle.delta_table.specs.ValueOrder.{by_cost}
+use Rattle.numbered_terms.specs.Numbered.{set_at}
+use Rattle.delta_rows.specs.ValueOrder.{by_cost}
 use Rattle.delta_table.proofs.costs.least_place.Given as goal
 
 abbrev pub invariant-loop-at : goal.invariant-loop-at
 invariant-loop-at l = record {
   low : l.at ≤ length l.keys;
   within : IfSome l.least (λ k. k < length l.keys);
-  value : (c : TermSet → ℕ) → l.costs ≡ map c l.keys → option_map (λ k. get_or l.keys k set.empty) l.least ≡ least (by_cost c) (drop l.at l.keys);
+  value : (c : TermSet → ℕ) → l.costs ≡ map (λ k. c (set_at l.cells k)) l.keys → option_map (λ k. get_or (map (set_at l.cells) l.keys) k set.empty) l.least ≡ least (by_cost c) (drop l.at (map (set_at l.cells) l.keys));
 }
 
 abbrev pub decreases-loop-at : goal.decreases-loop-at

@@ -1,7 +1,8 @@
--- The values of the tables so far.
-use Rattle.std.proofs.Common.{◌≡◌, take}
-use Rattle.delta_table.specs.FoundRows.{all_values}
+-- The sets of the tables so far are put.
+use Rattle.std.proofs.Common.{◌≡◌, ℕ, Bool, List, take}
+use Rattle.std.specs.List.{list_any}
+use Rattle.delta_table.specs.FoundRows.{all_numbers}
 use Rattle.delta_table.proofs.tables.keys.Given as goal
 
 abbrev pub invariant-loop-rows : goal.invariant-loop-rows
-invariant-loop-rows l = l.keys.items ≡ all_values (take l.rows-index l.tables)
+invariant-loop-rows l = (p : List ℕ → Bool) → list_any p l.keys ≡ list_any p (all_numbers (take l.rows-index l.tables))

@@ -2,8 +2,14 @@
 use Rattle.std.proofs.Common.{◌+◌, ◌*◌}
 use Rattle.exp_to_lk.proofs.building.+build.Given as goal
 
-abbrev pub decreases-build_list : goal.decreases-build_list
-decreases-build_list l = 2 * l.left.now
+abbrev pub decreases-build_open : goal.decreases-build_open
+decreases-build_open l = 3 * l.left.now
+
+abbrev pub decreases-build_premise : goal.decreases-build_premise
+decreases-build_premise l = 3 * l.left.now + 1
+
+abbrev pub decreases-build_copied : goal.decreases-build_copied
+decreases-build_copied l = 3 * l.left.now + 1
 
 abbrev pub decreases-build_premises : goal.decreases-build_premises
-decreases-build_premises l = 2 * l.left.now + 1
+decreases-build_premises l = 3 * l.left.now + 2

@@ -1,31 +1,63 @@
 -- The instance at the place of the list is that of the tree.
-use Rattle.std.proofs.Common.{◌≡◌, ◌<◌, [], ◌∷◌, length, sym, ap, ◌∙◌, arith}
-use Rattle.std.specs.Prelude.{Some}
+use Rattle.std.proofs.Common.{◌≡◌, ◌<◌, [], ◌∷◌, Bor, map, length, sym, ap, subst, ◌∙◌, arith}
+use Rattle.std.specs.Prelude.{Some, option_map}
 use Rattle.std.specs.List.{remove, slice_get}
-use Rattle.std.proofs.lemmas.Option.{slice_get-get_or}
-use Rattle.expansion_laws.specs.Expansions.{weak}
+use Rattle.std.proofs.lemmas.List.{length-map}
+use Rattle.std.proofs.lemmas.Option.{slice_get-get_or, slice_get-map}
+use Rattle.expansion_laws.specs.Expansions.{weak, shallow}
+use Rattle.exp_tree.specs.declared.expansion.Inst.{Inst}
 use Rattle.exp_tree.specs.Shown.{insts_of}
+use Rattle.arena_cells.specs.Standing.{Extends, formula_at, term_at, IsFormulaAt}
+use Rattle.arena_cells.specs.Meaning.{rule_at}
+use Rattle.arena_cells.proofs.Staying.{is_formula, is_term, formula_there}
+use Rattle.arena_cells.proofs.Facts as facts
 use Rattle.building_laws.specs.Lists.{on}
 use Rattle.building_laws.specs.Building.{weak_rule}
+use Rattle.exp_to_lk.specs.Numbered.{Numbered}
 use Rattle.exp_to_lk.proofs.Chosen.{instance_within, instance_taken}
+use Rattle.exp_to_lk.proofs.Puts.{map_removed}
 use Rattle.exp_to_lk.proofs.instances.instantiate.Goals as goal
 
-pub remove-term-requires : goal.remove-term-requires
-remove-term-requires c =
-    let inside : c.args.place < length c.in_ok-formula.instances.items = instance_within c.args.placed.side c.args.placed.tree c.in_ok-formula.formula c.in_ok-formula.instances.items c.args.place c.in_ok-formula.ensures c.requires in
+pub remove-requires : goal.remove-requires
+remove-requires c =
+    let rs = c.into_weak-instances.result.1.items in
+    let is = map (λ (i : Bor Inst). i.now) rs in
+    let p = c.args.placed.placed in
+    let inside : c.args.place < length is = instance_within p.side p.tree c.into_weak-instances.result.0.now is c.args.place c.into_weak-instances.ensures c.requires.place in
+    let lengths : length is ≡ length rs = length-map rs (λ (i : Bor Inst). i.now) in
     omega arith
 
-pub returns : goal.returns
-returns c =
-    let s = c.args.placed.side in
-    let f = c.in_ok-formula.formula in
-    let is = c.in_ok-formula.instances.items in
+pub returns-clause-step : goal.returns-clause-step
+returns-clause-step c =
+    let a = c.args.arena.now in
+    let b = c.place_tree.new.arena in
+    let grown : Extends a b = λ n t h. c.place_tree.ensures.grown n t (c.import_term.ensures.grown n t h) in
+    let p = c.args.placed.placed in
     let n = c.args.place in
-    let i = c.remove-term.result in
-    let inside : n < length is = instance_within s c.args.placed.tree f is n c.in_ok-formula.ensures c.requires in
-    let there : slice_get is n ≡ Some i = slice_get-get_or is n i inside ∙ ap Some (sym c.remove-term.ensures.value) in
-    let side = sym c.side-side.ensures in
-    let rule : weak_rule s f i.term ≡ c.weak-rule.result = (λ k. weak_rule (side k) (sym c.in_ok-copy.ensures k) i.term) ∙ sym c.weak-rule.ensures in
-    let others : on s (weak f (insts_of (remove is n))) ≡ c.weak-others.result = (λ k. on (side k) (weak f (insts_of (sym c.remove-term.ensures.items k)))) ∙ sym c.weak-others.ensures in
-    let child : on s i.child ≡ c.whole.result = (λ k. on (side k) i.child) ∙ sym c.whole.ensures in
-    instance_taken s c.args.placed.tree f is n i c.in_ok-formula.ensures there ∙ (λ k. Some (record { rule = rule k; premises = (others k ∷ child k ∷ []) ∷ [] }))
+    let f = c.into_weak-instances.result.0.now in
+    let rs = c.into_weak-instances.result.1.items in
+    let is = map (λ (i : Bor Inst). i.now) rs in
+    let r = c.remove.result in
+    let inside : n < length is = instance_within p.side p.tree f is n c.into_weak-instances.ensures c.requires.place in
+    let lengths : length is ≡ length rs = length-map rs (λ (i : Bor Inst). i.now) in
+    let lent : slice_get rs n ≡ Some r = slice_get-get_or rs n r (omega arith) ∙ ap Some (sym c.remove.ensures.value) in
+    let there : slice_get is n ≡ Some r.now = slice_get-map (λ (i : Bor Inst). i.now) rs n ∙ ap (option_map (λ (i : Bor Inst). i.now)) lent in
+    let formula : formula_at b c.formula-main.result ≡ f =
+    ap (formula_at b) c.formula-main.ensures ∙ (is_formula b c.args.placed.formula (shallow p.tree) (grown _ _ c.requires.number) ∙ ap shallow c.into_weak-instances.ensures) in
+    let term : term_at b c.in_ok-term.term ≡ r.now.term = is_term b c.in_ok-term.term _ (c.place_tree.ensures.grown _ _ c.in_ok-term.ensures.term) in
+    let rule : weak_rule p.side f r.now.term ≡ rule_at b c.weak.result =
+    (λ i. weak_rule (sym c.side-side.ensures i) (sym formula i) (sym term i)) ∙ sym (c.weak.ensures.rule b) in
+    let removed : remove is n ≡ map (λ (i : Bor Inst). i.now) c.remove.new.self.items =
+    sym (map_removed (λ (i : Bor Inst). i.now) rs n) ∙ ap (map (λ (i : Bor Inst). i.now)) (sym c.remove.ensures.items) in
+    let others : on p.side (weak f (insts_of (remove is n))) ≡ c.weak-2.result.placed =
+    (λ i. on (sym c.side-side.ensures i) (weak f (insts_of (removed i)))) ∙ ap (λ (q : Numbered). q.placed) (sym c.weak-2.ensures) in
+    let child : on p.side r.now.child ≡ c.in_ok-child.child.placed = (λ i. on (sym c.side-side.ensures i) r.now.child) ∙ sym c.in_ok-child.ensures.placed in
+    instance_taken p.side p.tree f is n r.now c.into_weak-instances.ensures there ∙ (λ k. Some (record { rule = rule k; premises = (others k ∷ child k ∷ []) ∷ [] }))
+
+pub returns-clause-rule : goal.returns-clause-rule
+returns-clause-rule c =
+    let a = c.args.arena.now in
+    let b = c.place_tree.new.arena in
+    let grown : Extends a b = λ n t h. c.place_tree.ensures.grown n t (c.import_term.ensures.grown n t h) in
+    let main : IsFormulaAt b c.formula-main.result = subst (λ n. IsFormulaAt b n) (sym c.formula-main.ensures) (formula_there a b grown c.args.placed.formula (facts.formula_there a c.args.placed.formula _ c.requires.number)) in
+    c.weak.ensures.parts b main (facts.term_there b c.in_ok-term.term _ (c.place_tree.ensures.grown _ _ c.in_ok-term.ensures.term))

@@ -1,40 +1,46 @@
 -- The rule by the leaves: an axiom, truth, falsity, or none.
-use Rattle.std.proofs.Common.{◌≡◌, true, false, sym, ◌∙◌}
-use Rattle.std.specs.Prelude.{Some, None, find}
-use Rattle.fol.specs.Syntax.{top, bot}
-use Rattle.finite.specs.Finite as set
-use Rattle.lk_rules.specs.declared.sequent.Side.TheVariants.{Left, Right}
-use Rattle.building_laws.specs.Lists.{leaf_sequent}
-use Rattle.building_laws.specs.Building.{axiom_or}
-use Rattle.exp_to_lk.specs.Leaves.{is_leaf_on}
-use Rattle.exp_to_lk.proofs.SharedLeaves.{closing_by}
+use Rattle.std.proofs.Common.{ℕ, true, false, Option, Some, None, sym, ap, subst, ◌∙◌}
+use Rattle.std.specs.List.{list_any}
+use Rattle.arena_cells.specs.Standing.{formula_at}
+use Rattle.exp_to_lk.specs.Leaves.{is_truth_leaf, is_falsity_leaf, is_number_in, IsLeastAt}
+use Rattle.exp_to_lk.proofs.Closing.{common_there, found, closing_of}
 use Rattle.exp_to_lk.proofs.leaves.closing.Goals as goal
 
-pub returns-in-Some : goal.returns-in-Some
-returns-in-Some c =
-    let l = c.args.list.now in
-    let found : find (is_leaf_on Right l) (set.listing (leaf_sequent l).left) ≡ Some c.in-Some.formula = sym c.in_ok-formula.ensures ∙ c.in-Some.is in
-    sym (closing_by l ∙ λ i. axiom_or (found i) (is_leaf_on Right l top) (is_leaf_on Left l bot))
+pub least-requires : goal.least-requires
+least-requires c = common_there c.args.arena.now c.args.list.now c.known.ensures c.requires c.deref.result.now (λ n. ap (λ ns. is_number_in ns n) c.deref.ensures.value ∙ c.in_ok-common.ensures n)
 
-pub returns-then-has_truth : goal.returns-then-has_truth
-returns-then-has_truth c =
+pub returns-in-Some-clause-rule : goal.returns-in-Some-clause-rule
+returns-in-Some-clause-rule c =
+    let a = c.args.arena.now in
     let l = c.args.list.now in
-    let none : find (is_leaf_on Right l) (set.listing (leaf_sequent l).left) ≡ None = sym c.in_ok-formula.ensures ∙ c.in_default.is in
-    let truth : is_leaf_on Right l top ≡ true = sym c.has_truth.ensures ∙ c.if-has_truth.true in
-    sym (closing_by l ∙ λ i. axiom_or (none i) (truth i) (is_leaf_on Left l bot))
+    let cs = c.deref.result.now in
+    let least = subst (λ (o : Option ℕ). IsLeastAt a cs o) c.in-Some.is c.least.ensures.least in
+    let formula = found a l c.known.ensures c.requires cs (Some c.in-Some.formula) (λ n. ap (λ ns. is_number_in ns n) c.deref.ensures.value ∙ c.in_ok-common.ensures n) least in
+    sym (closing_of l (Some (formula_at a c.in-Some.formula)) (list_any is_truth_leaf l) (list_any is_falsity_leaf l) formula (λ i. list_any is_truth_leaf l) (λ i. list_any is_falsity_leaf l))
 
-pub returns-then-has_falsity : goal.returns-then-has_falsity
-returns-then-has_falsity c =
+pub returns-then-has_truth-clause-rule : goal.returns-then-has_truth-clause-rule
+returns-then-has_truth-clause-rule c =
+    let a = c.args.arena.now in
     let l = c.args.list.now in
-    let none : find (is_leaf_on Right l) (set.listing (leaf_sequent l).left) ≡ None = sym c.in_ok-formula.ensures ∙ c.in_default.is in
-    let truth : is_leaf_on Right l top ≡ false = sym c.has_truth.ensures ∙ c.if-has_truth.false in
-    let falsity : is_leaf_on Left l bot ≡ true = sym c.has_falsity.ensures ∙ c.if-has_falsity.true in
-    sym (closing_by l ∙ λ i. axiom_or (none i) (truth i) (falsity i))
+    let cs = c.deref.result.now in
+    let least = subst (λ (o : Option ℕ). IsLeastAt a cs o) c.in_default.is c.least.ensures.least in
+    let none = found a l c.known.ensures c.requires cs None (λ n. ap (λ ns. is_number_in ns n) c.deref.ensures.value ∙ c.in_ok-common.ensures n) least in
+    sym (closing_of l None true (list_any is_falsity_leaf l) none (sym c.has_truth.ensures ∙ c.if-has_truth.true) (λ i. list_any is_falsity_leaf l))
 
-pub returns : goal.returns
-returns c =
+pub returns-then-has_falsity-clause-rule : goal.returns-then-has_falsity-clause-rule
+returns-then-has_falsity-clause-rule c =
+    let a = c.args.arena.now in
     let l = c.args.list.now in
-    let none : find (is_leaf_on Right l) (set.listing (leaf_sequent l).left) ≡ None = sym c.in_ok-formula.ensures ∙ c.in_default.is in
-    let truth : is_leaf_on Right l top ≡ false = sym c.has_truth.ensures ∙ c.if-has_truth.false in
-    let falsity : is_leaf_on Left l bot ≡ false = sym c.has_falsity.ensures ∙ c.if-has_falsity.false in
-    sym (closing_by l ∙ λ i. axiom_or (none i) (truth i) (falsity i))
+    let cs = c.deref.result.now in
+    let least = subst (λ (o : Option ℕ). IsLeastAt a cs o) c.in_default.is c.least.ensures.least in
+    let none = found a l c.known.ensures c.requires cs None (λ n. ap (λ ns. is_number_in ns n) c.deref.ensures.value ∙ c.in_ok-common.ensures n) least in
+    sym (closing_of l None false true none (sym c.has_truth.ensures ∙ c.if-has_truth.false) (sym c.has_falsity.ensures ∙ c.if-has_falsity.true))
+
+pub returns-clause-rule : goal.returns-clause-rule
+returns-clause-rule c =
+    let a = c.args.arena.now in
+    let l = c.args.list.now in
+    let cs = c.deref.result.now in
+    let least = subst (λ (o : Option ℕ). IsLeastAt a cs o) c.in_default.is c.least.ensures.least in
+    let none = found a l c.known.ensures c.requires cs None (λ n. ap (λ ns. is_number_in ns n) c.deref.ensures.value ∙ c.in_ok-common.ensures n) least in
+    sym (closing_of l None false false none (sym c.has_truth.ensures ∙ c.if-has_truth.false) (sym c.has_falsity.ensures ∙ c.if-has_falsity.false))

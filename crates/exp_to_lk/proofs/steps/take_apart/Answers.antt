@@ -1,45 +1,95 @@
 -- The tree at the place has parts, and its step is the step at the list.
-use Rattle.std.proofs.Common.{◌≡◌, true, false, refl, sym, ap, ◌∙◌}
-use Rattle.std.specs.Prelude.{Some, None, option_map}
-use Rattle.std.specs.Option.{is_some}
-use Rattle.std.specs.List.{slice_get}
+use Rattle.std.proofs.Common.{◌≡◌, ◌+◌, ◌<◌, List, length, sym, ap, subst, ◌∙◌, arith}
+use Rattle.std.specs.Prelude.{Some, is_some}
+use Rattle.std.specs.List.{All, remove, slice_get}
 use Rattle.std.proofs.lemmas.Option.{slice_get-get_or}
-use Rattle.building_laws.specs.Lists.{Placed}
-use Rattle.building_laws.specs.Building.{parts_of, parts, first_step, within}
+use Rattle.std.proofs.lemmas.List.Edits.{length-remove}
+use Rattle.lk_rules.specs.declared.sequent.Sequent.{Sequent}
+use Rattle.lk_rules.specs.Sequents.{adds_to}
+use Rattle.expansion_laws.specs.Expansions.{shallow}
+use Rattle.arena_cells.specs.Standing.{Extends, formula_at}
+use Rattle.arena_cells.proofs.Staying.{is_formula}
+use Rattle.building_laws.specs.Lists.{Placed, conclusion}
+use Rattle.building_laws.specs.Building.{parts, within}
 use Rattle.exp_to_lk.specs.Dividing.{divided}
-use Rattle.exp_to_lk.specs.Taking.{step_of, put}
-use Rattle.std.proofs.lemmas.Result.{IfOk-weaker}
+use Rattle.exp_to_lk.specs.Leaves.{IsOpen}
+use Rattle.exp_to_lk.specs.Numbered.{Numbered, trees, IsNumbered}
+use Rattle.exp_to_lk.specs.Putting.{put}
+use Rattle.exp_to_lk.specs.Sides.{HasSides}
+use Rattle.exp_to_lk.proofs.Numbers.{numbered_stay}
 use Rattle.exp_to_lk.proofs.Places.{step_there, passes_there, position_within}
+use Rattle.exp_to_lk.proofs.Puts.{all_removed, map_removed}
+use Rattle.exp_to_lk.proofs.SideNumbers.{sides_stay}
+use Rattle.exp_to_lk.proofs.Takings.{tree_there, position_of_tree, numbered_at, compound_unused, open_without, conclusion_without}
 use Rattle.exp_to_lk.proofs.steps.take_apart.Goals as goal
 
-pub unreachable-requires : goal.unreachable-requires
-unreachable-requires c =
-    let l = c.args.list.items in
-    let p = c.remove-placed.result in
-    let test = λ (q : Placed). is_some (parts q) in
-    let there : slice_get l c.args.place ≡ Some p = slice_get-get_or l c.args.place p (position_within test l c.args.place c.requires) ∙ ap Some (sym c.remove-placed.ensures.value) in
-    let has : is_some (parts p) ≡ true = passes_there test l c.args.place p c.requires there in
-    let lacks : is_some (parts p) ≡ false = ap is_some (c.in_default.ensures.weak refl p.side) in
-    cc
-
-pub unreachable-requires-in_default-2 : goal.unreachable-requires-in_default-2
-unreachable-requires-in_default-2 c =
-    let l = c.args.list.items in
-    let p = c.remove-placed.result in
-    let test = λ (q : Placed). is_some (parts q) in
-    let there : slice_get l c.args.place ≡ Some p = slice_get-get_or l c.args.place p (position_within test l c.args.place c.requires) ∙ ap Some (sym c.remove-placed.ensures.value) in
-    let has : is_some (parts p) ≡ true = passes_there test l c.args.place p c.requires there in
-    let none : parts p ≡ None = (λ i. parts_of (sym c.side-side.ensures i) (sym c.in-Some.ensures.whole i)) ∙ (c.in_ok-divided.ensures ∙ ap (option_map divided) c.in_default-2.is) in
-    let lacks : is_some (parts p) ≡ false = ap is_some none in
-    cc
-
-pub returns : goal.returns
-returns c =
+pub without_tree-requires-clause-sides : goal.without_tree-requires-clause-sides
+without_tree-requires-clause-sides c =
+    let a = c.args.arena.now in
     let l = c.args.list.items in
     let n = c.args.place in
-    let p = c.remove-placed.result in
-    let test = λ (q : Placed). is_some (parts q) in
-    let there : slice_get l n ≡ Some p = slice_get-get_or l n p (position_within test l n c.requires) ∙ ap Some (sym c.remove-placed.ensures.value) in
-    let some : parts p ≡ Some (divided c.in-Some-2.divided) = (λ i. parts_of (sym c.side-side.ensures i) (sym c.in-Some.ensures.whole i)) ∙ (c.in_ok-divided.ensures ∙ ap (option_map divided) c.in-Some-2.is) in
-    let first = step_there parts l n p (divided c.in-Some-2.divided) c.requires there some in
-    IfOk-weaker c.taken_at.result _ (λ t. first_step parts l ≡ Some (step_of t)) (λ t h. first ∙ ap Some ((λ i. within (put (sym c.remove-placed.ensures.items i) n) (divided c.in-Some-2.divided)) ∙ sym h)) c.taken_at.ensures
+    let q = c.remove-placed.result in
+    let test = λ (q : Numbered). is_some (parts q.placed) in
+    let inside : n < length l = position_within test l n c.requires.place in
+    let there : slice_get l n ≡ Some q = slice_get-get_or l n q inside ∙ ap Some (sym c.remove-placed.ensures.value) in
+    let number = numbered_at a l n q inside c.requires.numbers there in
+    let rest : remove l n ≡ c.deref.result.now = sym c.remove-placed.ensures.items ∙ sym c.deref.ensures.value in
+    let formula : shallow q.placed.tree ≡ formula_at a c.formula-formula.result = sym (is_formula a q.formula (shallow q.placed.tree) number) ∙ ap (formula_at a) (sym c.formula-formula.ensures) in
+    subst (λ (e : Sequent). HasSides a c.args.sides e)
+    (conclusion_without l n q there ∙ (λ i. adds_to (conclusion (trees (rest i))) (sym c.side-side.ensures i) (formula i)))
+    c.requires.sides
+
+pub divide-requires-clause-number : goal.divide-requires-clause-number
+divide-requires-clause-number c =
+    let l = c.args.list.items in
+    let n = c.args.place in
+    let q = c.remove-placed.result in
+    let test = λ (q : Numbered). is_some (parts q.placed) in
+    let inside : n < length l = position_within test l n c.requires.place in
+    let there : slice_get l n ≡ Some q = slice_get-get_or l n q inside ∙ ap Some (sym c.remove-placed.ensures.value) in
+    c.without_tree.ensures.grown _ _ (numbered_at c.args.arena.now l n q inside c.requires.numbers there)
+
+pub divide-requires-clause-compound : goal.divide-requires-clause-compound
+divide-requires-clause-compound c =
+    let l = c.args.list.items in
+    let n = c.args.place in
+    let q = c.remove-placed.result in
+    let test = λ (q : Numbered). is_some (parts q.placed) in
+    let inside : n < length l = position_within test l n c.requires.place in
+    let there : slice_get l n ≡ Some q = slice_get-get_or l n q inside ∙ ap Some (sym c.remove-placed.ensures.value) in
+    passes_there test l n q c.requires.place there
+
+pub returns-clause-step : goal.returns-clause-step
+returns-clause-step c =
+    let l = c.args.list.items in
+    let n = c.args.place in
+    let q = c.remove-placed.result in
+    let d = divided c.divide.new.arena c.in_ok-rule.field-0 in
+    let test = λ (q : Numbered). is_some (parts q.placed) in
+    let inside : n < length l = position_within test l n c.requires.place in
+    let there : slice_get l n ≡ Some q = slice_get-get_or l n q inside ∙ ap Some (sym c.remove-placed.ensures.value) in
+    let rest : remove (trees l) n ≡ trees c.remove-placed.new.self.items = sym (map_removed (λ (q : Numbered). q.placed) l n) ∙ ap trees (sym c.remove-placed.ensures.items) in
+    step_there parts (trees l) n q.placed d (position_of_tree (λ (p : Placed). is_some (parts p)) l ∙ c.requires.place) (tree_there l n q there) c.in_ok-rule.ensures.divided
+    ∙ (λ i. Some (within (put (rest i) n) d))
+
+pub returns-clause-rest : goal.returns-clause-rest
+returns-clause-rest c =
+    let a = c.args.arena.now in
+    let b = c.divide.new.arena in
+    let l = c.args.list.items in
+    let n = c.args.place in
+    let q = c.remove-placed.result in
+    let test = λ (q : Numbered). is_some (parts q.placed) in
+    let inside : n < length l = position_within test l n c.requires.place in
+    let there : slice_get l n ≡ Some q = slice_get-get_or l n q inside ∙ ap Some (sym c.remove-placed.ensures.value) in
+    let grown : Extends a b = λ m t h. c.divide.ensures.grown m t (c.without_tree.ensures.grown m t h) in
+    let rest : remove l n ≡ c.remove-placed.new.self.items = sym c.remove-placed.ensures.items in
+    let compound = passes_there test l n q c.requires.place there in
+    let shorter : length (remove l n) + 1 ≡ length l = length-remove l n inside in
+    let lengths : length (remove l n) ≡ length c.remove-placed.new.self.items = ap length rest in
+    record {
+      numbers = subst (λ (ps : List Numbered). All (IsNumbered b) ps) rest (all_removed (IsNumbered b) l n (numbered_stay a b l grown c.requires.numbers));
+      place = omega arith;
+      sides = subst (λ (e : Sequent). HasSides b c.in_ok-sides.sides e) (ap (λ (ps : List Numbered). conclusion (trees ps)) c.deref.ensures.value) (sides_stay _ b c.in_ok-sides.sides _ c.divide.ensures.grown c.in_ok-sides.ensures.sides);
+      open_leaves = subst (λ (ps : List Numbered). IsOpen (trees ps)) rest (open_without l n q there (compound_unused q.placed compound) c.requires.open_leaves);
+    }

@@ -1,44 +1,88 @@
 -- The tree at the place has an instance that is ready, and the step by that is the step at the list.
-use Rattle.std.proofs.Common.{◌≡◌, true, false, sym, ap, ◌∙◌}
-use Rattle.std.specs.Prelude.{Some}
-use Rattle.std.specs.Option.{is_some}
-use Rattle.std.specs.List.{slice_get, position}
+use Rattle.std.proofs.Common.{◌≡◌, ◌+◌, ◌<◌, true, false, List, [], ◌∷◌, length, sym, ap, subst, ◌∙◌, arith, rules}
+use Rattle.std.specs.Prelude.{Some, is_some}
+use Rattle.std.specs.List.{All, remove, slice_get, position}
+use Rattle.std.proofs.lemmas.Grind.{common_steps}
 use Rattle.std.proofs.lemmas.Option.{slice_get-get_or}
-use Rattle.building_laws.specs.Lists.{Placed, strongs_in_list}
-use Rattle.building_laws.specs.Building.{instance_at, first_step, within}
+use Rattle.std.proofs.lemmas.List.Edits.{length-remove}
+use Rattle.std.proofs.lemmas.List.Elements.{All-cons}
+use Rattle.lk_rules.specs.declared.sequent.Sequent.{Sequent}
+use Rattle.building_laws.specs.Lists.{Placed, strongs_in_list, conclusion}
+use Rattle.building_laws.specs.Building.{instance_at}
 use Rattle.exp_to_lk.specs.Choosing.{ready_in}
-use Rattle.exp_to_lk.specs.Dividing.{divided}
-use Rattle.exp_to_lk.specs.Taking.{step_of, put}
-use Rattle.std.proofs.lemmas.Result.{IfOk-weaker}
+use Rattle.exp_to_lk.specs.Instances.{taken_as}
+use Rattle.exp_to_lk.specs.Leaves.{IsOpen}
+use Rattle.exp_to_lk.specs.Numbered.{Numbered, trees, IsNumbered}
+use Rattle.exp_to_lk.specs.Putting.{put}
+use Rattle.exp_to_lk.specs.Sides.{HasSides}
 use Rattle.exp_to_lk.proofs.Chosen.{step_at_place, instance_placed, position_alike, ready_there}
+use Rattle.exp_to_lk.proofs.Numbers.{numbered_stay}
 use Rattle.exp_to_lk.proofs.Places.{step_there, passes_there, position_within}
+use Rattle.exp_to_lk.proofs.Puts.{all_put, all_removed}
+use Rattle.exp_to_lk.proofs.SideNumbers.{sides_stay}
+use Rattle.exp_to_lk.proofs.Takings.{tree_there, position_of_tree, numbered_at, numbered_instead, open_instead, conclusion_instead, behind_instead}
 use Rattle.exp_to_lk.proofs.steps.take_instance.Goals as goal
 
 pub unreachable-requires : goal.unreachable-requires
 unreachable-requires c =
     let l = c.args.list.items in
     let n = c.args.place in
-    let p = c.remove-placed.result in
-    let test = λ (q : Placed). is_some (ready_in c.args.vars.now q.tree) in
-    let there : slice_get l n ≡ Some p = slice_get-get_or l n p (position_within test l n c.requires.place) ∙ ap Some (sym c.remove-placed.ensures.value) in
-    let has : is_some (ready_in c.args.vars.now p.tree) ≡ true = passes_there test l n p c.requires.place there in
-    let lacks : is_some (ready_in c.args.vars.now p.tree) ≡ false = ap is_some (sym c.ready.ensures ∙ c.in_default.is) in
+    let q = c.remove-placed.result in
+    let test = λ (q : Numbered). is_some (ready_in c.args.vars.now q.placed.tree) in
+    let there : slice_get l n ≡ Some q = slice_get-get_or l n q (position_within test l n c.requires.place) ∙ ap Some (sym c.remove-placed.ensures.value) in
+    let has : is_some (ready_in c.args.vars.now q.placed.tree) ≡ true = passes_there test l n q c.requires.place there in
+    let lacks : is_some (ready_in c.args.vars.now q.placed.tree) ≡ false = ap is_some (sym c.ready.ensures ∙ c.in_default.is) in
     cc
 
-pub instantiate-requires : goal.instantiate-requires
-instantiate-requires c = ready_there c.args.vars.now c.remove-placed.result c.in-Some.instance (sym c.ready.ensures ∙ c.in-Some.is)
+pub instantiate-requires-clause-place : goal.instantiate-requires-clause-place
+instantiate-requires-clause-place c = ready_there c.args.vars.now c.remove-placed.result.placed c.in-Some.instance (sym c.ready.ensures ∙ c.in-Some.is)
 
-pub returns : goal.returns
-returns c =
+pub returns-clause-step : goal.returns-clause-step
+returns-clause-step c =
+    let b = c.instantiate.new.arena in
     let l = c.args.list.items in
     let n = c.args.place in
-    let p = c.remove-placed.result in
-    let vs = strongs_in_list l in
-    let d = c.in_ok-divided.divided in
-    let test = λ (q : Placed). is_some (ready_in c.args.vars.now q.tree) in
-    let there : slice_get l n ≡ Some p = slice_get-get_or l n p (position_within test l n c.requires.place) ∙ ap Some (sym c.remove-placed.ensures.value) in
-    let place : position (λ (q : Placed). is_some (instance_at vs q)) l ≡ Some n = position_alike vs l ∙ ((λ i. position (λ (q : Placed). is_some (ready_in (sym c.requires.vars i) q.tree)) l) ∙ c.requires.place) in
-    let some : instance_at vs p ≡ Some (divided d) =
-    instance_placed vs p ∙ (ap (step_at_place p) ((λ i. ready_in (sym c.requires.vars i) p.tree) ∙ (sym c.ready.ensures ∙ c.in-Some.is)) ∙ c.in_ok-divided.ensures) in
-    let first = step_there (instance_at vs) l n p (divided d) place there some in
-    IfOk-weaker c.taken_at.result _ (λ t. first_step (instance_at vs) l ≡ Some (step_of t)) (λ t h. first ∙ ap Some ((λ i. within (put (sym c.remove-placed.ensures.items i) n) (divided d)) ∙ sym h)) c.taken_at.ensures
+    let q = c.remove-placed.result in
+    let i = c.in_ok-rule.field-0 in
+    let vs = strongs_in_list (trees l) in
+    let t = taken_as b i in
+    let test = λ (q : Numbered). is_some (ready_in c.args.vars.now q.placed.tree) in
+    let inside : n < length l = position_within test l n c.requires.place in
+    let there : slice_get l n ≡ Some q = slice_get-get_or l n q inside ∙ ap Some (sym c.remove-placed.ensures.value) in
+    let ready_at : position (λ (p : Placed). is_some (ready_in c.args.vars.now p.tree)) (trees l) ≡ Some n = position_of_tree (λ (p : Placed). is_some (ready_in c.args.vars.now p.tree)) l ∙ c.requires.place in
+    let place : position (λ (p : Placed). is_some (instance_at vs p)) (trees l) ≡ Some n = position_alike vs (trees l) ∙ (sym c.requires.vars.place ∙ ready_at) in
+    let some : instance_at vs q.placed ≡ Some t =
+    instance_placed vs q.placed
+    ∙ (ap (step_at_place q.placed) (sym (c.requires.vars.instance n q.placed ready_at (tree_there l n q there)) ∙ (sym c.ready.ensures ∙ c.in-Some.is)) ∙ c.in_ok-rule.ensures.step) in
+    let rest : put (remove l n) n (i.others ∷ []) ≡ c.insert.new.self.items =
+    (λ k. put (sym c.remove-placed.ensures.items k) n (i.others ∷ [])) ∙ sym c.in_ok-insert.ensures.items in
+    let lists = behind_instead l n i.others i.child inside ∙ ap (λ (ps : List Numbered). put (trees ps) (n + 1) (i.child.placed ∷ [])) rest in
+    step_there (instance_at vs) (trees l) n q.placed t place (tree_there l n q there) some
+    ∙ (λ k. Some (record { rule = t.rule; premises = lists k ∷ [] }))
+
+pub returns-clause-rest : goal.returns-clause-rest
+returns-clause-rest c =
+    let a = c.args.arena.now in
+    let b = c.instantiate.new.arena in
+    let l = c.args.list.items in
+    let n = c.args.place in
+    let q = c.remove-placed.result in
+    let i = c.in_ok-rule.field-0 in
+    let test = λ (q : Numbered). is_some (ready_in c.args.vars.now q.placed.tree) in
+    let inside : n < length l = position_within test l n c.requires.place in
+    let there : slice_get l n ≡ Some q = slice_get-get_or l n q inside ∙ ap Some (sym c.remove-placed.ensures.value) in
+    let rest : put (remove l n) n (i.others ∷ []) ≡ c.insert.new.self.items =
+    (λ k. put (sym c.remove-placed.ensures.items k) n (i.others ∷ [])) ∙ sym c.in_ok-insert.ensures.items in
+    let number = numbered_instead b q i.others c.in_ok-rule.ensures.others (c.instantiate.ensures.grown _ _ (numbered_at a l n q inside c.requires.numbers there)) in
+    let shorter : length (remove l n) + 1 ≡ length l = length-remove l n inside in
+    let lengths : length (remove l n) ≡ length c.remove-placed.new.self.items = ap length (sym c.remove-placed.ensures.items) in
+    record {
+      numbers =
+          subst (λ (ps : List Numbered). All (IsNumbered b) ps) rest
+          (all_put (IsNumbered b) (remove l n) n (i.others ∷ []) (all_removed (IsNumbered b) l n (numbered_stay a b l c.instantiate.ensures.grown c.requires.numbers)) (All-cons (IsNumbered b) i.others [] number (search rules)));
+      place = grind (arith, common_steps, c.in_ok-insert.ensures.len);
+      sides =
+          subst (λ (e : Sequent). HasSides b c.args.sides e) (conclusion_instead l n q there i.others c.in_ok-rule.ensures.others ∙ ap (λ (ps : List Numbered). conclusion (trees ps)) rest)
+          (sides_stay a b c.args.sides _ c.instantiate.ensures.grown c.requires.sides);
+      open_leaves = subst (λ (ps : List Numbered). IsOpen (trees ps)) rest (open_instead l n q there i.others c.in_ok-rule.ensures.others c.requires.open_leaves);
+    }

@@ -1,20 +1,26 @@
-use Rattle.std.proofs.Common.{◌≡◌, ℕ, subst, arith}
+use Rattle.std.proofs.Common.{◌≡◌, ◌∙◌, ℕ, subst, arith}
+use Rattle.job_gen.specs.Generated.{generated_line}
+use Rattle.proof_server.proofs.GeneratedLines.{not_too_long}
 use Rattle.proof_server.proofs.GeneratedRuns.{IsCounting, start, go_on, all_counted}
 use Rattle.proof_server.proofs.generating.count_replies.Goals as goal
 
 pub loop-i-init : goal.loop-i-init
-loop-i-init g c = start c.args.store.now c.new-counts.result c.requires c.new-counts.ensures
+loop-i-init g c = start c.args.session.now c.requires
 
 pub loop-i-preserved : goal.loop-i-preserved
 loop-i-preserved g c =
+    let i = c.loop-i.i in
     let so_far = c.loop-i.invariant in
-    let line = c.lines.ensures.one c.loop-i.i in
-    let reply = c.in_ok-reply.ensures.reply so_far.done line.text so_far.number so_far.behind line.ends in
-    go_on c.loop-i.i c.loop-i.store c.reply_to_generated.new.store c.loop-i.counts c.add.new.self c.in_ok-reply.reply so_far line reply c.in_ok-reply.ensures.ample
-    (c.add.ensures so_far.done line.text c.reply_to_generated.new.store so_far.counted reply)
+    let line = c.lines.ensures.one i in
+    go_on i c.loop-i.session c.take.new.self so_far line _ _
+    (c.in-Ok.ensures.takes so_far.asked so_far.written line.text so_far.at
+    (c.as_slice.ensures.value ∙ c.in_ok-line.ensures line.text line.ends, not_too_long (generated_line i) line.text line.ends (c.lines.ensures.short i)))
+    c.in-Ok.ensures.few
 
-pub returns-clause-counts : goal.returns-clause-counts
-returns-clause-counts g c =
+pub returns-in-Ok-run-clause-counts : goal.returns-in-Ok-run-clause-counts
+returns-in-Ok-run-clause-counts g c =
     let last : c.loop-i.i ≡ c.args.n = omega arith in
-    all_counted c.held_proofs.ensures.claimed c.replies.ensures.told c.args.n c.loop-i.store c.loop-i.counts
-    (subst (λ (i : ℕ). IsCounting i c.loop-i.store c.loop-i.counts) last c.loop-i.invariant)
+    let so_far : IsCounting c.args.n c.loop-i.session = subst (λ (i : ℕ). IsCounting i c.loop-i.session) last c.loop-i.invariant in
+    let ran = c.in-Ok-run.ensures in
+    all_counted c.held_proofs.ensures.claimed c.replies.ensures.told c.args.n c.loop-i.session c.run.new.self so_far _ _
+    (ran.goes so_far.asked so_far.written so_far.at) ran.empty c.if-not-session.true

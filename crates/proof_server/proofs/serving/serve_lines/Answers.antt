@@ -1,7 +1,7 @@
-use Rattle.std.proofs.KnownBytes.{Keeps-refl}
+use Rattle.session_laws.specs.Jobs.{jobs}
 use Rattle.proof_server.proofs.Turns.{kept_line}
-use Rattle.proof_server.proofs.Midway.{start, go_on}
-use Rattle.proof_server.proofs.Endings.{stop_ends, done_ends, cut_off_ends, full_ends, stopped_reading, few_lacking}
+use Rattle.proof_server.proofs.Midway.{start, go_on, Rose-since}
+use Rattle.proof_server.proofs.Endings.{stop_ends, stop_at_last, stop_at_fault, stop_at_full, done_all, cut_off, full, lacking_ends, few_lacking}
 use Rattle.proof_server.proofs.serving.serve_lines.Goals as goal
 
 pub lines-init : goal.lines-init
@@ -11,41 +11,81 @@ pub lines-preserved-in-Line : goal.lines-preserved-in-Line
 lines-preserved-in-Line g c =
     let midway = c.lines.invariant in
     let handed = c.in-Line.ensures.answer in
-    go_on midway handed (c.in-Ok.ensures.takes midway.done handed.line midway.behind (kept_line _ _ handed.line c.as_slice.ensures.value handed.told)) c.next_line.ensures.kept c.take.ensures.faults
+    go_on midway handed (c.in-Ok.ensures.takes (jobs midway.lines) midway.written handed.line midway.at (kept_line _ _ handed.line c.as_slice.ensures.value handed.told))
+    c.in-Ok.ensures.few c.next_line.ensures.kept c.take.ensures.faults
 
 pub lines-preserved : goal.lines-preserved
 lines-preserved g c =
     let midway = c.lines.invariant in
     let handed = c.in-TooLong.ensures.answer in
-    go_on midway handed (c.in-Ok-take.ensures.takes midway.done handed.line midway.behind handed.told) c.next_line.ensures.kept c.take-in-TooLong.ensures.faults
+    go_on midway handed (c.in-Ok-take.ensures.takes (jobs midway.lines) midway.written handed.line midway.at handed.told)
+    c.in-Ok-take.ensures.few c.next_line.ensures.kept c.take-in-TooLong.ensures.faults
 
 pub returns-in-Err : goal.returns-in-Err
 returns-in-Err g c =
     let midway = c.lines.invariant in
     let handed = c.in-Line.ensures.answer in
     let kept = kept_line _ _ handed.line c.as_slice.ensures.value handed.told in
-    record { ends = stop_ends c.held_proofs.ensures.claimed c.replies.ensures.told _ _ _ _ c.take.new.self c.in-Err.stop c.ended_by.result midway handed c.ended_by.ensures (c.in-Err.ensures.takes midway.done handed.line midway.behind kept); pass = c.take.ensures.pass }
+    record {
+      ends = stop_ends c.held_proofs.ensures.claimed c.replies.ensures.told _ _ _ _ c.take.new.self c.in-Err.stop c.ended_by.result midway handed c.ended_by.ensures
+          (c.in-Err.ensures.takes (jobs midway.lines) midway.written handed.line midway.at kept);
+      pass = c.take.ensures.pass;
+    }
 
 pub returns-in-Err-take : goal.returns-in-Err-take
 returns-in-Err-take g c =
     let midway = c.lines.invariant in
     let handed = c.in-TooLong.ensures.answer in
-    record { ends = stop_ends c.held_proofs.ensures.claimed c.replies.ensures.told _ _ _ _ c.take-in-TooLong.new.self c.in-Err-take.stop c.ended_by-in-Err-take.result midway handed c.ended_by-in-Err-take.ensures (c.in-Err-take.ensures.takes midway.done handed.line midway.behind handed.told); pass = c.take-in-TooLong.ensures.pass }
+    record {
+      ends = stop_ends c.held_proofs.ensures.claimed c.replies.ensures.told _ _ _ _ c.take-in-TooLong.new.self c.in-Err-take.stop c.ended_by-in-Err-take.result midway handed
+          c.ended_by-in-Err-take.ensures (c.in-Err-take.ensures.takes (jobs midway.lines) midway.written handed.line midway.at handed.told);
+      pass = c.take-in-TooLong.ensures.pass;
+    }
 
-pub returns-in-End : goal.returns-in-End
-returns-in-End g c = record { ends = done_ends c.held_proofs.ensures.claimed c.replies.ensures.told _ _ c.finish.result c.lines.invariant c.in-End.ensures.answer.0 c.finish.ensures.bytes c.finish.ensures.done; pass = c.lines.invariant.behind.store.pass }
+pub returns-in-Ok-run-clause-ends : goal.returns-in-Ok-run-clause-ends
+returns-in-Ok-run-clause-ends g c =
+    let midway = c.lines.invariant in
+    let ran = c.in-Ok-run.ensures in
+    done_all c.held_proofs.ensures.claimed c.replies.ensures.told c.run.new.self midway (ran.goes (jobs midway.lines) midway.written midway.at) ran.empty ran.flushed c.in-End.ensures.answer.0
 
-pub returns-in-ReadFault : goal.returns-in-ReadFault
-returns-in-ReadFault g c =
+pub returns-in-Err-run-clause-ends : goal.returns-in-Err-run-clause-ends
+returns-in-Err-run-clause-ends g c =
+    let midway = c.lines.invariant in
+    stop_at_last c.held_proofs.ensures.claimed c.replies.ensures.told _ _ _ _ c.run.new.self c.in-Err-run.stop c.ended_by-in-Err-run.result midway
+    c.ended_by-in-Err-run.ensures (c.in-Err-run.ensures.goes (jobs midway.lines) midway.written midway.at) c.in-End.ensures.answer.0
+
+pub returns-in-Ok-run-2-clause-ends : goal.returns-in-Ok-run-2-clause-ends
+returns-in-Ok-run-2-clause-ends g c =
+    let midway = c.lines.invariant in
     let fault = c.in-ReadFault.ensures.answer in
-    record { ends = cut_off_ends c.held_proofs.ensures.claimed c.replies.ensures.told _ _ c.finish-in-ReadFault.result c.lines.invariant fault.0 fault.1 fault.2 c.finish-in-ReadFault.ensures.bytes c.finish-in-ReadFault.ensures.done; pass = c.lines.invariant.behind.store.pass }
+    let ran = c.in-Ok-run-2.ensures in
+    (Rose-since _ _ _ midway.reads fault.0, cut_off c.held_proofs.ensures.claimed c.replies.ensures.told c.run-in-ReadFault.new.self midway (ran.goes (jobs midway.lines) midway.written midway.at) ran.empty ran.flushed fault.1 fault.2)
 
-pub returns-in-InputFull : goal.returns-in-InputFull
-returns-in-InputFull g c =
+pub returns-in-Err-run-2-clause-ends : goal.returns-in-Err-run-2-clause-ends
+returns-in-Err-run-2-clause-ends g c =
+    let midway = c.lines.invariant in
+    let fault = c.in-ReadFault.ensures.answer in
+    stop_at_fault c.held_proofs.ensures.claimed c.replies.ensures.told _ _ _ _ _ c.run-in-ReadFault.new.self c.in-Err-run-2.stop c.ended_by-in-Err-run-2.result midway
+    c.ended_by-in-Err-run-2.ensures (c.in-Err-run-2.ensures.goes (jobs midway.lines) midway.written midway.at) fault.1 fault.2
+
+pub returns-in-Ok-run-3-clause-ends : goal.returns-in-Ok-run-3-clause-ends
+returns-in-Ok-run-3-clause-ends g c =
+    let midway = c.lines.invariant in
     let over = c.in-InputFull.ensures.answer in
-    record { ends = full_ends c.held_proofs.ensures.claimed c.replies.ensures.told _ _ _ c.finish-in-InputFull.result c.lines.invariant over.0 over.1 c.finish-in-InputFull.ensures.bytes c.finish-in-InputFull.ensures.done; pass = c.lines.invariant.behind.store.pass }
+    let ran = c.in-Ok-run-3.ensures in
+    full c.held_proofs.ensures.claimed c.replies.ensures.told c.run-in-InputFull.new.self midway (ran.goes (jobs midway.lines) midway.written midway.at) ran.empty ran.flushed over.0 over.1
+
+pub returns-in-Err-run-3-clause-ends : goal.returns-in-Err-run-3-clause-ends
+returns-in-Err-run-3-clause-ends g c =
+    let midway = c.lines.invariant in
+    let over = c.in-InputFull.ensures.answer in
+    stop_at_full c.held_proofs.ensures.claimed c.replies.ensures.told _ _ _ _ _ c.run-in-InputFull.new.self c.in-Err-run-3.stop c.ended_by-in-Err-run-3.result midway
+    c.ended_by-in-Err-run-3.ensures (c.in-Err-run-3.ensures.goes (jobs midway.lines) midway.written midway.at) over.0 over.1
 
 pub returns-in-Memory : goal.returns-in-Memory
 returns-in-Memory g c =
     let lacks = c.in-Memory.ensures.answer in
-    record { ends = stopped_reading c.held_proofs.ensures.claimed c.replies.ensures.told c.lines.invariant lacks.0 lacks.1.taken lacks.1.from (few_lacking lacks.1) (Keeps-refl _); pass = c.lines.invariant.behind.store.pass }
+    record {
+      ends = lacking_ends c.held_proofs.ensures.claimed c.replies.ensures.told c.lines.invariant lacks.0 lacks.1.taken lacks.1.from (few_lacking lacks.1);
+      pass = c.lines.invariant.at.gathered.holds.pass;
+    }

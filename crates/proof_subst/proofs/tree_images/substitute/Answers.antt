@@ -1,18 +1,42 @@
--- The image is valid, with well-formed formulas, and has the number of the proof where the map changes none of its free variables.
-use Rattle.proof_subst.proofs.Images.{same_number, image_valid, image_formed}
+-- What the table has under the key is the image of the proof under the map, of which the key has a copy.
+use Rattle.std.proofs.Common.{◌≡◌, ℕ, List, refl, ap, subst, ◌∙◌}
+use Rattle.std.specs.FinMap as fin
+use Rattle.substitution.specs.Maps.{Map}
+use Rattle.lk_rules.specs.Sequents.{image_sequent}
+use Rattle.proof_trees.specs.Trees.{concl}
+use Rattle.proof_trees.proofs.Substituted.{concl-sub}
+use Rattle.proof_subst.specs.declared.bench.BenchPass.{BenchPass}
+use mathlib.Core.List.{IsPrefix}
+use Rattle.turn_log.proofs.Prefixes.{prefix_trans}
+use Rattle.memo_table.specs.declared.rows.Pair.{Pair}
+use Rattle.proof_subst.specs.declared.known.ImageKey.{ImageKey}
+use Rattle.proof_subst.specs.declared.known.Image.{Image}
+use Rattle.proof_subst.specs.Benches.{images_in, HasImage}
 use Rattle.proof_subst.proofs.tree_images.substitute.Goals as goal
 
-pub proof_at-requires-clause-valid : goal.proof_at-requires-clause-valid
-proof_at-requires-clause-valid g c =
-    image_valid c.number_of.new.pass.arena c.image_of.new.pass.arena c.in_ok-number.number c.in_ok-image.image c.args.proof.now.tree c.args.map.now c.image_of.ensures.arena c.in_ok-number.ensures.tree c.in_ok-image.ensures.tree
-    c.requires.map c.known.ensures.valid
+at_key : (p : BenchPass) (n k : ℕ) (m copy : Map) → n ≡ k → copy ≡ m → HasImage p n copy → HasImage p k m
+at_key p n k m copy number map h = subst (λ (key : ℕ × Map). HasImage p key.0 key.1) (λ i. (number i, map i)) h
 
-pub proof_at-requires-clause-formed : goal.proof_at-requires-clause-formed
-proof_at-requires-clause-formed g c =
-    image_formed c.number_of.new.pass.arena c.image_of.new.pass.arena c.in_ok-number.number c.in_ok-image.image c.args.proof.now.tree c.args.map.now c.image_of.ensures.arena c.in_ok-number.ensures.tree c.in_ok-image.ensures.tree
-    c.requires.map c.known.ensures.valid c.in_ok-number.ensures.formed
+pub returns-in-Some-clause-end : goal.returns-in-Some-clause-end
+returns-in-Some-clause-end g c =
+    let image = rw c.in-Some.is at c.in_ok-known.ensures.image in
+    ap concl image.tree
+    ∙ concl-sub c.args.proof.now.tree c.in_ok-copy.field-0
+    ∙ ap (λ (m : Map). image_sequent (fin.get m) (concl c.args.proof.now.tree)) c.in_ok-copy.ensures
 
-pub returns-clause-kept : goal.returns-clause-kept
-returns-clause-kept g c kept =
-    absurd (c.if-image-number.false (same_number c.number_of.new.pass.arena c.image_of.new.pass.arena c.in_ok-number.number c.in_ok-image.image c.args.proof.now.tree c.args.map.now c.image_of.ensures.arena c.in_ok-number.ensures.tree c.in_ok-image.ensures.tree
-    c.known-2.ensures c.known.ensures.valid kept))
+pub returns-in-Some-clause-noted : goal.returns-in-Some-clause-noted
+returns-in-Some-clause-noted g c =
+    let stands = rw c.in-Some.is at c.in_ok-known.ensures.stands in
+    at_key c.look_up.new.pass c.number.result c.args.proof.now.number c.args.map.now c.in_ok-copy.field-0 c.number.ensures c.in_ok-copy.ensures (stands refl)
+
+pub returns-clause-end : goal.returns-clause-end
+returns-clause-end g c = ap concl c.in_ok-image.ensures.tree ∙ concl-sub c.args.proof.now.tree c.args.map.now
+
+pub returns-clause-noted : goal.returns-clause-noted
+returns-clause-noted g c =
+    at_key c.note.new.pass c.number.result c.args.proof.now.number c.args.map.now c.in_ok-copy.field-0 c.number.ensures c.in_ok-copy.ensures c.in_ok-note.ensures.stands
+
+pub returns-clause-images_grown : goal.returns-clause-images_grown
+returns-clause-images_grown g c =
+    prefix_trans (images_in c.args.pass.now) (images_in c.look_up.new.pass) (images_in c.note.new.pass) c.look_up.ensures.images_grown
+    (subst (λ (l : List (Pair ImageKey Image)). IsPrefix l (images_in c.note.new.pass)) c.compute.ensures.images_stay c.note.ensures.images_grown)

@@ -2,5 +2,5 @@
 use Rattle.proof_graph.specs.Graphs.{IsPassOf}
 use Rattle.proof_tests.proofs.threads.count_by_one.Given as goal
 
-abbrev pub invariant-loop-thousand : goal.invariant-loop-thousand
-invariant-loop-thousand g l = IsPassOf l.graph l.pass
+abbrev pub invariant-loop-block : goal.invariant-loop-block
+invariant-loop-block g l = IsPassOf l.graph l.pass

@@ -2,7 +2,7 @@
 use Rattle.std.proofs.Common.{◌≡◌, ℕ, ◌+◌, length, ap, ◌∙◌, arith}
 use Rattle.std.proofs.lemmas.Bool.Decides.{nat_tests}
 use Rattle.delta_table.specs.declared.tallies.Tally.{Tally}
-use Rattle.delta_table.specs.FoundRows.{nothing, tallies_of}
+use Rattle.delta_table.specs.FoundRows.{nothing, tallies_at}
 use Rattle.delta_table.specs.Chosen.{zipped, raised, share}
 use Rattle.delta_table.proofs.CostSteps.{raised_same, raised_zipped}
 use Rattle.delta_table.proofs.costs.Sums.add.Goals as goal
@@ -21,4 +21,4 @@ returns c =
     let sums = c.args.self.now in
     let tallies = c.deref-2.ensures.value ∙ c.in_ok-tallies.ensures in
     ap (raised sums.all) (c.in_ok-self-2.ensures ∙ λ n. zipped (λ (x : ℕ) (t : Tally). x + share item t) (c.deref.ensures.value n) (tallies n))
-    ∙ raised_zipped item sums.all sums.each.items (tallies_of c.args.keys.now c.args.rows.now)
+    ∙ raised_zipped item sums.all sums.each.items (tallies_at c.args.keys.now c.args.rows.now)

@@ -6,7 +6,7 @@ use Rattle.job_windows.specs.Running.{FitsDesk}
 use Rattle.job_windows.proofs.store.Store.new.Goals as goal
 
 pub returns : goal.returns
-returns c = record {
+returns g c = record {
   holds = record {
     pass = c.in_ok-desk.ensures;
     sized = ap length c.new-3.ensures.items;

@@ -1,6 +1,6 @@
-use Rattle.std.proofs.Common.{ap, sym, subst, ◌∙◌}
+use Rattle.std.proofs.Common.{true, is_some, ap, sym, subst, ◌∙◌}
 use Rattle.memo_table.specs.Pairs.{IsAbsent}
-use Rattle.memo_table.proofs.Finds.{found_at, absent_from_none, in_and_absent}
+use Rattle.memo_table.proofs.Finds.{found_at, absent_from_none, in_and_absent, cases_from_lookup}
 use Rattle.memo_table.proofs.rows.Rows.find.Goals as goal
 
 pub copy-requires : goal.copy-requires
@@ -26,3 +26,7 @@ returns-in-None-clause-some g c =
     λ at. absurd (in_and_absent g.L.Key.Ord.cmp c.args.self.now.pairs c.args.key.now at
     (subst (λ ps. IsAbsent g.L.Key.Ord.cmp ps c.args.key.now) (ap (λ t. t.pairs) c.self.view_is)
     (absent_from_none g.L.Key.Ord.cmp _ _ _ c.self.invariant c.args.key.now (sym c.in-None.ensures.value))))
+
+pub returns-in_ok-copy-in-Some-clause-stands : goal.returns-in_ok-copy-in-Some-clause-stands
+returns-in_ok-copy-in-Some-clause-stands g c = λ some.
+    cases_from_lookup g.L.Key.Ord.cmp _ _ _ c.self.invariant c.args.key.now true _ (ap is_some c.in-Some.ensures.value) (ap (λ t. t.pairs) c.self.view_is)

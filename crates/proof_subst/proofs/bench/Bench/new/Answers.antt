@@ -2,4 +2,4 @@
 use Rattle.proof_subst.proofs.bench.Bench.new.Goals as goal
 
 pub returns : goal.returns
-returns c = record { graph = c.in_ok-graph.ensures.pass; numbers = c.new-3.ensures c.in_ok-graph.graph c.new-2.result }
+returns g c = record { graph = c.in_ok-graph.ensures.pass; images = c.in-Ok.ensures.of; numbers = c.new-4.ensures c.in_ok-graph.graph c.new-3.result }

@@ -2,4 +2,4 @@
 use Rattle.proof_subst.proofs.bench.Bench.split.Goals as goal
 
 pub returns-clause-of : goal.returns-clause-of
-returns-clause-of c = record { graph = c.split.ensures.of; numbers = c.new-2.ensures (c.args.self.now.graph) c.new.result }
+returns-clause-of c = record { graph = c.split.ensures.of; images = c.split-2.ensures.of.1; numbers = c.new-2.ensures (c.args.self.now.graph) c.new.result }

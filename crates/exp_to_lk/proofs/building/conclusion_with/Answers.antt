@@ -1,0 +1,24 @@
+-- The sides with the formulas that are added are those of the list with the trees.
+use Rattle.std.proofs.Common.{◌≡◌, sym, ap, subst, ◌∙◌}
+use Rattle.std.specs.Prelude.{IfOk}
+use Rattle.lk_rules.specs.declared.sequent.Sequent.{Sequent}
+use Rattle.arena_cells.specs.Standing.{HasSequent}
+use Rattle.building_laws.specs.Lists.{conclusion}
+use Rattle.exp_to_lk.specs.Dividing.{items_of}
+use Rattle.exp_to_lk.specs.Numbered.{trees}
+use Rattle.exp_to_lk.specs.Putting.{put}
+use Rattle.exp_to_lk.specs.Sides.{sides_at, added_to}
+use Rattle.exp_to_lk.proofs.Sequents.{conclusion_put}
+use Rattle.exp_to_lk.proofs.SideNumbers.{sides_are}
+use Rattle.exp_to_lk.proofs.building.conclusion_with.Goals as goal
+
+pub returns-clause-sequent : goal.returns-clause-sequent
+returns-clause-sequent c =
+    let rest = c.args.rest.now in
+    let l = trees rest.list.items in
+    let ps = trees (items_of c.args.added.now) in
+    let shown : sides_at c.with_added.new.arena c.in_ok-sides.sides ≡ conclusion (put l rest.place ps) =
+    sides_are _ _ _ c.in_ok-sides.ensures.sides
+    ∙ (ap (λ (e : Sequent). added_to e ps) (sides_are c.args.arena.now rest.sides (conclusion l) c.requires.rest.sides)
+    ∙ sym (conclusion_put l rest.place ps)) in
+    subst (λ (e : Sequent). IfOk c.put_sequent.result (λ n. HasSequent c.put_sequent.new.self n e)) shown c.put_sequent.ensures.sequent

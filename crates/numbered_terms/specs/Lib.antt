@@ -1,0 +1,4 @@
+pub mod Nodes
+pub mod NumberSets
+pub mod Numbered
+pub mod Walks

@@ -1,0 +1,71 @@
+-- What shows that an elimination of cuts is noted.
+use Rattle.std.proofs.Common.{◌≡◌, true, List, refl}
+use Rattle.cut_elim.specs.declared.desk.DeskPass.{DeskPass}
+use Rattle.job_lang.specs.declared.jobs.Op.{Op}
+use Rattle.job_lang.specs.declared.jobs.Op.TheVariants as ops
+use Rattle.operation_laws.specs.declared.refusals.Refusal.{Refusal}
+use Rattle.operation_laws.specs.declared.refusals.Refusal.TheVariants as refusals
+use Rattle.operation_laws.specs.declared.refusals.Failure.{Failure}
+use Rattle.operation_laws.specs.declared.refusals.Failure.TheVariants as failures
+use Rattle.operation_laws.specs.Answers.{shown_refusal, shown_failure}
+use Rattle.operations.specs.declared.held.Held.{Held}
+use Rattle.operations.specs.Means.{Needs, a_graph, a_bench, a_desk, needs}
+use Rattle.operations.specs.Noted.{IsNoted, is_reduced}
+
+-- an operation that is run without a desk has nothing to note
+pub noted_in_graph : (op : Op) (given : List Held) (p : DeskPass) → needs op ≡ a_graph → IsNoted op given p
+noted_in_graph (ops.Lk steps) given p e = cc
+noted_in_graph (ops.Problem problem) given p e = tt
+noted_in_graph (ops.Proves of goal) given p e = tt
+noted_in_graph (ops.Show of) given p e = tt
+noted_in_graph (ops.Measure of) given p e = tt
+noted_in_graph (ops.Subst of m) given p e = cc
+noted_in_graph (ops.Cutelim of n) given p e = cc
+noted_in_graph (ops.Resolution of steps) given p e = cc
+noted_in_graph (ops.Tautology s n) given p e = cc
+noted_in_graph (ops.Expansion flat n) given p e = tt
+noted_in_graph (ops.Expand of n) given p e = tt
+noted_in_graph (ops.Fromexp of n) given p e = cc
+noted_in_graph (ops.Interpolate of one two n) given p e = cc
+noted_in_graph (ops.Herbrand of n) given p e = tt
+noted_in_graph (ops.Cutintro of width n) given p e = cc
+
+pub noted_at_bench : (op : Op) (given : List Held) (p : DeskPass) → needs op ≡ a_bench → IsNoted op given p
+noted_at_bench (ops.Lk steps) given p e = tt
+noted_at_bench (ops.Problem problem) given p e = cc
+noted_at_bench (ops.Proves of goal) given p e = cc
+noted_at_bench (ops.Show of) given p e = cc
+noted_at_bench (ops.Measure of) given p e = cc
+noted_at_bench (ops.Subst of m) given p e = tt
+noted_at_bench (ops.Cutelim of n) given p e = cc
+noted_at_bench (ops.Resolution of steps) given p e = tt
+noted_at_bench (ops.Tautology s n) given p e = tt
+noted_at_bench (ops.Expansion flat n) given p e = cc
+noted_at_bench (ops.Expand of n) given p e = cc
+noted_at_bench (ops.Fromexp of n) given p e = tt
+noted_at_bench (ops.Interpolate of one two n) given p e = tt
+noted_at_bench (ops.Herbrand of n) given p e = cc
+noted_at_bench (ops.Cutintro of width n) given p e = tt
+
+-- what is refused or failed shows no proof
+pub refusal_not_reduced : (r : Refusal) → is_reduced (shown_refusal r) ≡ true → ⊥
+refusal_not_reduced (refusals.UnknownName text) e = cc
+refusal_not_reduced (refusals.Kind text) e = cc
+refusal_not_reduced refusals.Empty e = cc
+refusal_not_reduced (refusals.Step i cause) e = cc
+
+pub failure_not_reduced : (f : Failure) → is_reduced (shown_failure f) ≡ true → ⊥
+failure_not_reduced failures.Budget e = cc
+failure_not_reduced (failures.Refutation i cause) e = cc
+failure_not_reduced (failures.Quantified f side) e = cc
+failure_not_reduced (failures.Falsified atoms) e = cc
+failure_not_reduced (failures.Node i cause) e = cc
+failure_not_reduced (failures.Root i cause) e = cc
+failure_not_reduced (failures.EigenTwice v) e = cc
+failure_not_reduced (failures.EigenFree v) e = cc
+failure_not_reduced (failures.Cycle vs) e = cc
+failure_not_reduced (failures.Cut i) e = cc
+failure_not_reduced (failures.Defined f side) e = cc
+failure_not_reduced (failures.Partition f side) e = cc
+failure_not_reduced (failures.NotPrenex f side) e = cc
+failure_not_reduced (failures.TooMany n) e = cc

@@ -1,8 +1,0 @@
-use Rattle.proof_server.proofs.Endings.{nothing_done}
-use Rattle.proof_server.proofs.serving.serve.Goals as goal
-
-pub returns-in-Err : goal.returns-in-Err
-returns-in-Err g c = record { ends = nothing_done _ _ _ }
-
-pub returns-in-Err-new : goal.returns-in-Err-new
-returns-in-Err-new g c = record { ends = nothing_done _ _ _ }

@@ -1,0 +1,176 @@
+//! Eliminations with work in one premise and in both, and eliminations that are known.
+ghost use Rattle.std.specs.Prelude.{◌≡◌, ◌<◌, IfOk};
+ghost use Rattle.proof_graph.specs.Graphs.{IsOf};
+ghost use Rattle.proof_subst.specs.Benches.{graph_of};
+ghost use Rattle.cut_elim.specs.Desks.{bench_of, IsDeskPassOf};
+
+use crate::samples::{assert_proof, proof};
+use cut_contract::Steps;
+use cut_elim::{Desk, DeskPass, ElimFault, Reduced, eliminate};
+use proof_graph::ProofRef;
+use proof_subst::Bench;
+use std::alloc::Global;
+use std::marker::Brand;
+use std::process::Abort;
+use std::sync::Wait;
+use std::sync::ledger::{Blank, Ledger};
+use std::test::Fail;
+use std::thread::Threads;
+
+// Six cuts, each over the one before it twice: a tree of 63 cuts and 127 nodes, which takes 63 contractions, one for each cut.
+const CUTS: &str =
+    "ax p p/p;cut p p/p 0,0;cut p p/p 1,1;cut p p/p 2,2;cut p p/p 3,3;cut p p/p 4,4;cut p p/p 5,5";
+
+// What they come to. How many contractions these proofs take, and what they come to, was found by a program of another kind, which
+// contracts trees.
+const WEAKENINGS: &str =
+    "ax p p/p;weak - p/p 0;weak - p/p 1;weak - p/p 2;weak - p/p 3;weak - p/p 4;weak - p/p 5";
+
+// An elimination, as far as a test tells it apart.
+fn told(made: &Result<Reduced, ElimFault>) -> Result<u64, bool> {
+    match made {
+        Ok(made) => Ok(made.reductions),
+        Err(ElimFault::Budget) => Err(true),
+        Err(ElimFault::Memory) => Err(false),
+    }
+}
+
+// Sees that two eliminations came to one proof.
+fn see_same<R: Abort>(rt: &R, desk: &Desk, made: &ProofRef, again: &ProofRef)
+    requires made { IsOf (graph_of (bench_of desk.now)) made.now }
+    requires again { IsOf (graph_of (bench_of desk.now)) again.now }
+{
+    assert!(rt; desk.bench().graph().same(made, again));
+}
+
+// Sees that the elimination takes just so many contractions, and that none is made once it is known.
+fn see_known<R: Abort + Wait + Threads + Sync, L: Ledger>(
+    rt: &R,
+    alloc: Global,
+    desk: &Desk,
+    pass: &mut DeskPass,
+    proof: &ProofRef,
+    reductions: u64,
+    steps: &mut Steps<L>,
+) -> Result<ProofRef, Fail>
+    requires pass_of { IsDeskPassOf desk.now pass.old }
+    requires of { IsOf (graph_of (bench_of desk.now)) proof.now }
+    ensures of { IfOk result (IsOf (graph_of (bench_of desk.now))) }
+    ensures pass_stays { IsDeskPassOf desk.now pass.new }
+{
+    let less = reductions.saturating_sub(1);
+    let refused = eliminate(rt, alloc, desk, pass, proof, less, steps);
+    assert!(rt; told(&refused) == Err(true));
+    let made = eliminate(rt, alloc, desk, pass, proof, reductions, steps)?;
+    assert_eq!(rt; made.reductions, reductions);
+    let counted = steps.count();
+    assert!(rt; 0 < counted);
+    let again = eliminate(rt, alloc, desk, pass, proof, u64::MAX, steps)?;
+    assert_eq!(rt; again.reductions, reductions);
+    see_same(rt, desk, &made.proof, &again.proof);
+    let refused = eliminate(rt, alloc, desk, pass, proof, less, steps);
+    assert!(rt; told(&refused) == Err(true));
+    assert_eq!(rt; steps.count(), counted);
+    Ok(made.proof)
+}
+
+// A last step below the six cuts, how many contractions the elimination then takes, and the text of what it comes to.
+#[derive(Drop)]
+struct Elimination {
+    last: String,
+    reductions: u64,
+    reduced: String,
+}
+
+// Sees on a desk what an elimination takes and comes to.
+fn see_elimination<R: Abort + Wait + Threads + Sync, L: Ledger>(
+    rt: &R,
+    alloc: Global,
+    ledger: Blank,
+    desk: &Desk,
+    pass: &mut DeskPass,
+    wanted: &Elimination,
+) -> Result<(), Fail>
+    requires name { ledger.name ≡ L.name }
+    requires parts { ledger.parts ≡ L.parts }
+    requires one_part { 0 < ledger.parts }
+    requires pass_of { IsDeskPassOf desk.now pass.old }
+    ensures { IsDeskPassOf desk.now pass.new }
+{
+    let text = format!(in alloc; "{CUTS};{}", wanted.last.as_str())?;
+    let graph = desk.bench().graph();
+    let graph_pass = Bench::graph_pass(Desk::bench_pass(pass));
+    let cuts = proof(rt, alloc, graph, graph_pass, text.as_str())?;
+    let mut steps = Steps::<L>::new(ledger);
+    let made = see_known(rt, alloc, desk, pass, &cuts, wanted.reductions, &mut steps);
+    steps.end();
+    let made = made?;
+    let graph_pass = Bench::graph_pass(Desk::bench_pass(pass));
+    assert_proof(rt, alloc, graph, graph_pass, &made, wanted.reduced.as_str())
+}
+
+// The same, on a desk of its own.
+fn assert_on_desk<R: Abort + Wait + Threads + Sync, L: Ledger>(
+    rt: &R,
+    alloc: Global,
+    ledger: Blank,
+    wanted: &Elimination,
+) -> Result<(), Fail>
+    requires name { ledger.name ≡ L.name }
+    requires parts { ledger.parts ≡ L.parts }
+    requires one_part { 0 < ledger.parts }
+{
+    let (desk, mut pass) = Desk::new(rt, alloc)?;
+    let seen = see_elimination::<R, L>(rt, alloc, ledger, &desk, &mut pass, wanted);
+    desk.close(rt, pass);
+    seen
+}
+
+// The same, with a ledger of its own.
+fn assert_elimination<R: Abort + Wait + Threads + Sync>(
+    rt: &R,
+    alloc: Global,
+    wanted: &Elimination,
+) -> Result<(), Fail> {
+    assert_on_desk::<R, Brand>(rt, alloc, Blank::new(1), wanted)
+}
+
+#[test]
+fn work_in_both_premises_of_a_cut(rt: HostRuntime) -> Result<(), Fail> {
+    let wanted = Elimination {
+        last: String::from_str(rt.alloc(), "cut p p/p 6,6")?,
+        reductions: 127,
+        reduced: format!(in rt.alloc(); "{WEAKENINGS};weak - p/p 6")?,
+    };
+    assert_elimination(&rt, rt.alloc(), &wanted)
+}
+
+#[test]
+fn work_in_both_premises_of_another_rule(rt: HostRuntime) -> Result<(), Fail> {
+    let wanted = Elimination {
+        last: String::from_str(rt.alloc(), "andR {p&p} p/{p&p} 6,6")?,
+        reductions: 126,
+        reduced: format!(in rt.alloc(); "{WEAKENINGS};andR {{p&p}} p/{{p&p}} 6,6")?,
+    };
+    assert_elimination(&rt, rt.alloc(), &wanted)
+}
+
+#[test]
+fn work_in_the_left_premise(rt: HostRuntime) -> Result<(), Fail> {
+    let wanted = Elimination {
+        last: String::from_str(rt.alloc(), "cut p p/p 6,0")?,
+        reductions: 64,
+        reduced: format!(in rt.alloc(); "{WEAKENINGS};weak - p/p 6")?,
+    };
+    assert_elimination(&rt, rt.alloc(), &wanted)
+}
+
+#[test]
+fn work_in_the_right_premise(rt: HostRuntime) -> Result<(), Fail> {
+    let wanted = Elimination {
+        last: String::from_str(rt.alloc(), "cut p p/p 0,6")?,
+        reductions: 64,
+        reduced: String::from_str(rt.alloc(), "ax p p/p;weak - p/p 0")?,
+    };
+    assert_elimination(&rt, rt.alloc(), &wanted)
+}
