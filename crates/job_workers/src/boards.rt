@@ -52,7 +52,7 @@ impl<R: Runner> BoardOf<R::Job, R::Held, TurnLog<Desk<R>>> {
     ghost use Rattle.job_workers.specs.Boards.{tasks_of, runner_of, IsPassOf, TakesFirst, PutsOnce, EndsWith};
     ghost use Rattle.job_workers.specs.Tickets.{place_of, IsFor, Answers, TicketFits};
 
-    /// A board on which every task waits, and its first pass. All that the board will ever need is allocated here.
+    /// A board on which every task waits, and its first pass. The slots and the room for two events a task are allocated here.
     pub fn new(
         alloc: Global,
         runner: &R,

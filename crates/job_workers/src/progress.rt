@@ -26,6 +26,12 @@ impl Progress {
         }
     }
 
+    /// Whether one of so many tasks may wait that nobody has taken. A busy worker counts as having taken one.
+    pub fn has_waiting<W: Wait>(&self, rt: &W, tasks: u64) -> bool {
+        let counts = self.counts.lock(rt);
+        counts.done.saturating_add(counts.busy) < tasks
+    }
+
     /// Counts this worker as busy, and answers how many tasks were done before.
     pub fn begin<W: Wait>(&self, rt: &W) -> u64 {
         let mut counts = self.counts.lock(rt);

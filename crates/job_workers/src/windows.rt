@@ -100,7 +100,9 @@ fn unwrap_all<T: Drop>(slots: Vec<Option<T>>, mut answers: Vec<T>) -> Vec<T>
 /// tasks. A worker takes the first task whose needs are done. Where there is none, or no memory to take it, it waits until another worker has
 /// done a task, and leaves once no other one is at work or it has waited often. What the workers have left the caller runs in the end, in
 /// order. Whoever runs a job passes the gate first. One worker is the caller with its own pass, and each other one has a pass that is split
-/// from it, and a thread with a large stack.
+/// from its starter's, and a thread with a large stack. Before a worker takes its first task it starts the next worker, where a task waits
+/// that nobody has taken: so cheap tasks are done before many threads have begun, and costly ones soon have all workers. Where no thread can
+/// be started, its work is done by the thread that tried.
 pub fn run_window<W: Threads + Wait + Sync, R: Runner, G: Gate>(
     rt: &W,
     alloc: Global,

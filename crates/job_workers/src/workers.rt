@@ -106,9 +106,11 @@ fn work<W: Threads + Wait + Sync, R: Runner, G: Gate>(
     (mine, pass)
 }
 
-// Starts a worker in a thread of the scope. Where none can be started, its work is done in this thread.
+// Starts a worker in a thread of the scope, which goes on to so many workers at most, itself among them. Where no thread can be started, its
+// work is done in this one.
+#[cycle(work_in)]
 fn start<'s, E, W: Threads + Wait + Sync, R: Runner, G: Gate>(
-    scope: &Scope<'s, E>,
+    scope: &'s Scope<'s, E>,
     rt: &'s W,
     alloc: Global,
     board: &'s Board<R>,
@@ -117,6 +119,7 @@ fn start<'s, E, W: Threads + Wait + Sync, R: Runner, G: Gate>(
     progress: &'s Progress,
     mine: BoardPass<R>,
     pass: R::Pass,
+    workers: u64,
 ) -> Result<PromisedHandle<(BoardPass<R>, R::Pass), Worker<R>>, (BoardPass<R>, R::Pass)>
     requires mine { IsPassOf R.sense R.Belongs board.now mine }
     requires home { R.home runner.now ≡ R.home (runner_of board.now) }
@@ -129,7 +132,11 @@ fn start<'s, E, W: Threads + Wait + Sync, R: Runner, G: Gate>(
     let job = move || -> (BoardPass<R>, R::Pass)
         requires { IsSync W.row × IsPassOf R.sense R.Belongs board.now mine × (R.home runner.now ≡ R.home (runner_of board.now)) × R.PassFits (R.home runner.now) pass }
         ensures { IsPassOf R.sense R.Belongs board.entry.now result.0 × R.PassFits (R.home runner.entry.now) result.1 }
-    { work(rt, alloc, board, runner, gate, progress, mine, pass) };
+    {
+        work_in(
+            scope, rt, alloc, board, runner, gate, progress, mine, pass, workers,
+        )
+    };
     let large = Stack::new().stack_size(STACK_SIZE);
     let refused = match large.spawn_scoped_with(scope, Worker::new(board, runner), job) {
         Ok(worker) => return Ok(worker),
@@ -142,9 +149,11 @@ fn start<'s, E, W: Threads + Wait + Sync, R: Runner, G: Gate>(
     }
 }
 
-// So many workers at the same time: this thread, with the passes that are handed in, and each other one in a thread of the scope.
+// So many workers at most: this thread, with the passes that are handed in, and others in threads of the scope. Starting a thread can cost
+// more than many tasks do. So this worker starts at most one other, which starts the next, and none where every task has been taken.
+#[cycle(work_in)]
 fn work_in<'s, E, W: Threads + Wait + Sync, R: Runner, G: Gate>(
-    scope: &Scope<'s, E>,
+    scope: &'s Scope<'s, E>,
     rt: &'s W,
     alloc: Global,
     board: &'s Board<R>,
@@ -161,15 +170,12 @@ fn work_in<'s, E, W: Threads + Wait + Sync, R: Runner, G: Gate>(
     ensures mine { IsPassOf R.sense R.Belongs board.now result.0 }
     ensures pass { R.PassFits (R.home runner.now) result.1 }
 {
-    if workers <= 1 {
+    if workers <= 1 || !progress.has_waiting(rt, board.count() as u64) {
         return work(rt, alloc, board, runner, gate, progress, mine, pass);
     }
     let other = board.split(&mut mine);
     let theirs = runner.split(&mut pass);
     let started = start(
-        scope, rt, alloc, board, runner, gate, progress, other, theirs,
-    );
-    let (mut mine, mut pass) = work_in(
         scope,
         rt,
         alloc,
@@ -177,10 +183,11 @@ fn work_in<'s, E, W: Threads + Wait + Sync, R: Runner, G: Gate>(
         runner,
         gate,
         progress,
-        mine,
-        pass,
+        other,
+        theirs,
         workers - 1,
     );
+    let (mut mine, mut pass) = work(rt, alloc, board, runner, gate, progress, mine, pass);
     let (other, theirs) = match started {
         Ok(worker) => worker.join(rt),
         Err(passes) => passes,
@@ -190,7 +197,7 @@ fn work_in<'s, E, W: Threads + Wait + Sync, R: Runner, G: Gate>(
     (mine, pass)
 }
 
-/// So many workers at the same time, of which one is this thread with the passes that are handed in.
+/// So many workers at most, of which one is this thread with the passes that are handed in.
 pub fn work_all<W: Threads + Wait + Sync, R: Runner, G: Gate>(
     rt: &W,
     alloc: Global,
