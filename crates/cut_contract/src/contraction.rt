@@ -5,7 +5,7 @@ ghost use Rattle.fol.specs.Syntax.{Formula as Sentence};
 ghost use Rattle.lk_rules.specs.declared.sequent.Sequent.{Sequent as Conclusion};
 ghost use Rattle.proof_trees.specs.Trees.{Tree as Proof, concl, IsValid};
 ghost use Rattle.proof_graph.specs.Graphs.{IsOf, history};
-ghost use Rattle.proof_subst.specs.Benches.{graph_of, pass_in, arena_in, IsBenchPassOf};
+ghost use Rattle.proof_subst.specs.Benches.{graph_of, pass_in, images_in, arena_in, IsBenchPassOf};
 ghost use Rattle.cut_laws.specs.Contraction.{cut as cut_tree, con};
 ghost use Rattle.arena_cells.specs.Standing.{Extends, HasTree, tree_at, IsTreeAt};
 ghost use Rattle.proof_trees.specs.Conclusions.{HasFormedEnd};
@@ -53,6 +53,7 @@ fn contract_tree(
     ensures tree { IfOk result (λ n. HasTree (arena_in pass.new) n (contracted proof.now.tree)) }
     ensures formed { IfOk result (λ _. HasFormedEnd proof.now.tree) }
     ensures graph_stays { pass_in pass.new ≡ pass_in pass.old }
+    ensures images_stay { images_in pass.new ≡ images_in pass.old }
     ensures pass_stays { IsBenchPassOf bench.now pass.new }
 {
     proof.known();
@@ -77,6 +78,7 @@ pub fn contract<R: Wait, L: Ledger>(
     ensures end { IfOk result (λ made. concl made.tree ≡ concl proof.now.tree) }
     ensures of { IfOk result (IsOf (graph_of bench.now)) }
     ensures grown { IsPrefix (history (pass_in pass.old)) (history (pass_in pass.new)) }
+    ensures images_stay { images_in pass.new ≡ images_in pass.old }
     ensures pass_stays { IsBenchPassOf bench.now pass.new }
     ensures counted { steps.new ≡ steps.old + 1 }
 {

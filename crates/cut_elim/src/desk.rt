@@ -1,5 +1,5 @@
 //! What elimination works on.
-ghost use Rattle.std.specs.Prelude.{◌≡◌, IfOk, OnOk, IfSome, IsSome};
+ghost use Rattle.std.specs.Prelude.{◌≡◌, [], IfOk, OnOk, IfSome, IsSome};
 ghost use Rattle.std.specs.Borrow.{sem};
 ghost use Rattle.std.specs.Coded.{Coded-set};
 ghost use mathlib.Core.List.{IsPrefix};
@@ -7,7 +7,7 @@ ghost use Rattle.turn_log.specs.Rules.{longer};
 ghost use Rattle.memo_table.specs.Memos.{home_of};
 ghost use Rattle.proof_graph.specs.Graphs.{IsOf};
 ghost use Rattle.proof_graph.specs.contracts.graph.Graph as graph_contract;
-ghost use Rattle.proof_subst.specs.Benches.{graph_of, images_in};
+ghost use Rattle.proof_subst.specs.Benches.{graph_of, images_in, arena_in};
 
 use crate::known::{Elimination, Eliminations, Reduced};
 use memo_table::{Memo, MemoPass};
@@ -40,7 +40,10 @@ impl Desk {
     /// A desk whose bench has no proof and whose table has no elimination, and its pass. Where there is no memory for the table, the bench
     /// is closed, which is why it takes a runtime.
     pub fn new<R: Wait>(rt: &R, alloc: Global) -> Result<(Desk, DeskPass), AllocError>
-        ensures { IfOk result (λ made. IsDeskPassOf made.0 made.1) }
+        ensures pass { IfOk result (λ made. IsDeskPassOf made.0 made.1) }
+        ensures history { IfOk result (λ made. history_in made.1 ≡ []) }
+        ensures images { IfOk result (λ made. images_in (pass_in made.1) ≡ []) }
+        ensures eliminations { IfOk result (λ made. eliminations_in made.1 ≡ []) }
     {
         let (bench, bench_pass) = Bench::new(rt, alloc)?;
         let Ok((eliminations, eliminations_pass)) = Memo::<Eliminations>::new(alloc, bench.graph())
@@ -69,9 +72,11 @@ impl Desk {
         ensures seen { history_in result ≡ history_in pass.old }
         ensures images { images_in (pass_in result) ≡ images_in (pass_in pass.old) }
         ensures eliminations { eliminations_in result ≡ eliminations_in pass.old }
+        ensures empty { arena_in (pass_in result) ≡ [] }
         ensures same { history_in pass.new ≡ history_in pass.old }
         ensures images_same { images_in (pass_in pass.new) ≡ images_in (pass_in pass.old) }
         ensures eliminations_same { eliminations_in pass.new ≡ eliminations_in pass.old }
+        ensures arena_stays { arena_in (pass_in pass.new) ≡ arena_in (pass_in pass.old) }
         ensures pass_stays { IsDeskPassOf self.now pass.new }
     {
         DeskPass {

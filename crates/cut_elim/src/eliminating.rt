@@ -3,7 +3,7 @@ ghost use Rattle.std.specs.Prelude.{◌≡◌, ◌+◌, ◌*◌, ◌<◌, ◌≤
 ghost use mathlib.Core.List.{IsPrefix};
 ghost use Rattle.proof_trees.specs.Trees.{none, more, concl, below, IsCutFree, IsValid};
 ghost use Rattle.proof_graph.specs.Graphs.{IsOf, history};
-ghost use Rattle.proof_subst.specs.Benches.{graph_of, pass_in, arena_in, IsBenchPassOf};
+ghost use Rattle.proof_subst.specs.Benches.{graph_of, pass_in, images_in, arena_in, IsBenchPassOf};
 ghost use Rattle.cut_laws.specs.Elimination.{elimination};
 ghost use Rattle.arena_cells.specs.Standing.{Extends, tree_at, IsTreeAt};
 ghost use Rattle.proof_trees.specs.Conclusions.{HasFormedEnd};
@@ -50,6 +50,7 @@ fn eliminate_tree<L: Ledger>(
     ensures there { IfOk result (λ made. IsTreeAt (arena_in pass.new) made.proof) }
     ensures formed { IfOk result (λ made. HasFormedEnd (tree_at (arena_in pass.new) made.proof)) }
     ensures graph_stays { pass_in pass.new ≡ pass_in pass.old }
+    ensures images_stay { images_in pass.new ≡ images_in pass.old }
     ensures pass_stays { IsBenchPassOf bench.now pass.new }
     ensures counted_ok { IfOk result (λ made. steps.new ≤ steps.old + made.reductions) }
     ensures counted { steps.new ≤ steps.old + budget }
@@ -138,6 +139,7 @@ fn eliminate_forked<R: Wait + Threads, L: Ledger, M: Ledger + Send + 'static>(
     ensures there { IfOk result (λ made. IsTreeAt (arena_in pass.new) made.proof) }
     ensures formed { IfOk result (λ made. HasFormedEnd (tree_at (arena_in pass.new) made.proof)) }
     ensures graph_stays { pass_in pass.new ≡ pass_in pass.old }
+    ensures images_stay { images_in pass.new ≡ images_in pass.old }
     ensures pass_stays { IsBenchPassOf bench.now pass.new }
     ensures counted_ok { IfOk result (λ made. steps.new ≤ steps.old + made.reductions) }
     ensures counted { steps.new ≤ steps.old + 2 * budget }
@@ -198,6 +200,7 @@ fn eliminate_number<R: Wait + Threads, L: Ledger>(
     ensures there { IfOk result (λ made. IsTreeAt (arena_in pass.new) made.proof) }
     ensures formed { IfOk result (λ made. HasFormedEnd (tree_at (arena_in pass.new) made.proof)) }
     ensures graph_stays { pass_in pass.new ≡ pass_in pass.old }
+    ensures images_stay { images_in pass.new ≡ images_in pass.old }
     ensures pass_stays { IsBenchPassOf bench.now pass.new }
     ensures counted_ok { IfOk result (λ made. steps.new ≤ steps.old + made.reductions) }
     ensures counted { steps.new ≤ steps.old + 2 * budget }
@@ -230,6 +233,7 @@ fn compute<R: Wait + Threads, L: Ledger>(
     ensures budget { result ≡ Err ElimFault.Budget → elimination proof.now.tree budget ≡ None }
     ensures unchanged { result ≡ Err ElimFault.Budget → history (pass_in pass.new) ≡ history (pass_in pass.old) }
     ensures grown { IsPrefix (history (pass_in pass.old)) (history (pass_in pass.new)) }
+    ensures images_stay { images_in pass.new ≡ images_in pass.old }
     ensures pass_stays { IsBenchPassOf bench.now pass.new }
     ensures counted_ok { IfOk result (λ made. steps.new ≤ steps.old + made.reductions) }
     ensures counted { steps.new ≤ steps.old + 2 * budget }
@@ -297,6 +301,7 @@ pub fn eliminate<R: Wait + Threads, L: Ledger>(
     ensures noted { IfOk result (λ _. HasElimination pass.new proof.now.number) }
     ensures unchanged { result ≡ Err ElimFault.Budget → history (pass_in (bench_pass_in pass.new)) ≡ history (pass_in (bench_pass_in pass.old)) }
     ensures grown { IsPrefix (history (pass_in (bench_pass_in pass.old))) (history (pass_in (bench_pass_in pass.new))) }
+    ensures images_stay { images_in (bench_pass_in pass.new) ≡ images_in (bench_pass_in pass.old) }
     ensures eliminations_grown { IsPrefix (eliminations_in pass.old) (eliminations_in pass.new) }
     ensures pass_stays { IsDeskPassOf desk.now pass.new }
     ensures counted_ok { IfOk result (λ made. steps.new ≤ steps.old + made.reductions) }

@@ -178,8 +178,8 @@ impl Store {
         Ok(())
     }
 
-    /// Runs the jobs of a window by so many workers at most, and answers what is due for each, in their order. All that the window needs
-    /// beside its jobs is allocated before the first of them is run.
+    /// Runs the jobs of a window by so many workers at most, and answers what is due for each, in their order. Room for the answers is made
+    /// before the first job is run. Where there is no memory for what a job left to the caller is given, no job of the window is answered.
     pub fn run<R: Wait + Threads + Sync, G: Gate>(
         &mut self,
         rt: &R,

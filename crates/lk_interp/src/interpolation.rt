@@ -15,7 +15,7 @@ ghost use Rattle.interp_laws.specs.Interpolation.{itp};
 ghost use Rattle.interp_laws.specs.Parts.{IsFormedSequent, HasParts};
 ghost use Rattle.arena_cells.specs.Standing.{Extends, tree_at, IsTreeAt};
 ghost use Rattle.arena_interp.specs.Partitions.{IsInterpolatedAt, interpolation_at, HasInterpolation};
-ghost use Rattle.proof_subst.specs.Benches.{graph_of, pass_in, arena_in, IsBenchPassOf};
+ghost use Rattle.proof_subst.specs.Benches.{graph_of, pass_in, images_in, arena_in, IsBenchPassOf};
 ghost use Rattle.lk_interp.specs.Interpolating.{interpolating, interpolation_of, Interpolates, AreProofs, NamesFormed};
 
 use crate::fault::InterpFault;
@@ -84,6 +84,7 @@ fn interpolate_tree(
     ensures made { IfOk result (HasInterpolation (arena_in pass.new) (itp proof.now.tree first.now second.now)) }
     ensures small { IfOk result (λ _. nesting (itp proof.now.tree first.now second.now).formula < 2 ^ 32) }
     ensures graph_stays { pass_in pass.new ≡ pass_in pass.old }
+    ensures images_stay { images_in pass.new ≡ images_in pass.old }
     ensures pass_stays { IsBenchPassOf bench.now pass.new }
 {
     let number = number_of(alloc, bench, pass, proof)?;
@@ -104,6 +105,7 @@ fn export<R: Wait>(
     ensures interpolation { IfOk result (λ r. interpolation_of r ≡ interpolation_at (arena_in pass.old) made) }
     ensures of { IfOk result (λ r. IsOf (graph_of bench.now) r.first × IsOf (graph_of bench.now) r.second) }
     ensures grown { IsPrefix (history (pass_in pass.old)) (history (pass_in pass.new)) }
+    ensures images_stay { images_in pass.new ≡ images_in pass.old }
     ensures pass_stays { IsBenchPassOf bench.now pass.new }
 {
     let formula = Bench::arena(pass).formula(made.formula).copy()?;
@@ -149,6 +151,7 @@ pub fn interpolate<R: Wait>(
     ensures of { IfOk result (λ made. IsOf (graph_of bench.now) made.first × IsOf (graph_of bench.now) made.second) }
     ensures unchanged { IfErr result (λ fault. fault ≢ InterpFault.Memory → history (pass_in pass.new) ≡ history (pass_in pass.old)) }
     ensures grown { IsPrefix (history (pass_in pass.old)) (history (pass_in pass.new)) }
+    ensures images_stay { images_in pass.new ≡ images_in pass.old }
     ensures pass_stays { IsBenchPassOf bench.now pass.new }
 {
     proof.known();

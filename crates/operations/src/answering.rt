@@ -4,8 +4,8 @@ ghost use Rattle.std.specs.List.{All};
 ghost use mathlib.Core.List.{IsPrefix};
 ghost use Rattle.proof_graph.specs.declared.graph.Graph.{Graph as GraphMeaning};
 ghost use Rattle.proof_graph.specs.Graphs.{history};
-ghost use Rattle.proof_subst.specs.Benches.{graph_of, pass_in, IsBenchPassOf};
-ghost use Rattle.cut_elim.specs.Desks.{bench_of, pass_in as bench_pass_in, IsDeskPassOf};
+ghost use Rattle.proof_subst.specs.Benches.{graph_of, pass_in, images_in, IsBenchPassOf};
+ghost use Rattle.cut_elim.specs.Desks.{bench_of, pass_in as bench_pass_in, eliminations_in, IsDeskPassOf};
 ghost use Rattle.tptp_problem.specs.ProblemClauses.{IsReadProblem};
 ghost use Rattle.job_lang.specs.FormedOps.{IsFormedOp};
 ghost use Rattle.operation_laws.specs.Answers.{product, problem as problem_made};
@@ -92,6 +92,7 @@ fn run_making<R: Wait + Threads + Sync>(
     ensures ran { Comes (graph_of bench.now) result (run op.now (map sense given.now)) }
     ensures unchanged { is_refusal result ≡ true → history (pass_in pass.new) ≡ history (pass_in pass.old) }
     ensures grown { IsPrefix (history (pass_in pass.old)) (history (pass_in pass.new)) }
+    ensures images_grown { IsPrefix (images_in pass.old) (images_in pass.new) }
     ensures pass_stays { IsBenchPassOf bench.now pass.new }
 {
     match op {
@@ -149,6 +150,8 @@ fn run_given<R: Wait + Threads + Sync>(
     ensures noted { is_done result ≡ true → IsNoted op.now given.now pass.new }
     ensures unchanged { is_refusal result ≡ true → history (pass_in (bench_pass_in pass.new)) ≡ history (pass_in (bench_pass_in pass.old)) }
     ensures grown { IsPrefix (history (pass_in (bench_pass_in pass.old))) (history (pass_in (bench_pass_in pass.new))) }
+    ensures images_grown { IsPrefix (images_in (bench_pass_in pass.old)) (images_in (bench_pass_in pass.new)) }
+    ensures eliminations_grown { IsPrefix (eliminations_in pass.old) (eliminations_in pass.new) }
     ensures pass_stays { IsDeskPassOf desk.now pass.new }
 {
     let bench = desk.bench();
@@ -202,6 +205,8 @@ pub fn answer<R: Wait + Threads + Sync>(
     // A refusal comes before any work, and what work found to have no product is thrown away.
     ensures unchanged { result.1 ≡ Held.Refused → history (pass_in (bench_pass_in pass.new)) ≡ history (pass_in (bench_pass_in pass.old)) }
     ensures grown { IsPrefix (history (pass_in (bench_pass_in pass.old))) (history (pass_in (bench_pass_in pass.new))) }
+    ensures images_grown { IsPrefix (images_in (bench_pass_in pass.old)) (images_in (bench_pass_in pass.new)) }
+    ensures eliminations_grown { IsPrefix (eliminations_in pass.old) (eliminations_in pass.new) }
     ensures pass_stays { IsDeskPassOf desk.now pass.new }
 {
     let ran = run_given(rt, alloc, desk, pass, op, given);

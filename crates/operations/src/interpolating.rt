@@ -4,7 +4,7 @@ ghost use mathlib.Core.List.{IsPrefix};
 ghost use Rattle.fol.specs.Formed.{IsFormed};
 ghost use Rattle.proof_graph.specs.declared.graph.Graph.{Graph as GraphMeaning};
 ghost use Rattle.proof_graph.specs.Graphs.{IsOf, history};
-ghost use Rattle.proof_subst.specs.Benches.{graph_of, pass_in, IsBenchPassOf};
+ghost use Rattle.proof_subst.specs.Benches.{graph_of, pass_in, images_in, IsBenchPassOf};
 ghost use Rattle.interp_laws.specs.Interpolation.{Interpolation};
 ghost use Rattle.lk_interp.specs.declared.fault.InterpFault.{InterpFault as Fault};
 ghost use Rattle.lk_interp.specs.Interpolating.{interpolating, Interpolates, NamesFormed};
@@ -82,6 +82,7 @@ fn interpolate_by<R: Wait>(
     ensures ran { Comes (graph_of bench.now) result (interpolated (interpolating proof.now.tree one.now two.now budget)) }
     ensures unchanged { is_refusal result ≡ true → history (pass_in pass.new) ≡ history (pass_in pass.old) }
     ensures grown { IsPrefix (history (pass_in pass.old)) (history (pass_in pass.new)) }
+    ensures images_grown { IsPrefix (images_in pass.old) (images_in pass.new) }
     ensures pass_stays { IsBenchPassOf bench.now pass.new }
 {
     match interpolate(rt, alloc, bench, pass, proof, one, two, budget) {
@@ -108,6 +109,7 @@ pub fn interpolate_in<R: Wait>(
     ensures ran { Comes (graph_of bench.now) result (run (Op.Interpolate of.now one.now two.now budget) (sense value.now ∷ [])) }
     ensures unchanged { is_refusal result ≡ true → history (pass_in pass.new) ≡ history (pass_in pass.old) }
     ensures grown { IsPrefix (history (pass_in pass.old)) (history (pass_in pass.new)) }
+    ensures images_grown { IsPrefix (images_in pass.old) (images_in pass.new) }
     ensures pass_stays { IsBenchPassOf bench.now pass.new }
 {
     match proof_given(alloc, of, value) {

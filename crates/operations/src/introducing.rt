@@ -5,7 +5,7 @@ ghost use Rattle.proof_trees.specs.Trees.{Tree};
 ghost use Rattle.proof_graph.specs.declared.graph.Graph.{Graph as GraphMeaning};
 ghost use Rattle.proof_graph.specs.Graphs.{IsOf, history};
 ghost use Rattle.proof_graph.specs.References.{Reference};
-ghost use Rattle.proof_subst.specs.Benches.{graph_of, pass_in, IsBenchPassOf};
+ghost use Rattle.proof_subst.specs.Benches.{graph_of, pass_in, images_in, IsBenchPassOf};
 ghost use Rattle.cut_intro.specs.declared.fault.IntroFault.{IntroFault as Fault};
 ghost use Rattle.cut_intro.specs.Introducing.{Answer, introducing, has_formed_instances, Introduces, NamesFormedFormula, IfSame, answered};
 ghost use Rattle.operation_laws.specs.Running.{shortened, run};
@@ -78,6 +78,7 @@ fn introduce_by<R: Wait + Threads + Sync>(
     ensures ran { Comes (graph_of bench.now) result (shortened proof.now.tree (introducing width.now proof.now.tree budget)) }
     ensures unchanged { is_refusal result ≡ true → history (pass_in pass.new) ≡ history (pass_in pass.old) }
     ensures grown { IsPrefix (history (pass_in pass.old)) (history (pass_in pass.new)) }
+    ensures images_grown { IsPrefix (images_in pass.old) (images_in pass.new) }
     ensures pass_stays { IsBenchPassOf bench.now pass.new }
 {
     let graph = bench.graph();
@@ -114,6 +115,7 @@ pub fn introduce_in<R: Wait + Threads + Sync>(
     ensures ran { Comes (graph_of bench.now) result (run (Op.Cutintro of.now width.now budget) (sense value.now ∷ [])) }
     ensures unchanged { is_refusal result ≡ true → history (pass_in pass.new) ≡ history (pass_in pass.old) }
     ensures grown { IsPrefix (history (pass_in pass.old)) (history (pass_in pass.new)) }
+    ensures images_grown { IsPrefix (images_in pass.old) (images_in pass.new) }
     ensures pass_stays { IsBenchPassOf bench.now pass.new }
 {
     match proof_given(alloc, of, value) {

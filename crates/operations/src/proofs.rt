@@ -9,8 +9,8 @@ ghost use Rattle.proof_trees.specs.Substitution.{sub};
 ghost use Rattle.cut_laws.specs.Elimination.{elimination};
 ghost use Rattle.lk_check.specs.Admission.{admission};
 ghost use Rattle.proof_graph.specs.Graphs.{IsOf, history};
-ghost use Rattle.proof_subst.specs.Benches.{graph_of, pass_in, IsBenchPassOf};
-ghost use Rattle.cut_elim.specs.Desks.{bench_of, pass_in as bench_pass_in, HasElimination, IsDeskPassOf};
+ghost use Rattle.proof_subst.specs.Benches.{graph_of, pass_in, images_in, IsBenchPassOf};
+ghost use Rattle.cut_elim.specs.Desks.{bench_of, pass_in as bench_pass_in, eliminations_in, HasElimination, IsDeskPassOf};
 ghost use Rattle.operation_laws.specs.Answers.{product, proof as proof_made};
 ghost use Rattle.operation_laws.specs.Running.{step_shown as shown_step, admits, eliminates, run};
 ghost use Rattle.operations.specs.Means.{sense, Fits, Comes, is_refusal};
@@ -59,6 +59,7 @@ pub fn admit_steps<R: Wait>(
     ensures ran { Comes (graph_of bench.now) result (admits (admission list.now)) }
     ensures unchanged { is_refusal result ≡ true → history (pass_in pass.new) ≡ history (pass_in pass.old) }
     ensures grown { IsPrefix (history (pass_in pass.old)) (history (pass_in pass.new)) }
+    ensures images_grown { IsPrefix (images_in pass.old) (images_in pass.new) }
     ensures pass_stays { IsBenchPassOf bench.now pass.new }
 {
     let graph = bench.graph();
@@ -88,6 +89,7 @@ fn substituted<R: Wait>(
     ensures ran { Comes (graph_of bench.now) result (product (proof_made (sub proof.now.tree map.now))) }
     ensures unchanged { is_refusal result ≡ true → history (pass_in pass.new) ≡ history (pass_in pass.old) }
     ensures grown { IsPrefix (history (pass_in pass.old)) (history (pass_in pass.new)) }
+    ensures images_grown { IsPrefix (images_in pass.old) (images_in pass.new) }
     ensures pass_stays { IsBenchPassOf bench.now pass.new }
 {
     match substitute(rt, alloc, bench, pass, proof, map) {
@@ -113,6 +115,7 @@ pub fn substitute_in<R: Wait>(
     ensures ran { Comes (graph_of bench.now) result (run (Op.Subst of.now map.now) (sense value.now ∷ [])) }
     ensures unchanged { is_refusal result ≡ true → history (pass_in pass.new) ≡ history (pass_in pass.old) }
     ensures grown { IsPrefix (history (pass_in pass.old)) (history (pass_in pass.new)) }
+    ensures images_grown { IsPrefix (images_in pass.old) (images_in pass.new) }
     ensures pass_stays { IsBenchPassOf bench.now pass.new }
 {
     match proof_given(alloc, of, value) {
@@ -141,6 +144,8 @@ fn eliminate_counted<R: Wait + Threads + Sync, L: Ledger>(
     ensures noted { is_done result ≡ true → HasElimination pass.new proof.now.number }
     ensures unchanged { is_refusal result ≡ true → history (pass_in (bench_pass_in pass.new)) ≡ history (pass_in (bench_pass_in pass.old)) }
     ensures grown { IsPrefix (history (pass_in (bench_pass_in pass.old))) (history (pass_in (bench_pass_in pass.new))) }
+    ensures images_grown { IsPrefix (images_in (bench_pass_in pass.old)) (images_in (bench_pass_in pass.new)) }
+    ensures eliminations_grown { IsPrefix (eliminations_in pass.old) (eliminations_in pass.new) }
     ensures pass_stays { IsDeskPassOf desk.now pass.new }
 {
     let mut contractions = Contractions::<L>::new(ledger);
@@ -170,6 +175,8 @@ pub fn eliminate_in<R: Wait + Threads + Sync>(
     ensures noted { is_done result ≡ true → IsSomeAnd (proof_in of.now value.now) (λ r. HasElimination pass.new r.number) }
     ensures unchanged { is_refusal result ≡ true → history (pass_in (bench_pass_in pass.new)) ≡ history (pass_in (bench_pass_in pass.old)) }
     ensures grown { IsPrefix (history (pass_in (bench_pass_in pass.old))) (history (pass_in (bench_pass_in pass.new))) }
+    ensures images_grown { IsPrefix (images_in (bench_pass_in pass.old)) (images_in (bench_pass_in pass.new)) }
+    ensures eliminations_grown { IsPrefix (eliminations_in pass.old) (eliminations_in pass.new) }
     ensures pass_stays { IsDeskPassOf desk.now pass.new }
 {
     match proof_given(alloc, of, value) {

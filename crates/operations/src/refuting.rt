@@ -6,7 +6,7 @@ ghost use Rattle.refutations.specs.Clauses.{IsClauseOf};
 ghost use Rattle.refutations.specs.Refutations.{refutation, AreFormedSteps};
 ghost use Rattle.tptp_problem.specs.ProblemClauses.{IsReadProblem};
 ghost use Rattle.proof_graph.specs.Graphs.{history};
-ghost use Rattle.proof_subst.specs.Benches.{graph_of, pass_in, IsBenchPassOf};
+ghost use Rattle.proof_subst.specs.Benches.{graph_of, pass_in, images_in, IsBenchPassOf};
 ghost use Rattle.operation_laws.specs.Running.{has_closure, refutation_shown as shown_refutation, refuted, refutes, run};
 ghost use Rattle.operations.specs.Means.{sense, Fits, Comes, is_refusal};
 
@@ -57,6 +57,7 @@ fn import_in<R: Wait>(
     ensures ran { Comes (graph_of bench.now) result (refuted (refutation clauses.now steps.now)) }
     ensures unchanged { is_refusal result ≡ true → history (pass_in pass.new) ≡ history (pass_in pass.old) }
     ensures grown { IsPrefix (history (pass_in pass.old)) (history (pass_in pass.new)) }
+    ensures images_grown { IsPrefix (images_in pass.old) (images_in pass.new) }
     ensures pass_stays { IsBenchPassOf bench.now pass.new }
 {
     match import(rt, alloc, bench, pass, clauses, steps) {
@@ -85,6 +86,7 @@ fn import_problem<R: Wait>(
     ensures ran { Comes (graph_of bench.now) result (refutes steps.now problem.now) }
     ensures unchanged { is_refusal result ≡ true → history (pass_in pass.new) ≡ history (pass_in pass.old) }
     ensures grown { IsPrefix (history (pass_in pass.old)) (history (pass_in pass.new)) }
+    ensures images_grown { IsPrefix (images_in pass.old) (images_in pass.new) }
     ensures pass_stays { IsBenchPassOf bench.now pass.new }
 {
     let Ok(clauses) = clauses(alloc, problem) else {
@@ -113,6 +115,7 @@ pub fn refute<R: Wait>(
     ensures ran { Comes (graph_of bench.now) result (run (Op.Resolution of.now steps.now) (sense value.now ∷ [])) }
     ensures unchanged { is_refusal result ≡ true → history (pass_in pass.new) ≡ history (pass_in pass.old) }
     ensures grown { IsPrefix (history (pass_in pass.old)) (history (pass_in pass.new)) }
+    ensures images_grown { IsPrefix (images_in pass.old) (images_in pass.new) }
     ensures pass_stays { IsBenchPassOf bench.now pass.new }
 {
     match problem_given(alloc, of, value) {

@@ -5,7 +5,7 @@ ghost use mathlib.Core.List.{IsPrefix};
 ghost use Rattle.fol.specs.Formed.{IsFormed};
 ghost use Rattle.proof_graph.specs.declared.graph.Graph.{Graph as GraphMeaning};
 ghost use Rattle.proof_graph.specs.Graphs.{history};
-ghost use Rattle.proof_subst.specs.Benches.{graph_of, pass_in, IsBenchPassOf};
+ghost use Rattle.proof_subst.specs.Benches.{graph_of, pass_in, images_in, IsBenchPassOf};
 ghost use Rattle.search_laws.specs.Truth.{has_quantifier as is_quantified, IsPropositional};
 ghost use Rattle.search_laws.specs.Search.{walk};
 ghost use Rattle.prop_search.specs.Deciding.{found};
@@ -81,6 +81,7 @@ fn search_for<R: Wait>(
     ensures ran { Comes (graph_of bench.now) result (searched (found budget (walk sequent.now))) }
     ensures unchanged { is_refusal result ≡ true → history (pass_in pass.new) ≡ history (pass_in pass.old) }
     ensures grown { IsPrefix (history (pass_in pass.old)) (history (pass_in pass.new)) }
+    ensures images_grown { IsPrefix (images_in pass.old) (images_in pass.new) }
     ensures pass_stays { IsBenchPassOf bench.now pass.new }
 {
     let graph = bench.graph();
@@ -106,6 +107,7 @@ pub fn prove_sequent<R: Wait>(
     ensures ran { Comes (graph_of bench.now) result (searches (quantified_of sequent.now) sequent.now budget) }
     ensures unchanged { is_refusal result ≡ true → history (pass_in pass.new) ≡ history (pass_in pass.old) }
     ensures grown { IsPrefix (history (pass_in pass.old)) (history (pass_in pass.new)) }
+    ensures images_grown { IsPrefix (images_in pass.old) (images_in pass.new) }
     ensures pass_stays { IsBenchPassOf bench.now pass.new }
 {
     match quantified_in(sequent) {

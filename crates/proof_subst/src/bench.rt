@@ -41,7 +41,10 @@ impl Bench {
     /// A bench whose graph has no node and whose table has no image, and its pass. Where there is no memory for the table, the graph is
     /// closed, which is why it takes a runtime.
     pub fn new<R: Wait>(rt: &R, alloc: Global) -> Result<(Bench, BenchPass), AllocError>
-        ensures { IfOk result (λ made. IsBenchPassOf made.0 made.1) }
+        ensures pass { IfOk result (λ made. IsBenchPassOf made.0 made.1) }
+        ensures history { IfOk result (λ made. history (pass_in made.1) ≡ []) }
+        ensures images { IfOk result (λ made. images_in made.1 ≡ []) }
+        ensures empty { IfOk result (λ made. arena_in made.1 ≡ []) }
     {
         let (graph, graph_pass) = Graph::new(alloc)?;
         let Ok((images, images_pass)) = Memo::<Images>::new(alloc, &graph) else {

@@ -6,7 +6,7 @@ ghost use Rattle.fol.specs.Formed.{IsFormed};
 ghost use Rattle.proof_trees.specs.Trees.{concl, IsValid};
 ghost use Rattle.proof_graph.specs.Graphs.{IsOf, history};
 ghost use Rattle.arena_cells.specs.Standing.{tree_at, IsTreeAt};
-ghost use Rattle.proof_subst.specs.Benches.{graph_of, pass_in, arena_in, IsBenchPassOf};
+ghost use Rattle.proof_subst.specs.Benches.{graph_of, pass_in, images_in, arena_in, IsBenchPassOf};
 ghost use Rattle.refutations.specs.Clauses.{IsClauseOf, closure_of, closures};
 ghost use Rattle.refutations.specs.Refutations.{refutation, AreFormedSteps};
 ghost use Rattle.resolution_import.specs.Importing.{IsRefuted, Refutes, Imports};
@@ -33,6 +33,7 @@ fn find_clauses(
     requires clauses { All IsClauseOf clauses.now }
     ensures value { Refutes (λ ns. ns.items) (arena_in pass.new) result clauses.now steps.now }
     ensures graph_stays { pass_in pass.new ≡ pass_in pass.old }
+    ensures images_stay { images_in pass.new ≡ images_in pass.old }
     ensures pass_stays { IsBenchPassOf bench.now pass.new }
 {
     let _bench = bench;
@@ -57,6 +58,7 @@ fn find_proof(
     ensures there { IfOk result (IsTreeAt (arena_in pass.new)) }
     ensures formed { IfOk result (λ _. All (λ c. IsFormed (closure_of c)) clauses.now) }
     ensures graph_stays { pass_in pass.new ≡ pass_in pass.old }
+    ensures images_stay { images_in pass.new ≡ images_in pass.old }
     ensures pass_stays { IsBenchPassOf bench.now pass.new }
 {
     let _bench = bench;
@@ -88,6 +90,7 @@ pub fn import<R: Wait>(
     // Each step is looked at before the first proof is put into the graph.
     ensures unchanged { IfErr result (λ e. e ≢ ImportFault.Memory → history (pass_in pass.new) ≡ history (pass_in pass.old)) }
     ensures grown { IsPrefix (history (pass_in pass.old)) (history (pass_in pass.new)) }
+    ensures images_stay { images_in pass.new ≡ images_in pass.old }
     ensures pass_stays { IsBenchPassOf bench.now pass.new }
 {
     laws::refutations();

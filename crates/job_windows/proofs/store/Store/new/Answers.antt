@@ -8,7 +8,7 @@ use Rattle.job_windows.proofs.store.Store.new.Goals as goal
 pub returns : goal.returns
 returns g c = record {
   holds = record {
-    pass = c.in_ok-desk.ensures;
+    pass = c.in_ok-desk.ensures.pass;
     sized = ap length c.new-3.ensures.items;
     fits = subst (All (FitsDesk c.in_ok-desk.desk)) (sym c.new-3.ensures.items) (λ k d within. absurd (omega arith));
   };
