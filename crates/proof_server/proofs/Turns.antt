@@ -355,6 +355,11 @@ pub few_run : (result : Result (Unit {0}) Stop) (count seats jobs most : ℕ) �
 few_run (Ok _) count seats jobs most all none few = omega arith
 few_run (Err _) count seats jobs most all none few = tt
 
+-- a window that was run has room for jobs
+pub room_after_run : (result : Result (Unit {0}) Stop) (seats : ℕ) → OnOk result (seats ≡ 0) → OnOk result (seats < 64)
+room_after_run (Ok _) seats none = omega arith
+room_after_run (Err _) seats none = tt
+
 -- what the reader tells of a line is what the session keeps of it
 pub kept_line : (bytes items line : List ℕ) → bytes ≡ items → (items ≡ line) × (length line ≤ max_line) → IsKept (Some bytes) line
 kept_line bytes items line same told =

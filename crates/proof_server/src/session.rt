@@ -120,7 +120,7 @@ impl Session {
     }
 
     /// Takes a line in, `None` for one that is too long: a job is gathered into the window, and an empty line closes it, as do the last job
-    /// that it may have and the last bytes.
+    /// that it may have and the last bytes. So a window never has more than 64 jobs.
     pub fn take<R: Wait + Threads + Sync, K: Sink, G: Gate>(
         &mut self,
         rt: &R,
@@ -137,6 +137,9 @@ impl Session {
             → Goes result self.new (asked ++ jobs (text ∷ [])) written (K.faults sink.old) (K.faults sink.new)
             (K.written sink.old) (K.written sink.new) }
         ensures few { OnOk result (self.new.count + seats_in self.new ≤ self.old.count + seats_in self.old + 1) }
+        ensures window { OnOk result (seats_in self.new < 64) }
+        ensures answered { (text : List ℕ) → IsKept (option_copied line.entry) text → is_job_of text ≡ false
+            → OnOk result (seats_in self.new ≡ 0) }
         ensures flushed { (text : List ℕ) → IsKept (option_copied line.entry) text → is_job_of text ≡ false
             → OnOk result (K.flushed sink.new ≡ K.written sink.new) }
         ensures faults { K.faults sink.old ≤ K.faults sink.new }
@@ -159,6 +162,7 @@ impl Session {
             → IsKept (option_copied line.entry) text
             → OnOk result (IsAt self.new (asked ++ text ∷ []) written) }
         ensures few { OnOk result (self.new.count + seats_in self.new ≤ self.old.count + seats_in self.old + 1) }
+        ensures window { IfOk result (λ full. full ≡ false → seats_in self.new < 64) }
         ensures pass { HasPass self.old.store → HasPass self.new.store }
     {
         let texts = &mut self.texts.formulas;

@@ -2,7 +2,7 @@ use Rattle.std.proofs.Common.{◌≡◌, true, List, [], ◌∷◌, ◌++◌, �
 use Rattle.std.proofs.KnownBytes.{Appends-nil}
 use Rattle.session_laws.specs.Jobs.{is_job, jobs}
 use Rattle.proof_server.specs.Turn.{IsAt, AreInPart}
-use Rattle.proof_server.proofs.Turns.{at_in_part, in_part_of_more, writes_none, jobs_of_job, goes_blank, goes_job, few_run}
+use Rattle.proof_server.proofs.Turns.{at_in_part, in_part_of_more, writes_none, jobs_of_job, goes_blank, goes_job, few_run, room_after_run}
 use Rattle.proof_server.proofs.session.Session.take.Goals as goal
 
 pub run-requires-clause-room : goal.run-requires-clause-room
@@ -14,6 +14,12 @@ returns-then-not-is_job-clause-takes g c = λ asked written text at kept.
 
 pub returns-then-not-is_job-clause-few : goal.returns-then-not-is_job-clause-few
 returns-then-not-is_job-clause-few g c = few_run c.run.result _ _ _ _ c.run.ensures.few c.run.ensures.empty (omega arith)
+
+pub returns-then-not-is_job-clause-window : goal.returns-then-not-is_job-clause-window
+returns-then-not-is_job-clause-window g c = room_after_run c.run.result _ c.run.ensures.empty
+
+pub returns-then-not-is_job-clause-answered : goal.returns-then-not-is_job-clause-answered
+returns-then-not-is_job-clause-answered g c = λ text kept blank. c.run.ensures.empty
 
 pub run-requires-in-Ok-true-clause-room : goal.run-requires-in-Ok-true-clause-room
 run-requires-in-Ok-true-clause-room g c κs within = omega (arith, c.in-Ok-true.ensures.few, c.requires.room)
@@ -35,6 +41,12 @@ returns-in-Ok-true-clause-few g c =
     let run = c.run-in-Ok-true in
     few_run run.result _ _ _ _ run.ensures.few run.ensures.empty c.in-Ok-true.ensures.few
 
+pub returns-in-Ok-true-clause-window : goal.returns-in-Ok-true-clause-window
+returns-in-Ok-true-clause-window g c = room_after_run c.run-in-Ok-true.result _ c.run-in-Ok-true.ensures.empty
+
+pub returns-in-Ok-true-clause-answered : goal.returns-in-Ok-true-clause-answered
+returns-in-Ok-true-clause-answered g c = λ text kept blank. c.run-in-Ok-true.ensures.empty
+
 pub returns-in-Ok-false-clause-takes : goal.returns-in-Ok-false-clause-takes
 returns-in-Ok-false-clause-takes g c = λ asked written text at kept.
     writes_none (IsAt c.gather.new.self (asked ++ jobs (text ∷ []))) written _ _ (Appends-nil _)
@@ -43,6 +55,11 @@ returns-in-Ok-false-clause-takes g c = λ asked written text at kept.
 
 pub returns-in-Ok-false-clause-flushed : goal.returns-in-Ok-false-clause-flushed
 returns-in-Ok-false-clause-flushed g c = λ text kept blank.
+    let job : is_job text ≡ true = sym (c.is_job.ensures text kept) ∙ c.if-not-is_job.false in
+    cc
+
+pub returns-in-Ok-false-clause-answered : goal.returns-in-Ok-false-clause-answered
+returns-in-Ok-false-clause-answered g c = λ text kept blank.
     let job : is_job text ≡ true = sym (c.is_job.ensures text kept) ∙ c.if-not-is_job.false in
     cc
 
