@@ -1,2 +1,1 @@
-pub mod BothPremises
 pub mod Crossing

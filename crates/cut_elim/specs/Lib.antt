@@ -1,4 +1,3 @@
 pub mod Eliminations
 pub mod Desks
 pub mod Lending
-pub mod Branches

@@ -4,7 +4,6 @@
 
 mod desk;
 mod eliminating;
-mod forking;
 mod known;
 
 pub use arena_cuts::ElimFault;
