@@ -10,7 +10,7 @@ use Rattle.arena_cells.specs.declared.key.Key.{Key}
 use Rattle.arena_cells.specs.declared.cells.Stored.{Stored}
 use Rattle.arena_cells.specs.declared.cells.Stored.TheVariants.{Nothing}
 use Rattle.arena_cells.specs.declared.cells.Cells.TheInside.{Inside}
-use Rattle.arena_cells.specs.Codes.{same_by_decides}
+use Rattle.number_hash.specs.Codes.{same_by_decides}
 use Rattle.arena_cells.specs.Keys.{coded_key, same_key}
 use Rattle.arena_cells.specs.Items.{Item}
 use Rattle.arena_cells.specs.Standing.{Stands, Extends, IsDistinct}

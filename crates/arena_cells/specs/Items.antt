@@ -12,7 +12,7 @@ use Rattle.lk_rules.specs.declared.sequent.Sequent.{Sequent}
 use Rattle.lk_rules.specs.contracts.sequent.Sequent as sequents
 use Rattle.lk_rules.specs.Formulas.{FormulaSet}
 use Rattle.proof_trees.specs.Trees.{Tree}
-use Rattle.arena_cells.specs.TreeCodes.{coded_tree}
+use Rattle.proof_trees.specs.Codes.{coded_tree}
 
 -- a symbol, a term, a list of terms, a formula, a set of variables, a map from variables to terms, a set of formulas, a sequent or a
 -- proof tree

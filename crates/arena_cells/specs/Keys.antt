@@ -5,7 +5,7 @@ use Rattle.std.specs.Prelude.{ℕ, Bool, fold}
 use Rattle.std.specs.Coded.{Coded}
 use Rattle.fol.specs.Mixing.{mixed}
 use Rattle.fol.specs.Facts.{sym_fingerprint, var_fingerprint}
-use Rattle.arena_cells.specs.Codes.{same_by}
+use Rattle.number_hash.specs.Codes.{same_by}
 use Rattle.arena_cells.specs.declared.key.RuleKey.{RuleKey}
 use Rattle.arena_cells.specs.declared.key.RuleKey.TheVariants.{Ax, TopR, BotL, NegL, NegR, AndL, AndR, OrL, OrR, ImpL, ImpR, AllL, AllR, ExL, ExR, DefL, DefR, Cut, Weak}
 use Rattle.arena_cells.specs.declared.key.Parts.{Parts}

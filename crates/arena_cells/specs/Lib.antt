@@ -1,6 +1,4 @@
-pub mod Codes
 pub mod Keys
-pub mod TreeCodes
 pub mod Items
 pub mod Standing
 pub mod Meaning

@@ -9,6 +9,7 @@ use crate::key::Key;
 use crate::values::stored_for;
 use fol::{Formula, Sym, Term, Terms};
 use indexmap::IndexMap;
+use number_hash::ByNumber;
 use std::alloc::{AllocError, Global};
 use std::marker::Model;
 
@@ -38,7 +39,7 @@ impl Drop for Stored {
 #[derive(Drop)]
 pub struct Cells {
     // The number of a key is its place.
-    cells: IndexMap<Key, Stored>,
+    cells: IndexMap<Key, Stored, ByNumber>,
 }
 
 impl Model for Cells {
@@ -63,7 +64,7 @@ impl Cells {
         ensures { result ≡ [] }
     {
         Cells {
-            cells: IndexMap::new(alloc),
+            cells: IndexMap::with_hasher(alloc, ByNumber),
         }
     }
 

@@ -3,7 +3,7 @@ ghost use Rattle.std.specs.Prelude.{◌≡◌, ◌↔◌, IsTrue, fold};
 ghost use Rattle.std.specs.Hash as fed;
 ghost use Rattle.std.specs.Cmp.{partial_equiv_from_equiv};
 ghost use Rattle.fol.specs.Mixing.{mixed};
-ghost use Rattle.arena_cells.specs.Codes.{same_by_equiv, fingerprints_agree};
+ghost use Rattle.number_hash.specs.Codes.{same_by_equiv, fingerprints_agree};
 ghost use Rattle.arena_cells.specs.Keys.{coded_key, same_key, short_fingerprint, rule_fingerprint, parts_fingerprint, key_fingerprint};
 
 use crate::key::{Key, Parts, RuleKey};

@@ -4,7 +4,7 @@
 use Rattle.std.specs.Prelude.{ℕ, Bool}
 use Rattle.std.specs.Coded.{Coded}
 use Rattle.fol.specs.Mixing.{mixed}
-use Rattle.arena_cells.specs.Codes.{same_by}
+use Rattle.number_hash.specs.Codes.{same_by}
 use Rattle.arena_interp.specs.declared.partition.Partition.{Partition}
 use Rattle.arena_interp.specs.contracts.partition.Partition as row
 

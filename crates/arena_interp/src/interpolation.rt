@@ -21,6 +21,7 @@ use arena::{Arena, Parts, RuleKey};
 use arena_premises::{Moved, moved_to};
 use arena_proofs::{premises, rule};
 use interp_laws::laws;
+use number_hash::ByNumber;
 use std::alloc::{AllocError, Global};
 use std::collections::HashMap;
 
@@ -29,7 +30,7 @@ use std::collections::HashMap;
 fn interpolate_at(
     arena: &mut Arena,
     alloc: Global,
-    table: &mut HashMap<Partition, Interpolated>,
+    table: &mut HashMap<Partition, Interpolated, ByNumber>,
     partition: Partition,
 ) -> Result<Interpolated, AllocError>
     requires partition { IsPartitionAt arena.old partition }
@@ -51,7 +52,7 @@ fn interpolate_at(
 fn interpolate_root(
     arena: &mut Arena,
     alloc: Global,
-    table: &mut HashMap<Partition, Interpolated>,
+    table: &mut HashMap<Partition, Interpolated, ByNumber>,
     partition: Partition,
 ) -> Result<Interpolated, AllocError>
     requires partition { IsPartitionAt arena.old partition }
@@ -75,7 +76,7 @@ fn interpolate_root(
 fn interpolate_weakened(
     arena: &mut Arena,
     alloc: Global,
-    table: &mut HashMap<Partition, Interpolated>,
+    table: &mut HashMap<Partition, Interpolated, ByNumber>,
     partition: Partition,
 ) -> Result<Interpolated, AllocError>
     requires partition { IsPartitionAt arena.old partition }
@@ -103,7 +104,7 @@ fn interpolate_weakened(
 fn interpolate_main(
     arena: &mut Arena,
     alloc: Global,
-    table: &mut HashMap<Partition, Interpolated>,
+    table: &mut HashMap<Partition, Interpolated, ByNumber>,
     partition: Partition,
 ) -> Result<Interpolated, AllocError>
     requires partition { IsPartitionAt arena.old partition }
@@ -132,7 +133,7 @@ fn interpolate_main(
 fn interpolate_one(
     arena: &mut Arena,
     alloc: Global,
-    table: &mut HashMap<Partition, Interpolated>,
+    table: &mut HashMap<Partition, Interpolated, ByNumber>,
     partition: Partition,
 ) -> Result<Interpolated, AllocError>
     requires partition { IsPartitionAt arena.old partition }
@@ -171,7 +172,7 @@ fn interpolate_one(
 fn interpolate_two(
     arena: &mut Arena,
     alloc: Global,
-    table: &mut HashMap<Partition, Interpolated>,
+    table: &mut HashMap<Partition, Interpolated, ByNumber>,
     partition: Partition,
     left: u32,
     right: u32,
@@ -226,7 +227,7 @@ pub fn interpolate_in(
     ensures made { IfOk result (HasInterpolation arena.new (itp (tree_at arena.old proof) (sequent_at arena.old first) (sequent_at arena.old second))) }
     ensures grown { Extends arena.old arena.new }
 {
-    let mut table = HashMap::new(alloc);
+    let mut table = HashMap::with_hasher(alloc, ByNumber);
     let partition = Partition {
         proof,
         first,

@@ -2,7 +2,7 @@
 ghost use Rattle.std.specs.Prelude.{◌≡◌, ◌↔◌, IsTrue};
 ghost use Rattle.std.specs.Hash as fed;
 ghost use Rattle.std.specs.Cmp.{partial_equiv_from_equiv};
-ghost use Rattle.arena_cells.specs.Codes.{same_by_equiv, fingerprints_agree};
+ghost use Rattle.number_hash.specs.Codes.{same_by_equiv, fingerprints_agree};
 ghost use Rattle.arena_interp.specs.Keys.{coded_partition, same_partition, partition_fingerprint};
 
 use fol::mix;

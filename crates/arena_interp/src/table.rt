@@ -5,13 +5,14 @@ ghost use Rattle.arena_interp.specs.Partitions.{IsPartitionAt, itp_at, HasInterp
 use crate::interpolated::Interpolated;
 use crate::partition::Partition;
 use arena::Arena;
+use number_hash::ByNumber;
 use std::alloc::AllocError;
 use std::collections::HashMap;
 
 /// The interpolation of a proof by two parts, where the table has it.
 pub(crate) fn look_up(
     arena: &Arena,
-    table: &HashMap<Partition, Interpolated>,
+    table: &HashMap<Partition, Interpolated, ByNumber>,
     partition: Partition,
 ) -> Option<Interpolated>
     requires { AreKnown arena.now table.now }
@@ -24,7 +25,7 @@ pub(crate) fn look_up(
 /// Enters the interpolation of a proof by two parts.
 pub(crate) fn note(
     arena: &Arena,
-    table: &mut HashMap<Partition, Interpolated>,
+    table: &mut HashMap<Partition, Interpolated, ByNumber>,
     partition: Partition,
     made: Interpolated,
 ) -> Result<(), AllocError>

@@ -14,6 +14,7 @@ use crate::desk::{Desk, DeskPass};
 use crate::known::Reduced;
 use arena_cuts::{ElimFault, Reduced as Numbered, Steps, eliminate_in};
 use cut_laws::laws;
+use number_hash::ByNumber;
 use proof_graph::ProofRef;
 use proof_subst::{Bench, BenchPass, make_room, number_of, proof_at};
 use std::alloc::Global;
@@ -49,7 +50,7 @@ fn eliminate_tree<L: Ledger>(
         return Err(ElimFault::Memory);
     };
     let arena = Bench::arena(pass);
-    let mut table = HashMap::new(alloc);
+    let mut table = HashMap::with_hasher(alloc, ByNumber);
     eliminate_in(arena, alloc, &mut table, number, budget, steps)
 }
 

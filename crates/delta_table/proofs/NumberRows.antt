@@ -11,7 +11,7 @@ use Rattle.proof_trees.proofs.Booleans.{or_first}
 use Rattle.search_laws.proofs.Tests.{split, same_truth}
 use Rattle.herbrand_laws.specs.Herbrand.{Item}
 use Rattle.herbrand_laws.proofs.Lists.{any_more}
-use Rattle.arena_cells.specs.Codes.{same_by_decides}
+use Rattle.number_hash.specs.Codes.{same_by_decides}
 use Rattle.arena_cells.specs.Standing.{Extends, IsTermAt}
 use Rattle.arena_cells.proofs.Staying.{term_there}
 use Rattle.numbered_terms.specs.NumberSets.{coded_numbers, same_numbers}

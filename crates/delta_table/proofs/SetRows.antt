@@ -10,7 +10,7 @@ use Rattle.herbrand_laws.specs.Herbrand.{Item}
 use Rattle.herbrand_laws.specs.Patterns.{TermSet}
 use Rattle.herbrand_laws.specs.Candidates.{same_terms}
 use Rattle.herbrand_laws.proofs.Lists.{any-map, from_any}
-use Rattle.arena_cells.specs.Codes.{same_by_decides}
+use Rattle.number_hash.specs.Codes.{same_by_decides}
 use Rattle.arena_cells.specs.Items.{Item as Thing}
 use Rattle.arena_cells.specs.Standing.{IsDistinct}
 use Rattle.numbered_terms.specs.NumberSets.{coded_numbers, same_numbers}

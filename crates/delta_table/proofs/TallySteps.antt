@@ -6,7 +6,7 @@ use Rattle.std.proofs.lemmas.List.Elements.{All-nil, All-cons}
 use Rattle.std.proofs.lemmas.List.Quantifiers.{position-Some}
 use Rattle.std.proofs.lemmas.Iterator.Adapters.{position_from-zero}
 use Rattle.std.proofs.lemmas.List.Sums.{fold_more}
-use Rattle.arena_cells.specs.Codes.{same_by_decides}
+use Rattle.number_hash.specs.Codes.{same_by_decides}
 use Rattle.search_laws.proofs.Tests.{fails, clash}
 use Rattle.numbered_terms.specs.NumberSets.{coded_numbers, same_numbers}
 use Rattle.delta_table.specs.declared.founds.Found.{Found}

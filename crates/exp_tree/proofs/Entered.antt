@@ -27,7 +27,7 @@ use Rattle.exp_tree.specs.Sorting.{sorted}
 use Rattle.exp_tree.specs.FlatLists.{children, has_shape, tree_at, inst_at, tree_over, tree_fault, node_fault}
 use Rattle.exp_tree.specs.Subtrees.{same_tree, subtrees, subtrees_in, below, with_each}
 use Rattle.exp_tree.specs.Tables.{IsNodeOf}
-use Rattle.exp_tree.specs.SameNodes.{decided_by}
+use Rattle.number_hash.specs.Codes.{same_by_decides}
 use Rattle.exp_tree.specs.declared.expansion.Inst.{Inst}
 use Rattle.exp_tree.specs.declared.flat.ExpNode.{ExpNode}
 use Rattle.exp_tree.specs.declared.flat.ExpNode.TheVariants.{Wk, Leaf, Not, And, Or, Imp, Weak, Strong}
@@ -92,20 +92,20 @@ subtrees_last ts e = last e
     last : (e : Tree) → with_each ts (subtrees e) ≡ insert_key same_tree (with_each ts (below e)) e
     last (wk f) = refl
     last (leaf f) = refl
-    last (neg e) = all-append same_tree (decided_by coded_exp) ts (subtrees e) (neg e ∷ [])
-    last (conj d e) = all-append same_tree (decided_by coded_exp) ts (subtrees d ++ subtrees e) (conj d e ∷ [])
-    last (disj d e) = all-append same_tree (decided_by coded_exp) ts (subtrees d ++ subtrees e) (disj d e ∷ [])
-    last (impl d e) = all-append same_tree (decided_by coded_exp) ts (subtrees d ++ subtrees e) (impl d e ∷ [])
-    last (weak f is) = all-append same_tree (decided_by coded_exp) ts (subtrees_in is) (weak f is ∷ [])
-    last (strong f y e) = all-append same_tree (decided_by coded_exp) ts (subtrees e) (strong f y e ∷ [])
+    last (neg e) = all-append same_tree (same_by_decides coded_exp) ts (subtrees e) (neg e ∷ [])
+    last (conj d e) = all-append same_tree (same_by_decides coded_exp) ts (subtrees d ++ subtrees e) (conj d e ∷ [])
+    last (disj d e) = all-append same_tree (same_by_decides coded_exp) ts (subtrees d ++ subtrees e) (disj d e ∷ [])
+    last (impl d e) = all-append same_tree (same_by_decides coded_exp) ts (subtrees d ++ subtrees e) (impl d e ∷ [])
+    last (weak f is) = all-append same_tree (same_by_decides coded_exp) ts (subtrees_in is) (weak f is ∷ [])
+    last (strong f y e) = all-append same_tree (same_by_decides coded_exp) ts (subtrees e) (strong f y e ∷ [])
 
 pub each_of_both : (ts us vs : List Tree) (d e : Tree) → us ≡ with_each ts (subtrees d) → vs ≡ with_each us (subtrees e) → vs ≡ with_each ts (subtrees d ++ subtrees e)
-each_of_both ts us vs d e first second = second ∙ ap (λ xs. with_each xs (subtrees e)) first ∙ sym (all-append same_tree (decided_by coded_exp) ts (subtrees d) (subtrees e))
+each_of_both ts us vs d e first second = second ∙ ap (λ xs. with_each xs (subtrees e)) first ∙ sym (all-append same_tree (same_by_decides coded_exp) ts (subtrees d) (subtrees e))
 
 -- what stood in the table stands there
 still : (ts us : List Tree) (e : Tree) (i : ℕ) (d : Tree) → us ≡ with_each ts (subtrees e) → slice_get ts i ≡ Some d → slice_get us i ≡ Some d
 still ts us e i d us_is h =
-    let more = grows same_tree (decided_by coded_exp) ts (subtrees e) in
+    let more = grows same_tree (same_by_decides coded_exp) ts (subtrees e) in
     ap (λ xs. slice_get xs i) (us_is ∙ more.1) ∙ get_left ts more.0 i d h
 
 within : (ts : List Tree) (i : ℕ) (e : Tree) → slice_get ts i ≡ Some e → nat_lt i (length ts) ≡ true
@@ -215,7 +215,7 @@ longer_insts is k i within it = take_more is k i within ∙ ap (λ (j : Inst). t
 pub insts_next : (is : List Inst) (k : ℕ) (i : Inst) (old mid new : List Tree) → k < length is → i ≡ get_or is k i
     → mid ≡ with_each old (subtrees_in (insts_of (take k is))) → new ≡ with_each mid (subtrees i.child) → new ≡ with_each old (subtrees_in (insts_of (take (k + 1) is)))
 insts_next is k i old mid new within it far here =
-    here ∙ ap (λ xs. with_each xs (subtrees i.child)) far ∙ sym (all-append same_tree (decided_by coded_exp) old (subtrees_in (insts_of (take k is))) (subtrees i.child))
+    here ∙ ap (λ xs. with_each xs (subtrees i.child)) far ∙ sym (all-append same_tree (same_by_decides coded_exp) old (subtrees_in (insts_of (take k is))) (subtrees i.child))
     ∙ ap (with_each old) (sym (ap (λ js. subtrees_in (insts_of js)) (longer_insts is k i within it) ∙ subtrees_push (take k is) i))
 
 still_earlier : (ts us : List Tree) (ps : List (Term × ℕ)) → length ts ≤ length us → list_all (λ p. nat_lt p.1 (length ts)) ps ≡ true → list_all (λ p. nat_lt p.1 (length us)) ps ≡ true
@@ -228,7 +228,7 @@ still_earlier ts us (p ∷ ps) few h =
 pub earlier_next : (mid new : List Tree) (i : Inst) (ps qs : List (Term × ℕ)) (t : Term) (place : ℕ) → list_all (λ p. nat_lt p.1 (length mid)) ps ≡ true
     → new ≡ with_each mid (subtrees i.child) → slice_get new place ≡ Some i.child → qs ≡ ps ++ (t, place) ∷ [] → list_all (λ p. nat_lt p.1 (length new)) qs ≡ true
 earlier_next mid new i ps qs t place early new_is at qs_is =
-    let more = grows same_tree (decided_by coded_exp) mid (subtrees i.child) in
+    let more = grows same_tree (same_by_decides coded_exp) mid (subtrees i.child) in
     let few : length mid ≤ length new = let long = ap length (new_is ∙ more.1) in let sum = length-append mid more.0 in omega (arith, long, sum) in
     ap (list_all (λ p. nat_lt p.1 (length new))) qs_is ∙ list_all-append (λ p. nat_lt p.1 (length new)) ps ((t, place) ∷ [])
     ∙ both_true (still_earlier mid new ps few early) (both_true (within new place i.child at) refl)
@@ -237,7 +237,7 @@ pub placed_next : (is : List Inst) (k : ℕ) (i : Inst) (mid new : List Tree) (p
     → list_all (λ p. nat_lt p.1 (length mid)) ps ≡ true → map (inst_at mid) ps ≡ take k is → new ≡ with_each mid (subtrees i.child) → slice_get new place ≡ Some i.child → t ≡ i.term
     → qs ≡ ps ++ (t, place) ∷ [] → map (inst_at new) qs ≡ take (k + 1) is
 placed_next is k i mid new ps qs t place within it early so_far new_is at term qs_is =
-    let more = grows same_tree (decided_by coded_exp) mid (subtrees i.child) in
+    let more = grows same_tree (same_by_decides coded_exp) mid (subtrees i.child) in
     let kept : map (inst_at new) ps ≡ take k is = ap (λ ts. map (inst_at ts) ps) (new_is ∙ more.1) ∙ insts_longer mid more.0 ps early ∙ so_far in
     let last : inst_at new (t, place) ≡ i = λ j. record { term = term j; child = there new place i.child at j } in
     ap (map (inst_at new)) qs_is ∙ map_push (inst_at new) ps (t, place) ∙ (λ j. kept j ++ last j ∷ []) ∙ sym (longer_insts is k i within it)

@@ -15,13 +15,13 @@ use Rattle.fol.specs.Order.{term_cmp}
 use Rattle.finite.specs.Finite.{IsRising}
 use Rattle.expansion_laws.specs.Expansions.{Exp as Tree, wk, neg, conj, disj, impl, weak, strong}
 use Rattle.exp_tree.specs.Codes.{coded_exp}
-use Rattle.exp_tree.specs.SameNodes.{decided_by, same_nodes}
+use Rattle.number_hash.specs.Codes.{same_by_decides}
 use Rattle.exp_tree.specs.Shown.{insts_of}
 use Rattle.exp_tree.specs.Sorting.{sorted}
 use Rattle.exp_tree.specs.FlatLists.{children, is_formed_node, tree_at, inst_at, tree_over, trees_after, trees_of, node_fault, fault_at, IsRightBefore, IsWithoutNodeFault, has_shape, tree_fault}
 use Rattle.exp_tree.specs.Subtrees.{same_tree}
 use Rattle.exp_tree.specs.Writing.{place, places_in, node_in, nodes_of}
-use Rattle.exp_tree.specs.Tables.{same_node, HasRisingTerms, AreDistinct, IsTable}
+use Rattle.exp_tree.specs.Tables.{coded_node, same_node, HasRisingTerms, AreDistinct, IsTable}
 use Rattle.exp_tree.specs.declared.expansion.Inst.{Inst}
 use Rattle.exp_tree.specs.declared.flat.ExpNode.{ExpNode}
 use Rattle.exp_tree.specs.declared.flat.ExpNode.TheVariants.{Wk, Leaf, Not, And, Or, Imp, Weak, Strong}
@@ -70,7 +70,7 @@ over_longer ts us (Strong f y i) h = ap (strong f y) (tree_longer ts us i (and_p
 -- and over trees that differ it is got back from its tree
 module _ (ts : List Tree) (distinct : AreDistinct ts) where
   pub place_back : (i : ℕ) → nat_lt i (length ts) ≡ true → place ts (tree_at ts i) ≡ i
-  place_back i h = place_at same_tree (decided_by coded_exp) ts (tree_at ts i) i distinct (slice_get-get_or ts i (wk top) (below i (length ts) h))
+  place_back i h = place_at same_tree (same_by_decides coded_exp) ts (tree_at ts i) i distinct (slice_get-get_or ts i (wk top) (below i (length ts) h))
 
   terms_same : (is : List (Term × ℕ)) → map (λ (i : Inst). i.term) (map (inst_at ts) is) ≡ map (λ i. i.0) is
   terms_same [] = refl
@@ -233,13 +233,13 @@ module _ (ns : List ExpNode) (table : IsTable ns) where
       let m = get_or ns i n in
       let at : slice_get ns i ≡ Some m = slice_get-get_or ns i n (omega (arith, many, within)) in
       let same : m ≡ n = same_row n m i named up at (some_same _ _ (sym (row_at ns table.right i m at).there ∙ h)) in
-      let known : list_any (same_node n) ns ≡ true = any_of same_node same_nodes ns n i (at ∙ ap Some same) in
+      let known : list_any (same_node n) ns ≡ true = any_of same_node (same_by_decides coded_node) ns n i (at ∙ ap Some same) in
       cc
 
   put_known : (n : ExpNode) (i : ℕ) → slice_get ns i ≡ Some n → IsPut ns ns n i
   put_known n i h =
       let row = row_at ns table.right i n h in
-      record { table = table; trees = sym (key_there same_tree (decided_by coded_exp) (trees_of ns) (tree_over (trees_of ns) n) i row.there); there = row.there }
+      record { table = table; trees = sym (key_there same_tree (same_by_decides coded_exp) (trees_of ns) (tree_over (trees_of ns) n) i row.there); there = row.there }
 
   table_more : (n : ExpNode) → node_fault (trees_of ns) n ≡ None → is_formed_node n ≡ true → HasRisingTerms n → list_any (same_node n) ns ≡ false → IsTable (ns ++ n ∷ [])
   table_more n right formed up absent = record {
@@ -263,7 +263,7 @@ module _ (ns : List ExpNode) (table : IsTable ns) where
       let more = table_more n right formed up absent in
       record {
         table = more;
-        trees = trees_push [] ns n ∙ sym (key_new same_tree (decided_by coded_exp) (trees_of ns) t (new_tree n named up absent));
+        trees = trees_push [] ns n ∙ sym (key_new same_tree (same_by_decides coded_exp) (trees_of ns) t (new_tree n named up absent));
         there = (row_at (ns ++ n ∷ []) more.right i n h).there ∙ ap Some (ap (λ us. tree_over us n) (trees_push [] ns n) ∙ over_longer (trees_of ns) (t ∷ []) n named);
       }
 
@@ -271,7 +271,7 @@ module _ (ns : List ExpNode) (table : IsTable ns) where
   pub put : (new : List ExpNode) (n m : ExpNode) (i : ℕ) → new ≡ insert_key same_node ns n → slice_get new i ≡ Some m → same_node n m ≡ true
       → node_fault (trees_of ns) n ≡ None → is_formed_node n ≡ true → HasRisingTerms n → IsPut ns new n i
   put new n m i new_is at same right formed up =
-      let there : slice_get (insert_key same_node ns n) i ≡ Some n = ap (λ ms. slice_get ms i) (sym new_is) ∙ at ∙ ap Some (sym ((same_nodes n m).0 same)) in
+      let there : slice_get (insert_key same_node ns n) i ≡ Some n = ap (λ ms. slice_get ms i) (sym new_is) ∙ at ∙ ap Some (sym ((same_by_decides coded_node n m).0 same)) in
       subst (λ ms. IsPut ns ms n i) (sym new_is) (by (list_any (same_node n) ns) refl there)
     where
       by : (b : Bool) → list_any (same_node n) ns ≡ b → slice_get (if b then ns else ns ++ n ∷ []) i ≡ Some n → IsPut ns (if b then ns else ns ++ n ∷ []) n i

@@ -23,7 +23,7 @@ use Rattle.expansion_laws.specs.Dependency.{Expansion}
 use Rattle.expansion_laws.specs.Proofs.{stands}
 use Rattle.exp_tree.specs.Codes.{coded_exp}
 use Rattle.exp_tree.specs.Sorting.{sorted}
-use Rattle.exp_tree.specs.SameNodes.{decided_by}
+use Rattle.number_hash.specs.Codes.{same_by_decides}
 use Rattle.exp_tree.specs.Sequents.{AreArranged}
 use Rattle.exp_tree.specs.FlatLists.{tree_at, trees_of, IsWithoutNodeFault}
 use Rattle.exp_tree.specs.Roots.{has_same_formula, root_fault, side_fault_at, root_fault_at, IsRightSideBefore, IsWithoutRootFault, side_over, expansion_over}
@@ -133,9 +133,9 @@ pub written_roots : (x : Expansion) (mid ts : List Tree) (flat : FlatExp) → mi
     → are_below (length mid) flat.left ≡ true → map (tree_at mid) flat.left ≡ x.left → are_below (length ts) flat.right ≡ true → map (tree_at ts) flat.right ≡ x.right
     → AreArranged x.left → AreArranged x.right → list_all (stands Left) x.left ≡ true → list_all (stands Right) x.right ≡ true → IsWritten x ts flat
 written_roots x mid ts flat mid_is ts_is distinct nodes trees right early_left left early_right right_is arranged_left arranged_right stand_left stand_right =
-    let more = grows same_tree (decided_by coded_exp) mid (subtrees_each x.right) in
+    let more = grows same_tree (same_by_decides coded_exp) mid (subtrees_each x.right) in
     let few : length mid ≤ length ts = let long = ap length (ts_is ∙ more.1) in let sum = length-append mid more.0 in omega (arith, long, sum) in
-    let whole : ts ≡ distinct_trees x = ts_is ∙ ap (λ us. with_each us (subtrees_each x.right)) mid_is ∙ sym (all-append same_tree (decided_by coded_exp) [] (subtrees_each x.left) (subtrees_each x.right)) in
+    let whole : ts ≡ distinct_trees x = ts_is ∙ ap (λ us. with_each us (subtrees_each x.right)) mid_is ∙ sym (all-append same_tree (same_by_decides coded_exp) [] (subtrees_each x.left) (subtrees_each x.right)) in
     let kept : map (tree_at ts) flat.left ≡ x.left = ap (λ us. map (tree_at us) flat.left) (ts_is ∙ more.1) ∙ trees_longer mid more.0 flat.left early_left ∙ left in
     all_written x ts flat whole distinct nodes trees right (longer (length mid) (length ts) flat.left few early_left) kept early_right right_is arranged_left arranged_right stand_left stand_right
 
@@ -150,14 +150,14 @@ longer_trees es k e within it = take_more es k e within ∙ ap (λ (d : Tree). t
 pub each_next : (es : List Tree) (k : ℕ) (e : Tree) (old mid new : List Tree) → k < length es → e ≡ get_or es k e
     → mid ≡ with_each old (subtrees_each (take k es)) → new ≡ with_each mid (subtrees e) → new ≡ with_each old (subtrees_each (take (k + 1) es))
 each_next es k e old mid new within it far here =
-    here ∙ ap (λ xs. with_each xs (subtrees e)) far ∙ sym (all-append same_tree (decided_by coded_exp) old (subtrees_each (take k es)) (subtrees e))
+    here ∙ ap (λ xs. with_each xs (subtrees e)) far ∙ sym (all-append same_tree (same_by_decides coded_exp) old (subtrees_each (take k es)) (subtrees e))
     ∙ ap (with_each old) (sym (ap subtrees_each (longer_trees es k e within it) ∙ each_push (take k es) e))
 
 pub roots_next : (es : List Tree) (k : ℕ) (e : Tree) (mid new : List Tree) (ps qs : List ℕ) (p : ℕ) → k < length es → e ≡ get_or es k e → are_below (length mid) ps ≡ true
     → map (tree_at mid) ps ≡ take k es → new ≡ with_each mid (subtrees e) → slice_get new p ≡ Some e → qs ≡ ps ++ p ∷ []
     → (are_below (length new) qs ≡ true) × (map (tree_at new) qs ≡ take (k + 1) es)
 roots_next es k e mid new ps qs p within it early so_far new_is at qs_is =
-    let more = grows same_tree (decided_by coded_exp) mid (subtrees e) in
+    let more = grows same_tree (same_by_decides coded_exp) mid (subtrees e) in
     let few : length mid ≤ length new = let long = ap length (new_is ∙ more.1) in let sum = length-append mid more.0 in omega (arith, long, sum) in
     let kept : map (tree_at new) ps ≡ take k es = ap (λ ts. map (tree_at ts) ps) (new_is ∙ more.1) ∙ trees_longer mid more.0 ps early ∙ so_far in
     let last : tree_at new p ≡ e = get_or_from_slice_get new p e (wk top) at in (

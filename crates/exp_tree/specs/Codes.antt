@@ -1,5 +1,5 @@
 -- How expansion trees are coded as trees of numbers, so that a proof can tell them apart.
-use Rattle.std.specs.Prelude.{◌≡◌, Bool, true, false, ◌&&◌, nat_eq, refl}
+use Rattle.std.specs.Prelude.{◌≡◌, refl}
 use Rattle.std.specs.Coded.{Coded}
 use base.Stored.{Gv, gnil, gnum, gcons}
 use Rattle.fol.specs.Codes.{coded_formula, coded_term}
@@ -68,14 +68,3 @@ mutual
 
 abbrev pub coded_exp : Coded Exp
 coded_exp = record { code = exp_code; inj = same_exp }
-
--- whether two trees of numbers are equal
-abbrev pub same_code : Gv → Gv → Bool
-same_code gnil gnil = true
-same_code (gnum m) (gnum n) = nat_eq m n
-same_code (gcons x y) (gcons u v) = same_code x u && same_code y v
-same_code x y = false
-
--- whether two things have the same code, and so are equal
-abbrev pub same_by : {A : Type 0} → Coded A → A → A → Bool
-same_by c x y = same_code (c.code x) (c.code y)

@@ -15,5 +15,4 @@ pub mod Instances
 pub mod Subtrees
 pub mod Writing
 pub mod Tables
-pub mod SameNodes
 pub mod Merging

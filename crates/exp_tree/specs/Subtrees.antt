@@ -6,7 +6,8 @@ use Rattle.std.specs.Prelude.{Bool, List, [], ◌∷◌, ◌++◌}
 use Rattle.expansion_laws.specs.Expansions.{Exp as Tree, wk, leaf, neg, conj, disj, impl, weak, strong, Insts, none, more}
 use Rattle.expansion_laws.specs.Dependency.{Expansion}
 use Rattle.indexmap.specs.IndexSet.{insert_all}
-use Rattle.exp_tree.specs.Codes.{coded_exp, same_by}
+use Rattle.number_hash.specs.Codes.{same_by}
+use Rattle.exp_tree.specs.Codes.{coded_exp}
 
 abbrev pub same_tree : Tree → Tree → Bool
 same_tree = same_by coded_exp

@@ -5,20 +5,24 @@
 --     IsNodeOf      a node that stands for a tree over the trees of a list
 use Rattle.std.specs.Prelude.{◌≡◌, ℕ, nat_lt, Bool, true, List, [], ◌∷◌, length, map, fold, Some, slice_get}
 use Rattle.std.specs.List.{All, list_all}
+use Rattle.std.specs.Coded.{Coded}
 use Rattle.fol.specs.Syntax.{Term}
 use Rattle.fol.specs.Order.{term_cmp}
 use Rattle.fol.specs.Mixing.{mixed}
 use Rattle.fol.specs.Facts.{var_fingerprint, term_fingerprint, formula_fingerprint}
 use Rattle.finite.specs.Finite.{IsRising}
 use Rattle.expansion_laws.specs.Expansions.{Exp as Tree}
-use Rattle.exp_tree.specs.Codes.{same_by}
+use Rattle.number_hash.specs.Codes.{same_by}
 use Rattle.exp_tree.specs.FlatLists.{children, has_shape, is_formed_node, tree_over, trees_of, IsWithoutNodeFault}
 use Rattle.exp_tree.specs.declared.flat.ExpNode.{ExpNode}
 use Rattle.exp_tree.specs.declared.flat.ExpNode.TheVariants.{Wk, Leaf, Not, And, Or, Imp, Weak, Strong}
 use Rattle.exp_tree.specs.contracts.flat.ExpNode as row
 
+abbrev pub coded_node : Coded ExpNode
+coded_node = row.the_row.coded
+
 abbrev pub same_node : ExpNode → ExpNode → Bool
-same_node = same_by row.the_row.coded
+same_node = same_by coded_node
 
 -- the fingerprint with that of an instance in it
 abbrev pub with_inst : ℕ → Term × ℕ → ℕ

@@ -2,8 +2,8 @@
 ghost use Rattle.std.specs.Prelude.{◌≡◌, ◌↔◌, ◌≤◌, IsTrue, fold};
 ghost use Rattle.std.specs.Hash as fed;
 ghost use Rattle.std.specs.Cmp.{partial_equiv_from_equiv};
-ghost use Rattle.exp_tree.specs.Tables.{same_node, with_inst, node_fingerprint};
-ghost use Rattle.exp_tree.specs.SameNodes.{same_node_equiv, fingerprints_agree};
+ghost use Rattle.number_hash.specs.Codes.{same_by_equiv, fingerprints_agree};
+ghost use Rattle.exp_tree.specs.Tables.{coded_node, same_node, with_inst, node_fingerprint};
 
 use crate::flat::ExpNode;
 use crate::flat_insts::FlatInsts;
@@ -36,7 +36,7 @@ fn is_same(one: &ExpNode, other: &ExpNode) -> bool
 impl PartialEq for ExpNode {
     ghost eq = { same_node };
 
-    ghost laws = { partial_equiv_from_equiv same_node_equiv };
+    ghost laws = { partial_equiv_from_equiv (same_by_equiv coded_node) };
 
     fn eq(&self, other: &ExpNode) -> bool
         ensures value { result ≡ same_node self.now other.now }
@@ -47,7 +47,7 @@ impl PartialEq for ExpNode {
 }
 
 impl Eq for ExpNode {
-    ghost laws = { same_node_equiv };
+    ghost laws = { same_by_equiv coded_node };
 }
 
 // The fingerprint with those of instances in it.
@@ -90,7 +90,7 @@ impl ExpNode {
 impl Hash for ExpNode {
     ghost hash_input = { λ n. fed.u64 (node_fingerprint n) };
 
-    ghost respects_eq = { fingerprints_agree };
+    ghost respects_eq = { fingerprints_agree coded_node node_fingerprint };
 
     fn hash<H: Hasher>(&self, state: &mut H) {
         state.write_u64(self.fingerprint());

@@ -9,13 +9,14 @@ ghost use Rattle.exp_tree.specs.Tables.{HasRisingTerms, AreDistinct};
 use crate::flat::ExpNode;
 use crate::nodes::ExpNodes;
 use indexmap::IndexSet;
+use number_hash::ByNumber;
 use std::alloc::{AllocError, Global};
 use std::marker::Model;
 
 /// A list of distinct trees, each after those below it. A tree is found by its root and the places of its children.
 #[derive(Drop)]
 pub(crate) struct Table {
-    nodes: IndexSet<ExpNode>,
+    nodes: IndexSet<ExpNode, ByNumber>,
 }
 
 impl Model for Table {
@@ -41,7 +42,7 @@ impl Table {
         ensures { result ≡ [] }
     {
         Table {
-            nodes: IndexSet::new(alloc),
+            nodes: IndexSet::with_hasher(alloc, ByNumber),
         }
     }
 

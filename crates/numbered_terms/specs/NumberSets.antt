@@ -5,7 +5,7 @@ use Rattle.std.specs.Prelude.{ℕ, Bool, List, fold}
 use Rattle.std.specs.Coded.{Coded, coded_list}
 use base.Stored.{coded_ℕ}
 use Rattle.fol.specs.Mixing.{mixed}
-use Rattle.arena_cells.specs.Codes.{same_by}
+use Rattle.number_hash.specs.Codes.{same_by}
 
 abbrev pub coded_numbers : Coded (List ℕ)
 coded_numbers = coded_list coded_ℕ

@@ -12,7 +12,7 @@ use Rattle.std.proofs.lemmas.List.Quantifiers.{all_pairs_push}
 use Rattle.proof_trees.specs.Trees.{IsValid}
 use Rattle.proof_graph.specs.declared.node.Node.{Node}
 use Rattle.proof_graph.specs.declared.index.Index.TheInside.{Inside}
-use Rattle.proof_graph.specs.SameCodes.{same_by_decides}
+use Rattle.number_hash.specs.Codes.{same_by_decides}
 use Rattle.proof_graph.specs.Keys.{coded_node, same_node}
 use Rattle.proof_graph.specs.References.{Reference, key_of}
 use Rattle.proof_graph.specs.History.{IsAbsent}

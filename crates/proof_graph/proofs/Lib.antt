@@ -1,4 +1,3 @@
-pub mod Agreement
 pub mod Entries
 pub mod Histories
 pub mod Linked

@@ -5,7 +5,7 @@ use Rattle.std.specs.Prelude.{ℕ, Bool, fold}
 use Rattle.std.specs.Coded.{Coded}
 use Rattle.fol.specs.Mixing.{mixed}
 use Rattle.lk_rules.specs.Fingerprints.{rule_fingerprint, sequent_fingerprint}
-use Rattle.proof_graph.specs.SameCodes.{same_by}
+use Rattle.number_hash.specs.Codes.{same_by}
 use Rattle.proof_graph.specs.declared.node.Node.{Node}
 use Rattle.proof_graph.specs.contracts.node.Node as row
 

@@ -1,6 +1,4 @@
-pub mod SameCodes
 pub mod Keys
-pub mod Codes
 pub mod Shown
 pub mod References
 pub mod Counts

@@ -8,7 +8,7 @@ use Rattle.lk_rules.specs.declared.rule.Rule.{Rule}
 use Rattle.lk_rules.specs.declared.sequent.Sequent.{Sequent}
 use Rattle.proof_trees.specs.Trees.{Tree, Trees, rule_of, concl}
 use Rattle.proof_graph.specs.declared.node.Node.{Node}
-use Rattle.proof_graph.specs.Codes.{coded_tree}
+use Rattle.proof_trees.specs.Codes.{coded_tree}
 use Rattle.proof_graph.specs.Shown.{trees}
 
 -- a graph is known by the vector that keeps its nodes

@@ -10,6 +10,7 @@ ghost use Rattle.proof_graph.specs.Drafts.{IsDraftOf};
 use crate::key::Key;
 use crate::reference::{Draft, ProofRef};
 use crate::tree::Nodes;
+use number_hash::ByNumber;
 use std::alloc::{AllocError, Global};
 use std::collections::HashMap;
 use std::marker::Model;
@@ -22,7 +23,7 @@ use turn_log::Grows;
 pub(crate) struct Index {
     home: Snapshot<Nodes>,
     refs: Vec<ProofRef>,
-    places: HashMap<Key, u64>,
+    places: HashMap<Key, u64, ByNumber>,
     // No number is above it.
     top: u64,
 }
@@ -66,7 +67,7 @@ impl Index {
         Index {
             home: Snapshot::of(nodes),
             refs: Vec::new(alloc),
-            places: HashMap::new(alloc),
+            places: HashMap::with_hasher(alloc, ByNumber),
             top: 0,
         }
     }

@@ -3,7 +3,7 @@ ghost use Rattle.std.specs.Prelude.{◌≡◌, ◌↔◌, IsTrue, IfOk, fold};
 ghost use Rattle.std.specs.Hash as fed;
 ghost use Rattle.std.specs.Cmp.{partial_equiv_from_equiv};
 ghost use Rattle.fol.specs.Mixing.{mixed};
-ghost use Rattle.proof_graph.specs.SameCodes.{same_by_equiv, fingerprints_agree};
+ghost use Rattle.number_hash.specs.Codes.{same_by_equiv, fingerprints_agree};
 ghost use Rattle.proof_graph.specs.Keys.{coded_node, same_node, node_fingerprint};
 
 use crate::node::Node;

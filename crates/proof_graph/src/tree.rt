@@ -27,7 +27,7 @@ pub(crate) struct TreeLink {
 
 impl Model for ProofTree {
     ghost use Rattle.proof_trees.specs.Trees.{Tree};
-    ghost use Rattle.proof_graph.specs.Codes.{coded_tree};
+    ghost use Rattle.proof_trees.specs.Codes.{coded_tree};
 
     ghost Value = { Tree };
 

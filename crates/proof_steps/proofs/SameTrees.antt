@@ -1,8 +1,8 @@
 -- The test of equality of trees.
 use Rattle.std.proofs.Common.{◌≡◌, true, refl}
 use Rattle.proof_trees.specs.Trees.{Tree}
-use Rattle.proof_graph.specs.SameCodes.{same_by_decides}
-use Rattle.proof_graph.specs.Codes.{coded_tree}
+use Rattle.number_hash.specs.Codes.{same_by_decides}
+use Rattle.proof_trees.specs.Codes.{coded_tree}
 use Rattle.proof_steps.specs.Subtrees.{same_tree}
 
 -- trees that the test takes for equal are equal

@@ -9,7 +9,7 @@ use Rattle.proof_trees.specs.Trees.{Tree, Trees, none, more, below}
 use Rattle.proof_graph.specs.declared.node.Node.{Node}
 use Rattle.proof_graph.specs.References.{Reference}
 use Rattle.proof_graph.specs.Keys.{same_node}
-use Rattle.proof_graph.specs.Codes.{coded_tree}
+use Rattle.proof_trees.specs.Codes.{coded_tree}
 
 -- what contracts see of a listing: the graph that its references are of, and the trees
 pub record Listed : Type 0 where

@@ -2,8 +2,8 @@
 use Rattle.std.specs.Prelude.{Bool, if◌then◌else◌, List, [], ◌∷◌, ◌++◌}
 use Rattle.std.specs.List.{list_any}
 use Rattle.proof_trees.specs.Trees.{Tree, node, Trees, none, more}
-use Rattle.proof_graph.specs.SameCodes.{same_by}
-use Rattle.proof_graph.specs.Codes.{coded_tree}
+use Rattle.number_hash.specs.Codes.{same_by}
+use Rattle.proof_trees.specs.Codes.{coded_tree}
 
 -- whether two trees are equal
 abbrev pub same_tree : Tree → Tree → Bool

@@ -8,6 +8,7 @@ ghost use Rattle.proof_steps.specs.Places.{step_in, node_in, step_of_node, is_cu
 ghost use Rattle.proof_steps.specs.Listed.{IsIn, AllIn, AreDistinct, IsClosed};
 
 use lk_rules::{Numbers, Rule, Step};
+use number_hash::ByNumber;
 use proof_graph::{Graph, Key, Node, ProofRef};
 use std::alloc::{AllocError, Global};
 use std::collections::HashMap;
@@ -28,8 +29,8 @@ pub(crate) struct Listing {
     graph: Snapshot<Graph>,
     proofs: Vec<ProofRef>,
     nodes: Vec<Key>,
-    places: HashMap<Key, u64>,
-    seen: HashMap<u64, Seen>,
+    places: HashMap<Key, u64, ByNumber>,
+    seen: HashMap<u64, Seen, ByNumber>,
 }
 
 impl Model for Listing {
@@ -56,8 +57,8 @@ impl Listing {
             graph: Snapshot::of(graph),
             proofs: Vec::new(alloc),
             nodes: Vec::new(alloc),
-            places: HashMap::new(alloc),
-            seen: HashMap::new(alloc),
+            places: HashMap::with_hasher(alloc, ByNumber),
+            seen: HashMap::with_hasher(alloc, ByNumber),
         }
     }
 

@@ -1,4 +1,5 @@
 pub mod Trees
+pub mod Codes
 pub mod Shapes
 pub mod Conclusions
 pub mod Occurrence

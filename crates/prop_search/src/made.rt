@@ -11,6 +11,7 @@ use crate::numbered::Numbered;
 use crate::numbering::Numbering;
 use crate::sides::side;
 use lk_rules::{Formulas, Sequent};
+use number_hash::ByNumber;
 use proof_graph::{Graph, ProofRef};
 use std::alloc::{AllocError, Global};
 use std::collections::HashMap;
@@ -32,8 +33,8 @@ pub(crate) struct MadeSide {
 /// The proofs and the sides that were made, by their fingerprints. Of two with one fingerprint the later is kept.
 #[derive(Drop)]
 pub(crate) struct Made {
-    proofs: HashMap<u64, MadeProof>,
-    sides: HashMap<u64, MadeSide>,
+    proofs: HashMap<u64, MadeProof, ByNumber>,
+    sides: HashMap<u64, MadeSide, ByNumber>,
 }
 
 impl Made {
@@ -42,8 +43,8 @@ impl Made {
         ensures { (g : ProofGraph) (fs : List Meaning) → AreMade g fs result }
     {
         Made {
-            proofs: HashMap::new(alloc),
-            sides: HashMap::new(alloc),
+            proofs: HashMap::with_hasher(alloc, ByNumber),
+            sides: HashMap::with_hasher(alloc, ByNumber),
         }
     }
 

@@ -1,5 +1,5 @@
 -- A test of equality is the test of keys.
-use Rattle.arena_cells.specs.Codes.{test_by}
+use Rattle.number_hash.specs.Codes.{test_by}
 use Rattle.arena_cells.specs.Keys.{coded_key}
 use Rattle.arena_cells.proofs.same_keys.KeyPartialEq.eq.Goals as goal
 

@@ -1,6 +1,6 @@
 -- A test of equality is the test of nodes.
 use Rattle.std.proofs.Common.{◌∙◌}
-use Rattle.proof_graph.specs.SameCodes.{test_by}
+use Rattle.number_hash.specs.Codes.{test_by}
 use Rattle.proof_graph.specs.Keys.{coded_node, same_node}
 use Rattle.proof_graph.proofs.key.KeyPartialEq.eq.Goals as goal
 

@@ -1,4 +1,4 @@
--- Whether two things are equal, by their codes as trees of numbers.
+-- Whether two things are equal, by their codes as trees of numbers. Keys of tables are compared so, and hashed by their fingerprints.
 use Rattle.std.specs.Prelude.{◌≡◌, ◌↔◌, ℕ, Bool, true, false, IsTrue, ◌&&◌, nat_eq, refl}
 use Rattle.std.specs.Bool.{Decides, one_answer}
 use Rattle.std.specs.Hash as fed
@@ -9,6 +9,7 @@ use Rattle.std.proofs.Common.{ap}
 use Rattle.std.proofs.lemmas.Bool.{and_parts}
 use base.Stored.{Gv, gnil, gnum, gcons}
 
+-- whether two trees of numbers are equal
 abbrev pub same_code : Gv → Gv → Bool
 same_code gnil gnil = true
 same_code (gnum m) (gnum n) = nat_eq m n
