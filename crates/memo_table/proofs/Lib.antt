@@ -1,3 +1,4 @@
 pub mod Crossing
 mod Finds
+mod Histories
 pub mod Listed

@@ -1,3 +1,4 @@
 pub mod Pairs
+pub mod Events
 pub mod Table
 pub mod Memos

@@ -2,6 +2,7 @@
 #![tactic(auto)]
 
 mod law;
+pub mod laws;
 mod memo;
 mod rows;
 
