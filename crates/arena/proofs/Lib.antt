@@ -11,3 +11,6 @@ pub mod Untouched
 pub mod PairLaws
 pub mod BindingLaws
 pub mod Crossing
+pub mod ClosedLaws
+pub mod Entries
+pub mod Runs

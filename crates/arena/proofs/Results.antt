@@ -1,6 +1,6 @@
 -- The results that are kept, in a larger arena and with one more.
-use Rattle.std.proofs.Common.{◌≡◌, ℕ, nat_eq, Bool, true, false, cond, List, refl, sym, ap, ◌∙◌, subst}
-use Rattle.std.specs.Prelude.{Some}
+use Rattle.std.proofs.Common.{◌≡◌, ℕ, nat_eq, Bool, true, false, cond, List, get_or, refl, sym, ap, ◌∙◌, subst}
+use Rattle.std.specs.Prelude.{Option, Some, None, Result, Ok, Err, IfOk, IfErr}
 use Rattle.std.specs.Cmp.{unsigned_Decides}
 use Rattle.std.specs.FinMap as fin
 use Rattle.std.specs.HashMap as hash
@@ -13,16 +13,14 @@ use Rattle.arena.specs.declared.task.Task.{Task}
 use Rattle.arena.specs.declared.task.Task.TheVariants as task
 use Rattle.arena.specs.declared.arena.Imported.{Imported}
 use Rattle.arena.specs.TaskKeys.{coded_task, same_task}
-use Rattle.arena_cells.specs.Codes.{same_by_decides}
+use Rattle.number_hash.specs.Codes.{same_by_decides}
 use Rattle.arena_cells.specs.Items.{Item, variables, substitution, side, tree}
 use Rattle.arena_cells.specs.Standing.{Stands, Extends, HasFormula, item_at, map_at, IsMapAt, IsThere}
 use Rattle.arena.specs.Changes.{instance, image, binding, changed, operation_at, HasChange}
-use Rattle.lk_rules.specs.Sequents.{vars_sequent}
 use Rattle.proof_trees.specs.Substitution.{sub}
-use Rattle.arena.specs.TreeVariables.{vars_tree}
-use Rattle.arena.specs.Tasks.{vars_item, vars_side, result_of, HasTask, IsResult, AreResults, AreImported}
+use Rattle.arena.specs.Tasks.{vars_any, result_of, HasTask, IsResult, AreResults, AreVariablesOf, AreVariables, AreImported}
 use Rattle.arena_cells.proofs.Reading.{some_same}
-use Rattle.arena_cells.proofs.Staying.{item_is, is_map, term_stays, variable_stays, side_stays, sequent_stays, tree_stays, term_there, variable_there, side_there, sequent_there, tree_there}
+use Rattle.arena_cells.proofs.Staying.{item_is, is_map, term_stays, variable_stays, side_stays, tree_stays, term_there, variable_there, side_there, tree_there}
 
 -- a map with one more entry, each of whose entries is right
 entries_more : {K V S : Type 0} (eq : K → K → Bool) → ((k q : K) → eq k q ≡ true → k ≡ q) → (P : K → V → Type 0) (kept grown : HashMap K V S) (k : K) (v : V)
@@ -71,21 +69,18 @@ module _ (a b : List Item) (grown : Extends a b) where
 
   pub result_stays : (q : Task) → HasTask a q → result_of b q ≡ result_of a q
   result_stays (task.Change ch n) h = λ i. changed (operation_stays ch h.0 i) (item_stays n h.1 i)
-  result_stays (task.Variables n) h = ap (λ t. variables (vars_item t)) (item_stays n h)
-  result_stays (task.SideVariables n) h = ap (λ s. variables (vars_side s)) (side_stays a b grown n h)
-  result_stays (task.SequentVariables n) h = ap (λ s. variables (vars_sequent s)) (sequent_stays a b grown n h)
   result_stays (task.Image m n) h = λ i. side (image_set (fin.get (map_stays m h.0 i)) (side_stays a b grown n h.1 i))
-  result_stays (task.TreeVariables n) h = ap (λ t. variables (vars_tree t)) (tree_stays a b grown n h)
   result_stays (task.TreeImage m n) h = λ i. tree (sub (tree_stays a b grown n h.1 i) (map_stays m h.0 i))
 
   pub task_there : (q : Task) → HasTask a q → HasTask b q
   task_there (task.Change ch n) h = (change_there ch h.0, item_there n h.1)
-  task_there (task.Variables n) h = item_there n h
-  task_there (task.SideVariables n) h = side_there a b grown n h
-  task_there (task.SequentVariables n) h = sequent_there a b grown n h
   task_there (task.Image m n) h = (map_there m h.0, side_there a b grown n h.1)
-  task_there (task.TreeVariables n) h = tree_there a b grown n h
   task_there (task.TreeImage m n) h = (map_there m h.0, tree_there a b grown n h.1)
+
+  pub vars_stay : (kept : List (Option ℕ)) → AreVariables a kept → AreVariables b kept
+  vars_stay kept right n k there =
+      let old = right n k there in
+      record { there = item_there n old.there; stands = grown k _ old.stands ∙ ap (λ t. Some (variables (vars_any t))) (sym (item_stays n old.there)) }
 
 pub results_stay : {S : Type 0} (a b : List Item) (kept : HashMap Task ℕ S) → AreResults a kept → Extends a b → AreResults b kept
 results_stay a b kept right grown q n there =
@@ -94,6 +89,27 @@ results_stay a b kept right grown q n there =
 
 pub imported_stay : {S : Type 0} (a b : List Item) (kept : HashMap ℕ Imported S) → AreImported a kept → Extends a b → AreImported b kept
 imported_stay a b kept right grown fingerprint f there = grown f.number _ (right fingerprint f there)
+
+-- one more set of variables
+vars_more : (a : List Item) (kept grown : List (Option ℕ)) (place number : ℕ) → AreVariables a kept
+    → ((n : ℕ) → get_or grown n None ≡ cond (nat_eq n place) (Some number) (get_or kept n None)) → AreVariablesOf a place number → AreVariables a grown
+vars_more a kept grown place number right entries here n k there = by (nat_eq n place) refl
+  where
+    by : (b : Bool) → nat_eq n place ≡ b → AreVariablesOf a n k
+    by true e =
+        let value : number ≡ k = some_same number k (sym (entries n ∙ ap (λ b. cond b (Some number) (get_or kept n None)) e) ∙ there) in
+        subst (λ (m : ℕ). AreVariablesOf a m k) (sym ((unsigned_Decides n place).0 e)) (subst (λ (m : ℕ). AreVariablesOf a place m) value here)
+    by false e = right n k (sym (entries n ∙ ap (λ b. cond b (Some number) (get_or kept n None)) e) ∙ there)
+
+vars_same : (a : List Item) (kept same : List (Option ℕ)) → AreVariables a kept → ((n : ℕ) → get_or same n None ≡ get_or kept n None) → AreVariables a same
+vars_same a kept same right entries n k there = right n k (sym (entries n) ∙ there)
+
+-- one more set of variables, or none where memory ran out
+pub vars_noted : {X E : Type 0} (a : List Item) (kept grown : List (Option ℕ)) (place number : ℕ) (r : Result X E) → AreVariables a kept
+    → ((n : ℕ) → IfOk r (λ _. get_or grown n None ≡ cond (nat_eq n place) (Some number) (get_or kept n None)))
+    → ((n : ℕ) → IfErr r (λ _. get_or grown n None ≡ get_or kept n None)) → AreVariablesOf a place number → AreVariables a grown
+vars_noted a kept grown place number (Ok x) right more same here = vars_more a kept grown place number right more here
+vars_noted a kept grown place number (Err e) right more same here = vars_same a kept grown right same
 
 -- with the same entries the same is kept
 pub results_same : {S : Type 0} (a : List Item) (kept same : HashMap Task ℕ S) → AreResults a kept → same.entries ≡ kept.entries → AreResults a same

@@ -33,6 +33,10 @@ not_false : (b : Bool) → (b ≡ true → ⊥) → not b ≡ true
 not_false true h = absurd (h refl)
 not_false false h = refl
 
+-- a set is within one that is equal
+pub same_subset : {K : Type 0} {R : K → K → Ordering} → IsTotalOrder R → (s t : set.Finite R) → s ≡ t → set.subset s t ≡ true
+same_subset o s t same = subset_of_members o s t (λ q there. ap (λ u. set.has u q) (sym same) ∙ there)
+
 module _ {K : Type 0} {R : K → K → Ordering} (o : IsTotalOrder R) (ties : fin.IsAntisymmetric R) (f : ℕ → K) where
   pub union_shown : (xs ys ns : List ℕ) → HasSameMembers ns (xs ++ ys)
       → set.adds_each (set.empty {R = R}) (map f ns) ≡ union_of (set.adds_each set.empty (map f xs)) (set.adds_each set.empty (map f ys))

@@ -1,5 +1,5 @@
 -- What the tasks ask for whose results an arena keeps, and what it keeps.
-use Rattle.std.specs.Prelude.{◌≡◌, ℕ, nat_eq, List, Some}
+use Rattle.std.specs.Prelude.{◌≡◌, ℕ, nat_eq, List, get_or, Option, Some, None}
 use Rattle.std.specs.FinMap as fin
 use Rattle.std.specs.HashMap as hash
 use Rattle.std.specs.HashMap.{HashMap}
@@ -14,8 +14,8 @@ use Rattle.arena.specs.declared.task.Task.TheVariants as task
 use Rattle.arena.specs.declared.arena.Arena.TheInside.{Inside}
 use Rattle.arena.specs.declared.arena.Imported.{Imported}
 use Rattle.arena.specs.TaskKeys.{same_task}
-use Rattle.arena_cells.specs.Items.{Item, term, terms, formula, variables, side, tree}
-use Rattle.arena_cells.specs.Standing.{Stands, HasFormula, item_at, map_at, side_at, sequent_at, tree_at, IsMapAt, IsSideAt, IsSequentAt, IsTreeAt, IsThere}
+use Rattle.arena_cells.specs.Items.{Item, term, terms, formula, side, sequent, tree}
+use Rattle.arena_cells.specs.Standing.{Stands, HasFormula, HasVariables, item_at, map_at, side_at, tree_at, IsMapAt, IsSideAt, IsTreeAt, IsThere}
 use Rattle.arena.specs.Changes.{changed, operation_at, HasChange}
 use Rattle.arena.specs.TreeVariables.{vars_tree}
 
@@ -30,24 +30,23 @@ vars_item i = set.empty
 abbrev pub vars_side : FormulaSet → VarSet
 vars_side s = set.adds_each set.empty (var_lists (set.listing s))
 
+-- the free variables of an item of any kind
+abbrev pub vars_any : Item → VarSet
+vars_any (side s) = vars_side s
+vars_any (sequent e) = vars_sequent e
+vars_any (tree t) = vars_tree t
+vars_any i = vars_item i
+
 -- the item for which a task asks
 abbrev pub result_of : List Item → Task → Item
 result_of a (task.Change ch n) = changed (operation_at a ch) (item_at a n)
-result_of a (task.Variables n) = variables (vars_item (item_at a n))
-result_of a (task.SideVariables n) = variables (vars_side (side_at a n))
-result_of a (task.SequentVariables n) = variables (vars_sequent (sequent_at a n))
 result_of a (task.Image m n) = side (image_set (fin.get (map_at a m)) (side_at a n))
-result_of a (task.TreeVariables n) = variables (vars_tree (tree_at a n))
 result_of a (task.TreeImage m n) = tree (sub (tree_at a n) (map_at a m))
 
 -- the task's numbers stand for what they do
 abbrev pub HasTask : List Item → Task → Type 0
 HasTask a (task.Change ch n) = HasChange a ch × IsThere a n
-HasTask a (task.Variables n) = IsThere a n
-HasTask a (task.SideVariables n) = IsSideAt a n
-HasTask a (task.SequentVariables n) = IsSequentAt a n
 HasTask a (task.Image m n) = IsMapAt a m × IsSideAt a n
-HasTask a (task.TreeVariables n) = IsTreeAt a n
 HasTask a (task.TreeImage m n) = IsMapAt a m × IsTreeAt a n
 
 -- the result of the task stands at the number
@@ -59,6 +58,15 @@ pub record IsResult (a : List Item) (q : Task) (n : ℕ) : Type 0 where
 abbrev pub AreResults : {S : Type 0} → List Item → HashMap Task ℕ S → Type 0
 AreResults a kept = (q : Task) (n : ℕ) → hash.get same_task kept q ≡ Some n → IsResult a q n
 
+-- the free variables of what stands at the number n are at the number k
+pub record AreVariablesOf (a : List Item) (n k : ℕ) : Type 0 where
+  pub there : IsThere a n
+  pub stands : HasVariables a k (vars_any (item_at a n))
+
+-- each set of variables that is kept at a place is right
+abbrev pub AreVariables : List Item → List (Option ℕ) → Type 0
+AreVariables a kept = (n k : ℕ) → get_or kept n None ≡ Some k → AreVariablesOf a n k
+
 -- each formula that is kept stands at its number
 abbrev pub AreImported : {S : Type 0} → List Item → HashMap ℕ Imported S → Type 0
 AreImported a kept = (fingerprint : ℕ) (f : Imported) → hash.get nat_eq kept fingerprint ≡ Some f → HasFormula a f.number f.formula
@@ -66,4 +74,5 @@ AreImported a kept = (fingerprint : ℕ) (f : Imported) → hash.get nat_eq kept
 -- what an arena keeps beside its cells is right
 pub record IsArena (i : Inside) : Type 0 where
   pub results : AreResults i.cells i.results
+  pub variables : AreVariables i.cells i.variables.items
   pub imported : AreImported i.cells i.imported

@@ -1,13 +1,15 @@
 //! Arenas.
 ghost use Rattle.std.specs.Prelude.{◌≡◌, ◌↔◌, ◌<◌, ℕ, [], length, IsTrue, IfOk, IfSome, IsNone};
-ghost use Rattle.arena_cells.specs.Standing.{Stands, Extends, IsDistinct, HasFormula, item_at, symbol_at, term_at, terms_at, formula_at, IsSymbolAt, IsTermAt, IsTermsAt, IsFormulaAt, IsThere};
+ghost use Rattle.arena_cells.specs.Standing.{Stands, Extends, IsDistinct, HasFormula, HasVariables, item_at, symbol_at, term_at, terms_at, formula_at, IsSymbolAt, IsTermAt, IsTermsAt, IsFormulaAt, IsThere};
 ghost use Rattle.arena_cells.specs.ItemFacts.{is_open_item, item_dangling};
 ghost use Rattle.arena_cells.specs.Meaning.{meaning, HasParts, IsKeyAt};
-ghost use Rattle.arena.specs.Tasks.{result_of, HasTask};
+ghost use Rattle.arena.specs.Tasks.{result_of, HasTask, vars_any};
 
+use crate::places::{entry, set_entry};
 use crate::task::Task;
 use arena_cells::{Cells, Key};
 use fol::{Formula, Sym, Term, Terms};
+use number_hash::ByNumber;
 use std::alloc::{AllocError, Global};
 use std::collections::HashMap;
 use std::marker::Model;
@@ -23,9 +25,11 @@ pub(crate) struct Imported {
 #[derive(Drop)]
 pub struct Arena {
     cells: Cells,
-    results: HashMap<Task, u32>,
+    results: HashMap<Task, u32, ByNumber>,
+    // By the number of what they are free in.
+    variables: Vec<Option<u32>>,
     // By fingerprint. Of two formulas with one fingerprint the later one is kept.
-    imported: HashMap<u64, Imported>,
+    imported: HashMap<u64, Imported, ByNumber>,
 }
 
 impl Model for Arena {
@@ -51,8 +55,9 @@ impl Arena {
     {
         Arena {
             cells: Cells::new(alloc),
-            results: HashMap::new(alloc),
-            imported: HashMap::new(alloc),
+            results: HashMap::with_hasher(alloc, ByNumber),
+            variables: Vec::new(alloc),
+            imported: HashMap::with_hasher(alloc, ByNumber),
         }
     }
 
@@ -170,6 +175,22 @@ impl Arena {
     {
         self.results.insert(task, number)?;
         Ok(())
+    }
+
+    /// The number of the set of the free variables of what stands at a number, if that is kept. It takes one look.
+    pub fn known_vars(&self, number: u32) -> Option<u32>
+        ensures { IfSome result (λ n. HasVariables self.now n (vars_any (item_at self.now number))) }
+    {
+        entry(&self.variables, number)
+    }
+
+    /// Keeps the set of the free variables of what stands at a number.
+    pub fn note_vars(&mut self, number: u32, variables: u32) -> Result<(), AllocError>
+        requires there { IsThere self.old number }
+        requires variables { HasVariables self.old variables (vars_any (item_at self.old number)) }
+        ensures { self.new ≡ self.old }
+    {
+        set_entry(&mut self.variables, number, variables)
     }
 
     // The number of a formula, where it was imported and is still kept.

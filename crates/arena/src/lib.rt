@@ -8,6 +8,7 @@ mod changes;
 mod imports;
 mod lists;
 mod maps;
+mod places;
 mod same_tasks;
 mod sequents;
 mod sides;

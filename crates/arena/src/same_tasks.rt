@@ -2,8 +2,8 @@
 ghost use Rattle.std.specs.Prelude.{◌≡◌, ◌↔◌, IsTrue};
 ghost use Rattle.std.specs.Hash as fed;
 ghost use Rattle.std.specs.Cmp.{partial_equiv_from_equiv};
-ghost use Rattle.arena_cells.specs.Codes.{same_by_equiv, fingerprints_agree};
-ghost use Rattle.arena.specs.TaskKeys.{coded_task, same_task, numbers_fingerprint, task_fingerprint};
+ghost use Rattle.number_hash.specs.Codes.{same_by_equiv, fingerprints_agree};
+ghost use Rattle.arena.specs.TaskKeys.{coded_task, same_task, numbers_fingerprint, task_fingerprint, paired};
 
 use crate::task::{Change, Task};
 use fol::mix;
@@ -27,10 +27,6 @@ fn is_same(one: Task, other: Task) -> bool
         (Task::Change(change, of), Task::Change(other, number)) => {
             of == number && is_same_change(change, other)
         }
-        (Task::Variables(a), Task::Variables(b))
-        | (Task::SideVariables(a), Task::SideVariables(b))
-        | (Task::SequentVariables(a), Task::SequentVariables(b))
-        | (Task::TreeVariables(a), Task::TreeVariables(b)) => a == b,
         (Task::Image(a, b), Task::Image(c, d)) | (Task::TreeImage(a, b), Task::TreeImage(c, d)) => {
             a == c && b == d
         }
@@ -38,13 +34,20 @@ fn is_same(one: Task, other: Task) -> bool
     }
 }
 
+// Two numbers as one.
+#[tactic(auto, unfolding(crate::specs::TaskKeys::paired))]
+fn pair(high: u32, low: u32) -> u64
+    ensures { result ≡ paired high low }
+{
+    u64::from(high) * 0x1_0000_0000 + u64::from(low)
+}
+
 // The fingerprint of a kind and three numbers.
 #[tactic(auto, unfolding(crate::specs::TaskKeys::numbers_fingerprint))]
-fn of_numbers(kind: u64, first: u32, second: u32, third: u32) -> u64
+fn of_numbers(kind: u32, first: u32, second: u32, third: u32) -> u64
     ensures { result ≡ numbers_fingerprint kind first second third }
 {
-    let start = mix(mix(0, kind), u64::from(first));
-    mix(mix(start, u64::from(second)), u64::from(third))
+    mix(mix(0, pair(kind, second)), pair(first, third))
 }
 
 impl Task {
@@ -57,12 +60,8 @@ impl Task {
             Task::Change(Change::Instance(term, depth), of) => of_numbers(0, term, depth, of),
             Task::Change(Change::Image(map), of) => of_numbers(1, map, 0, of),
             Task::Change(Change::Bind(variable, depth), of) => of_numbers(2, variable, depth, of),
-            Task::Variables(of) => of_numbers(3, of, 0, 0),
-            Task::SideVariables(of) => of_numbers(4, of, 0, 0),
-            Task::SequentVariables(of) => of_numbers(5, of, 0, 0),
-            Task::Image(map, side) => of_numbers(6, map, side, 0),
-            Task::TreeVariables(of) => of_numbers(7, of, 0, 0),
-            Task::TreeImage(map, of) => of_numbers(8, map, of, 0),
+            Task::Image(map, side) => of_numbers(3, map, 0, side),
+            Task::TreeImage(map, of) => of_numbers(4, map, 0, of),
         }
     }
 }

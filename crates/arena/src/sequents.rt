@@ -8,7 +8,6 @@ ghost use Rattle.lk_rules.specs.Sequents.{side_of, adds_to, union_sequent, image
 ghost use Rattle.arena_cells.specs.Standing.{Extends, HasSide, HasSequent, HasVariables, formula_at, variable_at, side_at, sequent_at, map_at, IsFormulaAt, IsVariableAt, IsSideAt, IsSequentAt, IsMapAt};
 
 use crate::arena::Arena;
-use crate::task::Task;
 use arena_cells::Key;
 use lk_rules::{Sequent, Side};
 use std::alloc::{AllocError, Global};
@@ -168,12 +167,11 @@ impl Arena {
         ensures set { IfOk result (λ n. HasVariables self.new n (vars_sequent (sequent_at self.old sequent))) }
         ensures grown { Extends self.old self.new }
     {
-        let task = Task::SequentVariables(sequent);
-        if let Some(number) = self.look_up(task) {
+        if let Some(number) = self.known_vars(sequent) {
             return Ok(number);
         }
         let number = self.vars_of_sides(alloc, sequent)?;
-        self.note(task, number)?;
+        self.note_vars(sequent, number)?;
         Ok(number)
     }
 

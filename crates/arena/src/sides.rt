@@ -1,7 +1,7 @@
 //! Sets of formulas.
 ghost use Rattle.std.specs.Prelude.{◌≡◌, not, ◌&&◌, map as each, true, IfOk};
 ghost use Rattle.std.specs.FinMap as fin;
-ghost use Rattle.std.specs.List.{All, list_all};
+ghost use Rattle.std.specs.List.{All, filter, list_all};
 ghost use Rattle.std.specs.Ordering.{eq_by_cmp};
 ghost use Rattle.fol.specs.Syntax.{Formula as Sentence};
 ghost use Rattle.fol.specs.Order.{formula_cmp};
@@ -14,9 +14,10 @@ ghost use Rattle.lk_rules.specs.Formulas.{image_set, var_lists};
 ghost use Rattle.arena_cells.specs.Standing.{Stands, Extends, HasSide, HasVariables, formula_at, side_at, map_at, variables_at, IsFormulaAt, IsSideAt, IsMapAt, AreVariablesAt};
 ghost use Rattle.arena_cells.specs.Meaning.{formulas_of, AreRisingFormulas};
 ghost use Rattle.arena.specs.Tasks.{vars_side};
+ghost use Rattle.arena.specs.Lists.{is_closed_at, is_open_at};
 
 use crate::arena::Arena;
-use crate::lists::{distinct, joined, with, without};
+use crate::lists::{distinct, joined, joined_with, with, without};
 use crate::task::Task;
 use arena_cells::Key;
 use fol::Formula;
@@ -56,14 +57,14 @@ impl Arena {
         finite::search(self.side_numbers(side), &formula).is_ok()
     }
 
-    /// Whether each formula of the first set is in the second.
+    /// Whether each formula of the first set is in the second. Where both are one set, it takes no walk.
     pub fn is_side_within(&self, first: u32, second: u32) -> bool
         requires first { IsSideAt self.now first }
         requires second { IsSideAt self.now second }
         ensures { result ≡ set.subset (side_at self.now first) (side_at self.now second) }
     {
         self.known();
-        finite::is_within(self.side_numbers(first), self.side_numbers(second))
+        first == second || finite::is_within(self.side_numbers(first), self.side_numbers(second))
     }
 
     /// The formulas of both sets.
@@ -191,16 +192,41 @@ impl Arena {
         Ok(number)
     }
 
-    // The image of a set of formulas under a map, formula by formula.
+    // The closed formulas of a list and the others, in its order.
+    fn closed_and_others(
+        &self,
+        alloc: Global,
+        numbers: &[u32],
+    ) -> Result<(Vec<u32>, Vec<u32>), AllocError>
+        requires { All (IsFormulaAt self.now) numbers.now }
+        ensures closed { IfOk result (λ pair. pair.0.items ≡ filter (is_closed_at self.now) numbers.now) }
+        ensures others { IfOk result (λ pair. pair.1.items ≡ filter (is_open_at self.now) numbers.now) }
+    {
+        let mut closed = Vec::with_capacity(alloc, numbers.len())?;
+        let mut others = Vec::new(alloc);
+        let mut start = 0;
+        for (place, number) in numbers.iter().enumerate() {
+            if self.has_free(*number) {
+                closed.extend_from_slice(&numbers[start..place])?;
+                others.push(*number)?;
+                start = place + 1;
+            }
+        }
+        closed.extend_from_slice(&numbers[start..])?;
+        Ok((closed, others))
+    }
+
+    // The image of a set of formulas under a map, formula by formula. The closed ones keep their numbers, which rise already.
     fn image_of_members(&mut self, alloc: Global, map: u32, side: u32) -> Result<u32, AllocError>
         requires map { IsMapAt self.old map }
         requires side { IsSideAt self.old side }
         ensures side { IfOk result (λ n. HasSide self.new n (image_set (fin.get (map_at self.old map)) (side_at self.old side))) }
         ensures grown { Extends self.old self.new }
     {
-        let numbers = Vec::from_slice(alloc, self.side_numbers(side))?;
-        let images = self.image_each(alloc, map, &numbers)?;
-        self.put_side(alloc, images)
+        let (closed, others) = self.closed_and_others(alloc, self.side_numbers(side))?;
+        let images = self.image_each(alloc, map, &others)?;
+        let numbers = joined_with(alloc, closed, images)?;
+        self.put(alloc, Key::Side(numbers))
     }
 
     // The variables of a set, and those that are free in a formula.
@@ -237,12 +263,11 @@ impl Arena {
         ensures set { IfOk result (λ n. HasVariables self.new n (vars_side (side_at self.old side))) }
         ensures grown { Extends self.old self.new }
     {
-        let task = Task::SideVariables(side);
-        if let Some(number) = self.look_up(task) {
+        if let Some(number) = self.known_vars(side) {
             return Ok(number);
         }
         let number = self.vars_of_members(alloc, side)?;
-        self.note(task, number)?;
+        self.note_vars(side, number)?;
         Ok(number)
     }
 

@@ -16,16 +16,8 @@ pub enum Change {
 pub enum Task {
     /// What stands at the number, changed.
     Change(Change, u32),
-    /// The variables of the term, the list of terms or the formula at the number.
-    Variables(u32),
-    /// The variables of the set of formulas at the number.
-    SideVariables(u32),
-    /// The variables of the sequent at the number.
-    SequentVariables(u32),
     /// The image of a set of formulas, the second number, under a map, the first.
     Image(u32, u32),
-    /// The free variables of the proof tree at the number.
-    TreeVariables(u32),
     /// A proof tree, the second number, under a map, the first.
     TreeImage(u32, u32),
 }

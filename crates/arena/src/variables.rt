@@ -16,7 +16,6 @@ ghost use Rattle.arena.specs.Tasks.{vars_item};
 use crate::arena::Arena;
 use crate::changes::walked_parts;
 use crate::lists::{joined, without};
-use crate::task::Task;
 use arena_cells::{Key, Numbers, Parts};
 use fol::Var;
 use free_variables::{Vars, fresh};
@@ -137,12 +136,11 @@ impl Arena {
         if !self.has_free(of) {
             return self.no_variable(alloc);
         }
-        let task = Task::Variables(of);
-        if let Some(number) = self.look_up(task) {
+        if let Some(number) = self.known_vars(of) {
             return Ok(number);
         }
         let number = self.vars_at(alloc, of)?;
-        self.note(task, number)?;
+        self.note_vars(of, number)?;
         Ok(number)
     }
 

@@ -8,7 +8,7 @@ ghost use Rattle.arena_cells.specs.Standing.{Extends, HasVariables, tree_at, var
 ghost use Rattle.arena_cells.specs.Meaning.{rule_at, trees_at, HasRuleParts, HasPremises, ArePartsBelow};
 ghost use Rattle.arena.specs.TreeVariables.{vars_named_formula, vars_named_term, vars_named, without_eigen, vars_tree, vars_trees};
 
-use arena::{Arena, Parts, RuleKey, Task};
+use arena::{Arena, Parts, RuleKey};
 use arena_proofs::{end, premises, rule, rule_eigenvariable, rule_formula, rule_term};
 use std::alloc::{AllocError, Global};
 
@@ -96,13 +96,12 @@ pub fn tree_vars(arena: &mut Arena, alloc: Global, proof: u32) -> Result<u32, Al
     ensures set { IfOk result (λ n. HasVariables arena.new n (vars_tree (tree_at arena.old proof))) }
     ensures grown { Extends arena.old arena.new }
 {
-    let task = Task::TreeVariables(proof);
-    if let Some(number) = arena.look_up(task) {
+    if let Some(number) = arena.known_vars(proof) {
         return Ok(number);
     }
     let below = vars_below(arena, alloc, proof, premises(arena, proof))?;
     let number = vars_over(arena, alloc, proof, below)?;
-    arena.note(task, number)?;
+    arena.note_vars(proof, number)?;
     Ok(number)
 }
 
