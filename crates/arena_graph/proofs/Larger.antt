@@ -1,15 +1,14 @@
 -- What tables say stays right in a larger arena.
-use Rattle.std.proofs.Common.{ℕ, List, Some, None, IfSome, sym, ◌∙◌}
+use Rattle.std.proofs.Common.{ℕ, List, Some, None, IfSome}
 use Rattle.std.specs.Prelude.{Option, nat_eq}
 use Rattle.std.specs.HashMap as hash
+use Rattle.std.proofs.lemmas.List.Elements.{All-weaker}
 use Rattle.proof_graph.specs.declared.graph.Graph.{Graph}
 use Rattle.proof_graph.specs.References.{Reference}
-use Rattle.arena_cells.specs.Items.{Item}
-use Rattle.arena_cells.specs.Standing.{Extends, HasSide}
-use Rattle.arena_cells.proofs.Staying.{formula_there, formula_stays}
-use Rattle.fol.specs.Syntax.{Formula}
+use Rattle.arena_cells.specs.Items.{Item, formula}
+use Rattle.arena_cells.specs.Standing.{Extends, HasFormula, HasSide}
 use Rattle.arena_graph.specs.declared.ranks.Ranks.{Ranks}
-use Rattle.arena_graph.specs.Ranks.{IsPlaceOf, AreRanks}
+use Rattle.arena_graph.specs.Ranks.{AreRanks}
 use Rattle.arena_graph.specs.declared.proof_numbers.ProofNumbers.{ProofNumbers as Tables}
 use Rattle.arena_graph.specs.ProofNumbers.{IsProofAt, AreNumbersOf}
 
@@ -20,13 +19,10 @@ if_some_weaker (Some x) P Q f h = f x h
 proof_stays : (g : Graph) (a b : List Item) → Extends a b → (n : ℕ) (r : Reference) → IsProofAt g a n r → IsProofAt g b n r
 proof_stays g a b grown n r h = record { of = h.of; tree = grown n _ h.tree; formed = h.formed }
 
-place_stays : (a b : List Item) → Extends a b → (fs : List Formula) (q k : ℕ) → IsPlaceOf a fs q k → IsPlaceOf b fs q k
-place_stays a b grown fs q k h = record { there = formula_there a b grown q h.there; within = h.within; same = h.same ∙ sym (formula_stays a b grown q h.there) }
-
 ranks_stay : (a b : List Item) → Extends a b → (r : Ranks) → AreRanks a r → AreRanks b r
 ranks_stay a b grown r h = record {
   rises = h.rises;
-  places = λ q. if_some_weaker (hash.get nat_eq r.places q) (IsPlaceOf a r.formulas.items q) (IsPlaceOf b r.formulas.items q) (place_stays a b grown r.formulas.items q) (h.places q);
+  numbered = All-weaker (λ e. HasFormula a e.number e.formula) (λ e. HasFormula b e.number e.formula) (λ e there. grown e.number (formula e.formula) there) r.entries.items h.numbered;
 }
 
 pub numbers_stay : (g : Graph) (a b : List Item) (t : Tables) → AreNumbersOf g a t → Extends a b → AreNumbersOf g b t

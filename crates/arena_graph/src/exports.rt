@@ -10,7 +10,7 @@ ghost use Rattle.arena_cells.specs.Meaning.{trees_at, HasPremises, ArePartsBelow
 ghost use Rattle.proof_trees.specs.Conclusions.{IsFormedSequent, HasFormedEnd, HaveFormedEnds};
 ghost use Rattle.arena_graph.specs.ProofNumbers.{AreNumbersOf};
 
-use crate::leaving::leaving_formulas;
+use crate::leaving::meet;
 use crate::proof_numbers::ProofNumbers;
 use arena::{Arena, Parts};
 use arena_proofs::{end, export_rule, premises, rule};
@@ -208,7 +208,8 @@ pub fn export_proof<R: Wait>(
     ensures pass_stays { IsPassOf graph.now pass.new }
     ensures numbers_stay { AreNumbersOf graph.now arena.now numbers.new }
 {
-    let formulas = leaving_formulas(alloc, arena, numbers, proof)?;
-    numbers.rank(alloc, graph, arena, &formulas)?;
+    let hints = numbers.take_hints(alloc, graph, arena);
+    let met = meet(alloc, arena, numbers, hints, proof)?;
+    numbers.rank(alloc, graph, arena, met.hints, &met.formulas)?;
     export_tree(rt, alloc, graph, pass, arena, numbers, proof)
 }

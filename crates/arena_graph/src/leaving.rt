@@ -4,17 +4,18 @@ ghost use Rattle.std.specs.List.{All};
 ghost use Rattle.arena_cells.specs.Standing.{IsFormulaAt, IsSideAt, IsSequentAt, IsTreeAt};
 ghost use Rattle.arena_cells.specs.Meaning.{HasPremises, ArePartsBelow};
 
+use crate::hints::Hints;
 use crate::proof_numbers::ProofNumbers;
 use arena::{Arena, Parts};
 use arena_proofs::{end, premises};
 use std::alloc::{AllocError, Global};
-use std::collections::HashSet;
 
-/// The numbers that were met in a walk, and among them those of formulas.
+/// The numbers that were met in a walk, with hints where they stand, and among them those of formulas.
 #[derive(Drop)]
 pub(crate) struct Met {
-    numbers: HashSet<u32>,
-    formulas: Vec<u32>,
+    pub hints: Hints,
+    pub formulas: Vec<u32>,
+    numbers: Vec<u32>,
 }
 
 impl Met {
@@ -22,7 +23,13 @@ impl Met {
     fn is_new(&mut self, number: u32) -> Result<bool, AllocError>
         ensures { self.new.formulas ≡ self.old.formulas }
     {
-        Ok(self.numbers.insert(number)?)
+        match self.numbers.get(self.hints.get(number)) {
+            Some(met) if *met == number => return Ok(false),
+            _ => {}
+        }
+        self.hints.note(number, self.numbers.len());
+        self.numbers.push(number)?;
+        Ok(true)
     }
 
     // A formula is met.
@@ -120,20 +127,24 @@ impl Met {
     }
 }
 
-/// The numbers of the formulas in those sides of a tree's sequents that haven't gone out. Each distinct node is met once.
-pub(crate) fn leaving_formulas(
+/// What is met in a walk over a tree, whose formulas are those in sides that haven't gone out. Each distinct node is met once.
+pub(crate) fn meet(
     alloc: Global,
     arena: &Arena,
     numbers: &ProofNumbers,
+    hints: Hints,
     proof: u32,
-) -> Result<Vec<u32>, AllocError>
+) -> Result<Met, AllocError>
     requires { IsTreeAt arena.now proof }
-    ensures { IfOk result (λ list. All (IsFormulaAt arena.now) list.items) }
+    ensures { IfOk result (λ met. All (IsFormulaAt arena.now) met.formulas.items) }
 {
+    let mut hints = hints;
+    hints.reserve(arena.len())?;
     let mut met = Met {
-        numbers: HashSet::new(alloc),
+        hints,
         formulas: Vec::new(alloc),
+        numbers: Vec::new(alloc),
     };
     met.meet_tree(arena, numbers, proof)?;
-    Ok(met.formulas)
+    Ok(met)
 }

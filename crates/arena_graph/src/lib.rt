@@ -4,6 +4,7 @@
 #![tactic(auto)]
 
 mod exports;
+mod hints;
 mod imports;
 mod leaving;
 mod proof_numbers;

@@ -10,9 +10,11 @@ ghost use Rattle.arena_cells.specs.Standing.{HasTree, side_at, IsFormulaAt, IsSi
 ghost use Rattle.proof_trees.specs.Conclusions.{HasFormedEnd};
 ghost use Rattle.arena_graph.specs.ProofNumbers.{IsProofAt, AreNumbersOf};
 
+use crate::hints::Hints;
 use crate::ranks::{Ranks, ranked};
 use arena::Arena;
 use lk_rules::Formulas;
+use number_hash::ByNumber;
 use proof_graph::{Graph, ProofRef};
 use std::alloc::{AllocError, Global};
 use std::collections::HashMap;
@@ -28,10 +30,10 @@ pub(crate) struct Numbered {
 /// out are kept as well, and the order of the formulas that went out last.
 #[derive(Drop)]
 pub struct ProofNumbers {
-    numbers: HashMap<u64, Numbered>,
-    proofs: HashMap<u32, ProofRef>,
+    numbers: HashMap<u64, Numbered, ByNumber>,
+    proofs: HashMap<u32, ProofRef, ByNumber>,
     // The sides that went out, so that equal ones share a list.
-    sides: HashMap<u32, Formulas>,
+    sides: HashMap<u32, Formulas, ByNumber>,
     ranks: Ranks,
 }
 
@@ -41,9 +43,9 @@ impl ProofNumbers {
         ensures { (g : ProofGraph) (a : List Item) → AreNumbersOf g a result }
     {
         ProofNumbers {
-            numbers: HashMap::new(alloc),
-            proofs: HashMap::new(alloc),
-            sides: HashMap::new(alloc),
+            numbers: HashMap::with_hasher(alloc, ByNumber),
+            proofs: HashMap::with_hasher(alloc, ByNumber),
+            sides: HashMap::with_hasher(alloc, ByNumber),
             ranks: Ranks::new(alloc),
         }
     }
@@ -58,12 +60,22 @@ impl ProofNumbers {
         self.sides.contains_key(&side)
     }
 
+    // The hints, whose room the next order of formulas uses again.
+    pub(crate) fn take_hints(&mut self, alloc: Global, graph: &Graph, arena: &Arena) -> Hints
+        requires { AreNumbersOf graph.now arena.now self.old }
+        ensures { AreNumbersOf graph.now arena.now self.new }
+    {
+        let (_graph, _arena) = (graph, arena);
+        self.ranks.take_hints(alloc)
+    }
+
     // Finds the order of the formulas at the numbers, so that their sides go out without a comparison.
     pub(crate) fn rank(
         &mut self,
         alloc: Global,
         graph: &Graph,
         arena: &Arena,
+        hints: Hints,
         formulas: &[u32],
     ) -> Result<(), AllocError>
         requires numbers { AreNumbersOf graph.now arena.now self.old }
@@ -71,7 +83,7 @@ impl ProofNumbers {
         ensures { AreNumbersOf graph.now arena.now self.new }
     {
         let _graph = graph;
-        self.ranks = ranked(alloc, arena, formulas)?;
+        self.ranks = ranked(alloc, arena, hints, formulas)?;
         Ok(())
     }
 

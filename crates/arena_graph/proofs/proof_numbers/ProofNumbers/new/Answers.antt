@@ -7,5 +7,5 @@ returns c = λ g a. record {
   numbers = search rules;
   proofs = search rules;
   sides = search rules;
-  ranks = c.new-4.ensures a;
+  ranks = c.new.ensures a;
 }
