@@ -119,14 +119,23 @@ fn has_above(arena: &Arena, proof: u32, side: Side, formula: u32) -> bool
     }
 }
 
-// Whether the conclusion of the proof is a subsequent of `larger`.
-#[tactic(auto, using(arena_cells::proofs::Facts::trees))]
-fn proves(arena: &Arena, proof: u32, larger: u32) -> bool
+// Whether the conclusion of the proof is a subsequent of `larger`. The side that is named is looked at first.
+#[tactic(auto, using(arena_cells::proofs::Facts::trees, arena_cells::proofs::Facts::sequents))]
+fn proves(arena: &Arena, proof: u32, larger: u32, first: Side) -> bool
     requires proof { IsTreeAt arena.now proof }
     requires larger { IsSequentAt arena.now larger }
     ensures { result ≡ is_subsequent (concl (tree_at arena.now proof)) (sequent_at arena.now larger) }
 {
-    arena.is_subsequent(end(arena, proof), larger)
+    let (left, right) = arena.sides(end(arena, proof));
+    let (larger_left, larger_right) = arena.sides(larger);
+    match first {
+        Side::Left => {
+            arena.is_side_within(left, larger_left) && arena.is_side_within(right, larger_right)
+        }
+        Side::Right => {
+            arena.is_side_within(right, larger_right) && arena.is_side_within(left, larger_left)
+        }
+    }
 }
 
 /// The case of a cut.
@@ -140,9 +149,10 @@ pub(crate) fn case_at(arena: &Arena, cut: Cut) -> Case
         left,
         right,
     } = cut;
-    if proves(arena, left, end) {
+    // Mostly the cut formula stands in neither side of the conclusion.
+    if proves(arena, left, end, Side::Right) {
         Case::WeakenLeft
-    } else if proves(arena, right, end) {
+    } else if proves(arena, right, end, Side::Left) {
         Case::WeakenRight
     } else if is_other_leaf(arena, left, Side::Right, formula) {
         Case::LeafLeft

@@ -17,6 +17,7 @@ use crate::table::{Reduced, look_up, note};
 use arena::{Arena, Parts, RuleKey};
 use arena_proofs::{end, inference, premises, rule};
 use cut_laws::laws;
+use number_hash::ByNumber;
 use std::alloc::Global;
 use std::collections::HashMap;
 use std::sync::ledger::Ledger;
@@ -43,7 +44,7 @@ pub(crate) struct Both {
 pub fn eliminate_in<L: Ledger>(
     arena: &mut Arena,
     alloc: Global,
-    table: &mut HashMap<u32, Reduced>,
+    table: &mut HashMap<u32, Reduced, ByNumber>,
     proof: u32,
     budget: u64,
     steps: &mut Steps<L>,
@@ -78,7 +79,7 @@ pub fn eliminate_in<L: Ledger>(
 fn eliminate_root<L: Ledger>(
     arena: &mut Arena,
     alloc: Global,
-    table: &mut HashMap<u32, Reduced>,
+    table: &mut HashMap<u32, Reduced, ByNumber>,
     proof: u32,
     budget: u64,
     steps: &mut Steps<L>,
@@ -114,7 +115,7 @@ fn eliminate_root<L: Ledger>(
 fn eliminate_cut<L: Ledger>(
     arena: &mut Arena,
     alloc: Global,
-    table: &mut HashMap<u32, Reduced>,
+    table: &mut HashMap<u32, Reduced, ByNumber>,
     cut: Cut,
     budget: u64,
     steps: &mut Steps<L>,
@@ -162,7 +163,7 @@ fn eliminate_cut<L: Ledger>(
 fn eliminate_lowest<L: Ledger>(
     arena: &mut Arena,
     alloc: Global,
-    table: &mut HashMap<u32, Reduced>,
+    table: &mut HashMap<u32, Reduced, ByNumber>,
     cut: Cut,
     budget: u64,
     steps: &mut Steps<L>,
@@ -200,7 +201,7 @@ fn eliminate_lowest<L: Ledger>(
 fn eliminate_other<L: Ledger>(
     arena: &mut Arena,
     alloc: Global,
-    table: &mut HashMap<u32, Reduced>,
+    table: &mut HashMap<u32, Reduced, ByNumber>,
     proof: u32,
     budget: u64,
     steps: &mut Steps<L>,
@@ -242,7 +243,7 @@ fn eliminate_other<L: Ledger>(
 fn eliminate_all<L: Ledger>(
     arena: &mut Arena,
     alloc: Global,
-    table: &mut HashMap<u32, Reduced>,
+    table: &mut HashMap<u32, Reduced, ByNumber>,
     proofs: Parts,
     budget: u64,
     steps: &mut Steps<L>,
@@ -288,7 +289,7 @@ fn eliminate_all<L: Ledger>(
 fn eliminate_both<L: Ledger>(
     arena: &mut Arena,
     alloc: Global,
-    table: &mut HashMap<u32, Reduced>,
+    table: &mut HashMap<u32, Reduced, ByNumber>,
     left: u32,
     right: u32,
     budget: u64,

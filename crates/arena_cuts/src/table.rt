@@ -7,6 +7,7 @@ ghost use Rattle.arena_cuts.specs.Tables.{IsEliminated, AreEliminated};
 use crate::fault::ElimFault;
 use arena::Arena;
 use cut_laws::laws;
+use number_hash::ByNumber;
 use std::alloc::AllocError;
 use std::collections::HashMap;
 
@@ -35,7 +36,7 @@ fn answer(arena: &Arena, proof: u32, entry: Reduced, budget: u64) -> Result<Redu
 /// The elimination in a proof within a budget, where the table has it.
 pub(crate) fn look_up(
     arena: &Arena,
-    table: &HashMap<u32, Reduced>,
+    table: &HashMap<u32, Reduced, ByNumber>,
     proof: u32,
     budget: u64,
 ) -> Option<Result<Reduced, ElimFault>>
@@ -53,7 +54,7 @@ pub(crate) fn look_up(
 /// Enters the elimination in a proof.
 pub(crate) fn note(
     arena: &Arena,
-    table: &mut HashMap<u32, Reduced>,
+    table: &mut HashMap<u32, Reduced, ByNumber>,
     proof: u32,
     made: Reduced,
 ) -> Result<(), AllocError>
