@@ -1,6 +1,9 @@
 -- What the code computes at the front of the bytes that are left of a text: each reader answers a value and the bytes behind it, or the
 -- first fault.
-use Rattle.std.specs.Prelude.{◌≡◌, ℕ, zero, suc, ◌-◌, Bool, ◌==◌, if◌then◌else◌, nat_le, List, [], ◌∷◌, length, take, drop, Result, Ok, Err}
+use Rattle.std.specs.Prelude.{◌≡◌, ℕ, zero, suc, ◌-◌, Bool, true, ◌==◌, if◌then◌else◌, nat_le, List, [], ◌∷◌, length, take, drop, Result, Ok, Err}
+use Rattle.std.specs.Ordering.{eq_by_cmp}
+use Rattle.std.specs.BTreeSet.{BTreeSet, contains}
+use Rattle.fol.specs.Order.{text_cmp}
 use Rattle.tptp_tokens.specs.declared.tokens.Token.{Token}
 use Rattle.tptp_tokens.specs.declared.tokens.Token.TheVariants.{Name}
 use Rattle.tptp_tokens.specs.declared.tokens.TextKind.TheVariants.{Expected, Deep}
@@ -108,3 +111,7 @@ within_conjectures n word r = Ok r
 
 unfoldable pub role_at : Language → ℕ → ℕ → List ℕ → Result (Role × List ℕ) Fault
 role_at l n word bs = token_at (name_token (role_of_name l)) bs >>= λ x. within_conjectures n word x.0 >>= λ r. Ok (r, x.2)
+
+-- the names with one more
+abbrev pub IsWith : BTreeSet (List ℕ) → BTreeSet (List ℕ) → List ℕ → Type 0
+IsWith old new name = (x : List ℕ) → contains text_cmp new x ≡ (if eq_by_cmp text_cmp name x then true else contains text_cmp old x)

@@ -70,30 +70,27 @@ impl Body {
         ends_body(token) && self.state.can_end()
     }
 
-    /// Reads one more token, with so many bytes left from it on.
+    /// Reads one more token, with so many bytes left from it on. After an error the body is of no use.
     #[tactic(auto, unfolding(crate::specs::BodyReader::body_step))]
     fn step(
-        self,
+        &mut self,
         alloc: Global,
         pool: &mut Pool,
         token: Token,
         left: usize,
-    ) -> Result<Body, ReadError>
-        ensures { Gives body_meaning result (placed left (body_step ENTRY_LIMITS (body_meaning self) token)) }
+    ) -> Result<(), ReadError>
+        ensures { Gives (λ u. body_meaning self.new) result (placed left (body_step ENTRY_LIMITS (body_meaning self.old) token)) }
     {
-        let Body { state, place } = self;
-        let next = match place {
-            None => None,
-            Some(at) => {
-                let next = next_place(at, &token)?;
-                if next.is_none() {
-                    return Err(fault(left, ProblemKind::Clause));
-                }
-                next
+        let place = self.place;
+        if let Some(at) = place {
+            let next = next_place(at, &token)?;
+            if next.is_none() {
+                return Err(fault(left, ProblemKind::Clause));
             }
-        };
-        match state.step(alloc, pool, ENTRY_LIMITS, token) {
-            Ok(state) => Ok(Body { state, place: next }),
+            self.place = next;
+        }
+        match self.state.step(alloc, pool, ENTRY_LIMITS, token) {
+            Ok(()) => Ok(()),
             Err(error) => Err(body_error(place, left, error)),
         }
     }
@@ -176,10 +173,7 @@ fn body_of<'a>(
                     return finished(alloc, pool, body, is_a_comma(&token), length, front);
                 }
                 match body.step(alloc, pool, token, front.len()) {
-                    Ok(next) => {
-                        body = next;
-                        rest = front.split_at(length).1;
-                    }
+                    Ok(()) => rest = front.split_at(length).1,
                     Err(error) => return Err(error),
                 }
             }

@@ -2,7 +2,7 @@
 ghost use Rattle.std.specs.Prelude.{◌≡◌, ◌<◌, ◌≤◌, length, IfOk};
 ghost use Rattle.std.specs.BTreeSet.{contains};
 ghost use Rattle.fol.specs.Order.{text_cmp};
-ghost use Rattle.tptp_problem.specs.Readers.{Gives};
+ghost use Rattle.tptp_problem.specs.Readers.{Gives, IsWith};
 ghost use Rattle.tptp_problem.specs.EntryReader.{entry_at, rest_at};
 
 use crate::annotations::read_annotation;
@@ -17,16 +17,18 @@ use std::alloc::Global;
 use std::collections::BTreeSet;
 use tptp_tokens::Pool;
 
-/// The entry at the front, behind entries with these names and so many conjectures, and the bytes behind it.
+/// The entry at the front, behind entries with these names and so many conjectures, and the bytes behind it. Its name is one of the names
+/// from now on.
 #[tactic(auto, unfolding(crate::specs::EntryReader::entry_at))]
 pub fn read_entry<'a>(
     alloc: Global,
     pool: &mut Pool,
-    names: &BTreeSet<Text>,
+    names: &mut BTreeSet<Text>,
     conjectures: usize,
     bytes: &'a [u8],
 ) -> Result<(Entry, &'a [u8]), ReadError>
-    ensures value { Gives (λ x. (x.0, x.1.now)) result (entry_at (contains text_cmp names.now) conjectures bytes.now) }
+    ensures value { Gives (λ x. (x.0, x.1.now)) result (entry_at (contains text_cmp names.old) conjectures bytes.now) }
+    ensures named { IfOk result (λ x. IsWith names.old names.new x.0.name) }
     ensures bound { IfOk result (λ x. length x.1.now < length bytes.now) }
 {
     let (language, word, rest) = read_word(alloc, pool, bytes)?;

@@ -3,7 +3,7 @@ ghost use Rattle.std.specs.Prelude.{◌≡◌, ◌≤◌, length, take, ℕ, IfO
 ghost use Rattle.std.specs.BTreeSet.{contains};
 ghost use Rattle.fol.specs.Order.{text_cmp};
 ghost use Rattle.tptp_tokens.specs.Lexer.{IsSized};
-ghost use Rattle.tptp_problem.specs.Readers.{Gives, name_from, name_at};
+ghost use Rattle.tptp_problem.specs.Readers.{Gives, name_from, name_at, IsWith};
 ghost use Rattle.tptp_problem.specs.Words.{digits as digits_of};
 
 use crate::errors::{ProblemKind, ReadError};
@@ -51,20 +51,21 @@ fn name_found(alloc: Global, found: Scan, front: &[u8]) -> Result<(Text, usize),
     }
 }
 
-/// The name of an entry, a name or digits, and the bytes behind it. No earlier entry may have it.
+/// The name of an entry, a name or digits, and the bytes behind it. No earlier entry may have it; it is one of the names from now on.
 #[tactic(auto, unfolding(crate::specs::Readers::name_at))]
 pub fn read_name<'a>(
     alloc: Global,
     pool: &mut Pool,
-    names: &BTreeSet<Text>,
+    names: &mut BTreeSet<Text>,
     bytes: &'a [u8],
 ) -> Result<(Text, &'a [u8]), ReadError>
-    ensures value { Gives (λ x. (x.0, x.1.now)) result (name_at (contains text_cmp names.now) bytes.now) }
+    ensures value { Gives (λ x. (x.0, x.1.now)) result (name_at (contains text_cmp names.old) bytes.now) }
+    ensures named { IfOk result (λ x. IsWith names.old names.new x.0) }
     ensures bound { IfOk result (λ x. length x.1.now ≤ length bytes.now) }
 {
     let (found, front) = next_token(alloc, pool, bytes)?;
     let (name, length) = name_found(alloc, found, front)?;
-    if names.contains(&name) {
+    if !names.insert(name.copy()?)? {
         return Err(fault(front.len(), ProblemKind::NameTwice));
     }
     Ok((name, front.split_at(length).1))

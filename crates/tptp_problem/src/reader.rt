@@ -1,9 +1,6 @@
 //! Reading of whole problems.
-ghost use Rattle.std.specs.Prelude.{◌≡◌, ◌<◌, ◌^◌, ℕ, List, [], true, length, Ok, Err, IfOk, OnOk, if◌then◌else◌};
+ghost use Rattle.std.specs.Prelude.{◌≡◌, ◌<◌, ◌^◌, ℕ, List, [], length, Ok, Err, IfOk, OnOk};
 ghost use Rattle.std.specs.List.{All};
-ghost use Rattle.std.specs.BTreeSet.{contains};
-ghost use Rattle.std.specs.Ordering.{eq_by_cmp};
-ghost use Rattle.fol.specs.Order.{text_cmp};
 ghost use Rattle.tptp_problem.specs.Closures.{AreFormedEntries};
 ghost use Rattle.tptp_problem.specs.ProblemClauses.{IsReadEntry, IsReadProblem};
 ghost use Rattle.tptp_problem.specs.Problems.{IsProblemText, IsProblemFault, GivesProblem, IfFault};
@@ -72,19 +69,13 @@ fn problem_of(alloc: Global, text: &[u8]) -> Result<Problem, ProblemError>
     }
 }
 
-// Notes the name of an entry, and counts it where it is a conjecture.
-fn note_entry(
-    names: &mut BTreeSet<Text>,
-    conjectures: &mut usize,
-    entry: &Entry,
-) -> Result<(), AllocError>
-    ensures named { OnOk result ((x : List ℕ) → contains text_cmp names.new x ≡ (if eq_by_cmp text_cmp entry.now.name x then true else contains text_cmp names.old x)) }
-    ensures counted { OnOk result (conjectures.new ≡ counted entry.now.role conjectures.old) }
+// Counts the entry where it is a conjecture.
+fn count_entry(conjectures: &mut usize, entry: &Entry) -> Result<(), AllocError>
+    ensures { OnOk result (conjectures.new ≡ counted entry.now.role conjectures.old) }
 {
     if entry.role == Role::Conjecture {
         *conjectures = conjectures.checked_add(1).ok_or(AllocError)?;
     }
-    names.insert(entry.name.copy()?)?;
     Ok(())
 }
 
@@ -112,8 +103,8 @@ fn read_entries(alloc: Global, text: &[u8]) -> Result<Vec<Entry>, ReadError>
         if front.is_empty() {
             return Ok(entries);
         }
-        let (entry, behind) = read_entry(alloc, &mut pool, &names, conjectures, front)?;
-        note_entry(&mut names, &mut conjectures, &entry)?;
+        let (entry, behind) = read_entry(alloc, &mut pool, &mut names, conjectures, front)?;
+        count_entry(&mut conjectures, &entry)?;
         entries.push(entry)?;
         rest = behind;
     }

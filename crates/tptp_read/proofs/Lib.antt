@@ -11,3 +11,4 @@ pub mod Plain
 pub mod TextEnds
 pub mod Closing
 pub mod FormedValues
+mod Turned

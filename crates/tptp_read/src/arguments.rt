@@ -1,18 +1,17 @@
 //! The arguments of a symbol, as they are read.
-ghost use Rattle.std.specs.Prelude.{◌≡◌, IfOk, OnOk};
+ghost use Rattle.std.specs.Prelude.{◌≡◌, reverse, IfOk, OnOk};
 ghost use Rattle.fol.specs.Syntax.{nil, cons};
 ghost use Rattle.tptp_read.specs.Arguments.{terms_of};
 ghost use Rattle.tptp_read.specs.Machine.{turned_onto};
 
 use fol::{Term, Terms};
 use std::alloc::{AllocError, Global};
-use std::collections::VecDeque;
 use std::marker::Model;
 
-/// The arguments of a symbol that have been read, the last one first.
+/// The arguments of a symbol that have been read, the last one first. They are kept in the order of the text.
 #[derive(Drop)]
 pub struct Arguments {
-    items: VecDeque<Term>,
+    items: Vec<Term>,
 }
 
 impl Model for Arguments {
@@ -23,9 +22,10 @@ impl Model for Arguments {
 
     ghost coded = { coded_terms };
 
+    ghost use Rattle.std.specs.Prelude.{reverse};
     ghost use Rattle.tptp_read.specs.Arguments.{terms_of};
 
-    ghost view = { λ a. terms_of a.items.items };
+    ghost view = { λ a. terms_of (reverse a.items.items) };
 }
 
 impl Arguments {
@@ -34,7 +34,7 @@ impl Arguments {
         ensures { result ≡ nil }
     {
         Arguments {
-            items: VecDeque::new(alloc),
+            items: Vec::new(alloc),
         }
     }
 
@@ -42,7 +42,7 @@ impl Arguments {
     pub fn push(&mut self, term: Term) -> Result<(), AllocError>
         ensures { OnOk result (self.new ≡ cons term self.old) }
     {
-        self.items.push_front(term)?;
+        self.items.push(term)?;
         Ok(())
     }
 
@@ -56,12 +56,13 @@ impl Arguments {
 }
 
 // The terms in front of the others, turned round.
-fn turned(alloc: Global, terms: VecDeque<Term>, others: Terms) -> Result<Terms, AllocError>
-    ensures { IfOk result (λ ts. ts ≡ turned_onto (terms_of terms.items) others) }
+#[tactic(auto, using(crate::proofs::Turned::last_turned, crate::proofs::Turned::none_turned))]
+fn turned(alloc: Global, terms: Vec<Term>, others: Terms) -> Result<Terms, AllocError>
+    ensures { IfOk result (λ ts. ts ≡ turned_onto (terms_of (reverse terms.items)) others) }
 {
     let mut terms = terms;
     let mut all = others;
-    while let Some(term) = terms.pop_front() {
+    while let Some(term) = terms.pop() {
         all = Terms::cons(alloc, term, all)?;
     }
     Ok(all)

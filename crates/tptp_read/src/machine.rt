@@ -10,10 +10,11 @@ use crate::errors::StepError;
 use crate::pieces::{constant, truth};
 use crate::state::{Frame, Limits, Mode, Outcome, Part, Side, State};
 use crate::terms::{begin_term, behind_name, behind_term, end_term};
-use crate::units::{at, behind_unit, end_unit};
+use crate::units::{at, behind_unit, end_unit, go_on};
 use crate::variables::Variables;
 use std::alloc::Global;
 use std::collections::VecDeque;
+use std::mem;
 use tptp_tokens::{Pool, Quantifier, TextKind, Token};
 
 impl State {
@@ -38,44 +39,31 @@ impl State {
     }
 
     /// Reads one more token. A token that can't stand there is `Expected`; one that could but for the limits is `Deep`. The pool may have
-    /// any terms.
+    /// any terms. After an error the state is of no use.
     pub fn step(
-        self,
+        &mut self,
         alloc: Global,
         pool: &mut Pool,
         limits: Limits,
         token: Token,
-    ) -> Result<State, StepError>
-        ensures { Gives meaning result (step_by limits (meaning self) token) }
+    ) -> Result<(), StepError>
+        ensures { Gives (λ u. meaning self.new) result (step_by limits (meaning self.old) token) }
     {
-        let State {
-            mode,
-            side,
-            calls,
-            part,
-            frames,
-        } = self;
-        match mode {
-            Mode::WantUnit => begin_unit(alloc, pool, limits, part, frames, token),
-            Mode::AfterUnit(unit) => behind_unit(alloc, limits, unit, part, frames, token),
-            Mode::WantTerm => begin_term(alloc, pool, side, calls, part, frames, token),
-            Mode::AfterName(name) => {
-                behind_name(alloc, pool, limits, name, side, calls, part, frames, token)
-            }
-            Mode::AfterTerm(term) => {
-                behind_term(alloc, pool, limits, term, side, calls, part, frames, token)
-            }
-            Mode::WantSquare(quantifier) => {
-                behind_quantifier(alloc, quantifier, part, frames, token)
-            }
+        match mem::replace(&mut self.mode, Mode::WantUnit) {
+            Mode::WantUnit => begin_unit(self, alloc, pool, limits, token),
+            Mode::AfterUnit(unit) => behind_unit(self, alloc, limits, unit, token),
+            Mode::WantTerm => begin_term(self, alloc, pool, token),
+            Mode::AfterName(name) => behind_name(self, alloc, pool, limits, name, token),
+            Mode::AfterTerm(term) => behind_term(self, alloc, pool, limits, term, token),
+            Mode::WantSquare(quantifier) => behind_quantifier(self, alloc, quantifier, token),
             Mode::WantVariable(quantifier, variables) => {
-                begin_variable(alloc, limits, quantifier, variables, part, frames, token)
+                begin_variable(self, limits, quantifier, variables, token)
             }
             Mode::AfterVariable(quantifier, variables) => {
-                behind_variable(alloc, quantifier, variables, part, frames, token)
+                behind_variable(self, quantifier, variables, token)
             }
             Mode::WantColon(quantifier, variables) => {
-                behind_list(alloc, quantifier, variables, part, frames, token)
+                behind_list(self, quantifier, variables, token)
             }
         }
     }
@@ -105,82 +93,81 @@ impl State {
 
 // Where a unit is wanted.
 fn begin_unit(
+    state: &mut State,
     alloc: Global,
     pool: &mut Pool,
     limits: Limits,
-    part: Part,
-    frames: VecDeque<Frame>,
     token: Token,
-) -> Result<State, StepError>
-    ensures { Gives meaning result (checked limits (move_begin_unit part frames.items token)) }
+) -> Result<(), StepError>
+    ensures { Gives (λ u. meaning state.new) result (checked limits (move_begin_unit state.old.part state.old.frames.items token)) }
 {
-    let (mode, part, frame) = match token {
-        Token::Name(name) => return Ok(at(alloc, Mode::AfterName(name), part, frames)),
-        Token::Variable(var) => {
-            let mode = Mode::AfterTerm(pool.variable(alloc, var)?);
-            return Ok(at(alloc, mode, part, frames));
+    let mode = match token {
+        Token::Name(name) => Mode::AfterName(name),
+        Token::Variable(var) => Mode::AfterTerm(pool.variable(alloc, var)?),
+        Token::Truth(value) => Mode::AfterUnit(truth(alloc, value)?),
+        Token::Negation => {
+            return open_level(state, limits, Mode::WantUnit, Some(Frame::Negated));
         }
-        Token::Truth(value) => {
-            let mode = Mode::AfterUnit(truth(alloc, value)?);
-            return Ok(at(alloc, mode, part, frames));
+        Token::Open => {
+            let part = mem::replace(&mut state.part, Part::First);
+            return open_level(state, limits, Mode::WantUnit, Some(Frame::Group(part)));
         }
-        Token::Negation => (Mode::WantUnit, part, Some(Frame::Negated)),
-        Token::Open => (Mode::WantUnit, Part::First, Some(Frame::Group(part))),
-        Token::Quantifier(quantifier) => (Mode::WantSquare(quantifier), part, None),
+        Token::Quantifier(quantifier) => {
+            return open_level(state, limits, Mode::WantSquare(quantifier), None);
+        }
         _ => return Err(StepError::Kind(TextKind::Expected)),
     };
-    open_level(alloc, limits, mode, part, frame, frames)
+    go_on(state, mode);
+    Ok(())
 }
 
 // One more level, with its frame where there is one yet.
 fn open_level(
-    alloc: Global,
+    state: &mut State,
     limits: Limits,
     mode: Mode,
-    part: Part,
     frame: Option<Frame>,
-    frames: VecDeque<Frame>,
-) -> Result<State, StepError>
-    ensures { Gives meaning result (checked limits (limited levels (suc (length frames.items)) (at_place mode part (option_to_list frame ++ frames.items)))) }
+) -> Result<(), StepError>
+    ensures { Gives (λ u. meaning state.new) result (checked limits (limited levels (suc (length state.old.frames.items)) (at_place mode state.old.part (option_to_list frame ++ state.old.frames.items)))) }
 {
-    if frames.len() >= limits.levels {
+    if state.frames.len() >= limits.levels {
         return Err(StepError::Kind(TextKind::Deep));
     }
-    let mut frames = frames;
     if let Some(frame) = frame {
-        frames.push_front(frame)?;
+        state.frames.push_front(frame)?;
     }
-    Ok(at(alloc, mode, part, frames))
+    go_on(state, mode);
+    Ok(())
 }
 
 // The `[` of a quantifier.
 fn behind_quantifier(
+    state: &mut State,
     alloc: Global,
     quantifier: Quantifier,
-    part: Part,
-    frames: VecDeque<Frame>,
     token: Token,
-) -> Result<State, StepError>
-    ensures { (limits : Limits) → Gives meaning result (checked limits (move_behind_quantifier quantifier part frames.items token)) }
+) -> Result<(), StepError>
+    ensures { (limits : Limits) → Gives (λ u. meaning state.new) result (checked limits (move_behind_quantifier quantifier state.old.part state.old.frames.items token)) }
 {
     let Token::OpenSquare = token else {
         return Err(StepError::Kind(TextKind::Expected));
     };
-    let mode = Mode::WantVariable(quantifier, Variables::empty(alloc));
-    Ok(at(alloc, mode, part, frames))
+    go_on(
+        state,
+        Mode::WantVariable(quantifier, Variables::empty(alloc)),
+    );
+    Ok(())
 }
 
 // Where a variable of a quantifier is wanted.
 fn begin_variable(
-    alloc: Global,
+    state: &mut State,
     limits: Limits,
     quantifier: Quantifier,
     variables: Variables,
-    part: Part,
-    frames: VecDeque<Frame>,
     token: Token,
-) -> Result<State, StepError>
-    ensures { Gives meaning result (checked limits (move_begin_variable quantifier variables part frames.items token)) }
+) -> Result<(), StepError>
+    ensures { Gives (λ u. meaning state.new) result (checked limits (move_begin_variable quantifier variables state.old.part state.old.frames.items token)) }
 {
     let Token::Variable(var) = token else {
         return Err(StepError::Kind(TextKind::Expected));
@@ -190,44 +177,43 @@ fn begin_variable(
     }
     let mut variables = variables;
     variables.push(var)?;
-    let mode = Mode::AfterVariable(quantifier, variables);
-    Ok(at(alloc, mode, part, frames))
+    go_on(state, Mode::AfterVariable(quantifier, variables));
+    Ok(())
 }
 
 // Behind a variable of a quantifier.
 fn behind_variable(
-    alloc: Global,
+    state: &mut State,
     quantifier: Quantifier,
     variables: Variables,
-    part: Part,
-    frames: VecDeque<Frame>,
     token: Token,
-) -> Result<State, StepError>
-    ensures { (limits : Limits) → Gives meaning result (checked limits (move_behind_variable quantifier variables part frames.items token)) }
+) -> Result<(), StepError>
+    ensures { (limits : Limits) → Gives (λ u. meaning state.new) result (checked limits (move_behind_variable quantifier variables state.old.part state.old.frames.items token)) }
 {
     let mode = match token {
         Token::Comma => Mode::WantVariable(quantifier, variables),
         Token::CloseSquare => Mode::WantColon(quantifier, variables),
         _ => return Err(StepError::Kind(TextKind::Expected)),
     };
-    Ok(at(alloc, mode, part, frames))
+    go_on(state, mode);
+    Ok(())
 }
 
 // The `:` behind the variables of a quantifier.
 fn behind_list(
-    alloc: Global,
+    state: &mut State,
     quantifier: Quantifier,
     variables: Variables,
-    part: Part,
-    frames: VecDeque<Frame>,
     token: Token,
-) -> Result<State, StepError>
-    ensures { (limits : Limits) → Gives meaning result (checked limits (move_behind_list quantifier variables part frames.items token)) }
+) -> Result<(), StepError>
+    ensures { (limits : Limits) → Gives (λ u. meaning state.new) result (checked limits (move_behind_list quantifier variables state.old.part state.old.frames.items token)) }
 {
     let Token::Colon = token else {
         return Err(StepError::Kind(TextKind::Expected));
     };
-    let mut frames = frames;
-    frames.push_front(Frame::Quantified(quantifier, variables))?;
-    Ok(at(alloc, Mode::WantUnit, part, frames))
+    state
+        .frames
+        .push_front(Frame::Quantified(quantifier, variables))?;
+    go_on(state, Mode::WantUnit);
+    Ok(())
 }

@@ -95,15 +95,12 @@ fn read_text(alloc: Global, limits: Limits, text: &[u8], state: State) -> Result
         match scan(alloc, &mut pool, rest)? {
             Scan::End => return end_at(alloc, &mut pool, state, at),
             Scan::Blank(length) => rest = rest.split_at(length).1,
-            Scan::Found(token, length) => match step_at(
-                alloc, &mut pool, limits, state, token, at,
-            ) {
-                Ok(next) => {
-                    state = next;
-                    rest = rest.split_at(length).1;
+            Scan::Found(token, length) => {
+                match step_at(alloc, &mut pool, limits, &mut state, token, at) {
+                    Ok(()) => rest = rest.split_at(length).1,
+                    Err(error) => return Err(error),
                 }
-                Err(error) => return Err(error),
-            },
+            }
             Scan::Wrong(place, kind) => {
                 return Err(TextError::Text(TextFault {
                     at: (at + place) as u64,
@@ -119,14 +116,14 @@ fn step_at(
     alloc: Global,
     pool: &mut Pool,
     limits: Limits,
-    state: State,
+    state: &mut State,
     token: Token,
     at: usize,
-) -> Result<State, TextError>
-    ensures { GivesText meaning result (placed at (step_by limits (meaning state) token)) }
+) -> Result<(), TextError>
+    ensures { GivesText (λ u. meaning state.new) result (placed at (step_by limits (meaning state.old) token)) }
 {
     match state.step(alloc, pool, limits, token) {
-        Ok(state) => Ok(state),
+        Ok(()) => Ok(()),
         Err(error) => Err(error_at(at, error)),
     }
 }

@@ -3,54 +3,34 @@ ghost use Rattle.std.specs.Prelude.{◌≡◌, suc, ◌+◌, nat_le, IfOk};
 ghost use Rattle.tptp_read.specs.declared.state.Limits.{Limits};
 ghost use Rattle.tptp_read.specs.Given.{meaning, Gives};
 ghost use Rattle.tptp_read.specs.Reader.{checked, or_expected};
-ghost use Rattle.tptp_read.specs.Machine.{in_term as in_term_place, unit_of as ended_unit, begin_term as move_begin_term, behind_name as move_behind_name, behind_term as move_behind_term, behind_outer as move_behind_outer, ending_term};
+ghost use Rattle.tptp_read.specs.Machine.{unit_of as ended_unit, begin_term as move_begin_term, behind_name as move_behind_name, behind_term as move_behind_term, behind_outer as move_behind_outer, ending_term};
 
 use crate::arguments::Arguments;
 use crate::errors::StepError;
 use crate::pieces::{called, constant, equation};
 use crate::state::{Call, Frame, Limits, Mode, Outcome, Part, Side, State};
-use crate::units::{behind_unit, end_unit};
+use crate::units::{behind_unit, end_unit, leave_calls};
 use fol::{Formula, Term, TermNode, Text};
 use std::alloc::{AllocError, Global};
 use std::collections::VecDeque;
+use std::mem;
 use tptp_tokens::{Pool, TextKind, Token};
-
-fn in_term(
-    mode: Mode,
-    side: Side,
-    calls: VecDeque<Call>,
-    part: Part,
-    frames: VecDeque<Frame>,
-) -> State
-    ensures { meaning result ≡ in_term_place mode side calls.items part frames.items }
-{
-    State {
-        mode,
-        side,
-        calls,
-        part,
-        frames,
-    }
-}
 
 /// Where a term is wanted.
 pub fn begin_term(
+    state: &mut State,
     alloc: Global,
     pool: &mut Pool,
-    side: Side,
-    calls: VecDeque<Call>,
-    part: Part,
-    frames: VecDeque<Frame>,
     token: Token,
-) -> Result<State, StepError>
-    ensures { (limits : Limits) → Gives meaning result (checked limits (move_begin_term side calls.items part frames.items token)) }
+) -> Result<(), StepError>
+    ensures { (limits : Limits) → Gives (λ u. meaning state.new) result (checked limits (move_begin_term state.old.side state.old.calls.items state.old.part state.old.frames.items token)) }
 {
-    let mode = match token {
+    state.mode = match token {
         Token::Name(name) => Mode::AfterName(name),
         Token::Variable(var) => Mode::AfterTerm(pool.variable(alloc, var)?),
         _ => return Err(StepError::Kind(TextKind::Expected)),
     };
-    Ok(in_term(mode, side, calls, part, frames))
+    Ok(())
 }
 
 // Whether one more level may be opened.
@@ -63,61 +43,57 @@ fn has_level(limits: Limits, calls: usize, frames: usize) -> bool
 /// Behind a name, which has arguments where a parenthesis follows.
 #[tactic(auto, using(crate::proofs::Depth::depth_is))]
 pub fn behind_name(
+    state: &mut State,
     alloc: Global,
     pool: &mut Pool,
     limits: Limits,
     name: Text,
-    side: Side,
-    calls: VecDeque<Call>,
-    part: Part,
-    frames: VecDeque<Frame>,
     token: Token,
-) -> Result<State, StepError>
-    ensures { Gives meaning result (checked limits (move_behind_name name side calls.items part frames.items token)) }
+) -> Result<(), StepError>
+    ensures { Gives (λ u. meaning state.new) result (checked limits (move_behind_name name state.old.side state.old.calls.items state.old.part state.old.frames.items token)) }
 {
     let Token::Open = token else {
         let term = constant(alloc, pool, name)?;
-        return behind_term(alloc, pool, limits, term, side, calls, part, frames, token);
+        return behind_term(state, alloc, pool, limits, term, token);
     };
-    if !has_level(limits, calls.len(), frames.len()) {
+    if !has_level(limits, state.calls.len(), state.frames.len()) {
         return Err(StepError::Kind(TextKind::Deep));
     }
     let terms = Arguments::none(alloc);
-    let mut calls = calls;
-    calls.push_front(Call { name, terms })?;
-    Ok(in_term(Mode::WantTerm, side, calls, part, frames))
+    state.calls.push_front(Call { name, terms })?;
+    state.mode = Mode::WantTerm;
+    Ok(())
 }
 
 /// Behind a term.
 pub fn behind_term(
+    state: &mut State,
     alloc: Global,
     pool: &mut Pool,
     limits: Limits,
     term: Term,
-    side: Side,
-    calls: VecDeque<Call>,
-    part: Part,
-    frames: VecDeque<Frame>,
     token: Token,
-) -> Result<State, StepError>
-    ensures { Gives meaning result (checked limits (move_behind_term term side calls.items part frames.items token)) }
+) -> Result<(), StepError>
+    ensures { Gives (λ u. meaning state.new) result (checked limits (move_behind_term term state.old.side state.old.calls.items state.old.part state.old.frames.items token)) }
 {
-    let mut calls = calls;
-    let Some(call) = calls.pop_front() else {
-        return behind_outer(alloc, pool, limits, term, side, part, frames, token);
-    };
+    if state.calls.is_empty() {
+        return behind_outer(state, alloc, pool, limits, term, token);
+    }
     match token {
         Token::Comma => {
-            let Call { name, terms } = call;
-            let mut terms = terms;
-            terms.push(term)?;
-            calls.push_front(Call { name, terms })?;
-            Ok(in_term(Mode::WantTerm, side, calls, part, frames))
+            let call = &mut state.calls[0];
+            call.terms.push(term)?;
+            state.mode = Mode::WantTerm;
+            Ok(())
         }
-        Token::Close => {
-            let term = called(alloc, pool, call, term)?;
-            Ok(in_term(Mode::AfterTerm(term), side, calls, part, frames))
-        }
+        Token::Close => match state.calls.pop_front() {
+            Some(call) => {
+                let term = called(alloc, pool, call, term)?;
+                state.mode = Mode::AfterTerm(term);
+                Ok(())
+            }
+            None => Err(StepError::Kind(TextKind::Expected)),
+        },
         _ => Err(StepError::Kind(TextKind::Expected)),
     }
 }
@@ -149,25 +125,24 @@ fn unit_of(
 
 // Behind a term that is in no other one.
 fn behind_outer(
+    state: &mut State,
     alloc: Global,
     pool: &mut Pool,
     limits: Limits,
     term: Term,
-    side: Side,
-    part: Part,
-    frames: VecDeque<Frame>,
     token: Token,
-) -> Result<State, StepError>
-    ensures { Gives meaning result (checked limits (move_behind_outer term side part frames.items token)) }
+) -> Result<(), StepError>
+    ensures { Gives (λ u. meaning state.new) result (checked limits (move_behind_outer term state.old.side state.old.part state.old.frames.items token)) }
 {
-    match (side, token) {
+    match (mem::replace(&mut state.side, Side::Lead), token) {
         (Side::Lead, Token::Equality(sign)) => {
-            let side = Side::Right(sign, term);
-            let calls = VecDeque::new(alloc);
-            Ok(in_term(Mode::WantTerm, side, calls, part, frames))
+            state.mode = Mode::WantTerm;
+            state.side = Side::Right(sign, term);
+            leave_calls(&mut state.calls);
+            Ok(())
         }
         (side, token) => match unit_of(alloc, pool, side, term)? {
-            Some(unit) => behind_unit(alloc, limits, unit, part, frames, token),
+            Some(unit) => behind_unit(state, alloc, limits, unit, token),
             None => Err(StepError::Kind(TextKind::Expected)),
         },
     }

@@ -1,5 +1,5 @@
 //! What a token does behind a unit.
-ghost use Rattle.std.specs.Prelude.{◌≡◌, IfOk, OnOk};
+ghost use Rattle.std.specs.Prelude.{◌≡◌, [], IfOk, OnOk};
 ghost use Rattle.tptp_read.specs.declared.state.Limits.{Limits};
 ghost use Rattle.tptp_read.specs.Given.{meaning, Gives};
 ghost use Rattle.tptp_read.specs.Reader.{checked, or_expected};
@@ -7,10 +7,11 @@ ghost use Rattle.tptp_read.specs.Machine.{at as at_place, settled, settled_frame
 
 use crate::errors::StepError;
 use crate::pieces::{chained, closed, completed};
-use crate::state::{Frame, Limits, Mode, Outcome, Part, Side, State};
+use crate::state::{Call, Frame, Limits, Mode, Outcome, Part, Side, State};
 use fol::Formula;
 use std::alloc::{AllocError, Global};
 use std::collections::VecDeque;
+use std::mem;
 use tptp_tokens::{BinaryOperator, ChainOperator, TextKind, Token};
 
 /// A state that is in no term.
@@ -26,71 +27,85 @@ pub fn at(alloc: Global, mode: Mode, part: Part, frames: VecDeque<Frame>) -> Sta
     }
 }
 
+/// Goes on in no term.
+pub fn go_on(state: &mut State, mode: Mode)
+    ensures { meaning state.new ≡ at_place mode state.old.part state.old.frames.items }
+{
+    state.mode = mode;
+    state.side = Side::Lead;
+    leave_calls(&mut state.calls);
+}
+
+/// No calls any more. The room for them stays.
+pub fn leave_calls(calls: &mut VecDeque<Call>)
+    ensures { calls.new.items ≡ [] }
+{
+    if !calls.is_empty() {
+        calls.clear();
+    }
+}
+
 // Takes off the negations and quantifiers that end with the unit, and answers what they make of it.
 fn settle(alloc: Global, frames: &mut VecDeque<Frame>, unit: Formula) -> Result<Formula, AllocError>
     ensures frames { OnOk result (frames.new.items ≡ settled_frames frames.old.items) }
     ensures formula { IfOk result (λ f. f ≡ settled frames.old.items unit) }
 {
     let mut formula = unit;
-    while let Some(frame) = frames.pop_front() {
-        match frame {
-            Frame::Group(part) => {
-                frames.push_front(Frame::Group(part))?;
-                return Ok(formula);
-            }
-            Frame::Negated => formula = Formula::not(alloc, formula)?,
-            Frame::Quantified(quantifier, variables) => {
+    loop {
+        if let None | Some(Frame::Group(_)) = frames.front() {
+            return Ok(formula);
+        }
+        match frames.pop_front() {
+            Some(Frame::Negated) => formula = Formula::not(alloc, formula)?,
+            Some(Frame::Quantified(quantifier, variables)) => {
                 formula = closed(alloc, quantifier, variables, formula)?;
             }
+            _ => return Ok(formula),
         }
     }
-    Ok(formula)
 }
 
 /// Behind the unit.
 pub fn behind_unit(
+    state: &mut State,
     alloc: Global,
     limits: Limits,
     unit: Formula,
-    part: Part,
-    frames: VecDeque<Frame>,
     token: Token,
-) -> Result<State, StepError>
-    ensures { Gives meaning result (checked limits (move_behind_unit unit part frames.items token)) }
+) -> Result<(), StepError>
+    ensures { Gives (λ u. meaning state.new) result (checked limits (move_behind_unit unit state.old.part state.old.frames.items token)) }
 {
-    let mut frames = frames;
-    let unit = settle(alloc, &mut frames, unit)?;
-    behind_settled(alloc, limits, unit, part, frames, token)
+    let unit = settle(alloc, &mut state.frames, unit)?;
+    behind_settled(state, alloc, limits, unit, token)
 }
 
 fn behind_settled(
+    state: &mut State,
     alloc: Global,
     limits: Limits,
     unit: Formula,
-    part: Part,
-    frames: VecDeque<Frame>,
     token: Token,
-) -> Result<State, StepError>
-    ensures { Gives meaning result (checked limits (move_behind_settled unit part frames.items token)) }
+) -> Result<(), StepError>
+    ensures { Gives (λ u. meaning state.new) result (checked limits (move_behind_settled unit state.old.part state.old.frames.items token)) }
 {
     match token {
-        Token::Chain(operator) => go_on_chain(alloc, limits, operator, unit, part, frames),
-        Token::Binary(operator) => begin_binary(alloc, operator, unit, part, frames),
-        Token::Close => close_group(alloc, unit, part, frames),
+        Token::Chain(operator) => go_on_chain(state, alloc, limits, operator, unit),
+        Token::Binary(operator) => begin_binary(state, operator, unit),
+        Token::Close => close_group(state, alloc, unit),
         _ => Err(StepError::Kind(TextKind::Expected)),
     }
 }
 
 fn go_on_chain(
+    state: &mut State,
     alloc: Global,
     limits: Limits,
     operator: ChainOperator,
     unit: Formula,
-    part: Part,
-    frames: VecDeque<Frame>,
-) -> Result<State, StepError>
-    ensures { Gives meaning result (checked limits (behind_chain operator unit part frames.items)) }
+) -> Result<(), StepError>
+    ensures { Gives (λ u. meaning state.new) result (checked limits (behind_chain operator unit state.old.part state.old.frames.items)) }
 {
+    let part = mem::replace(&mut state.part, Part::First);
     let (members, before) = match (operator, part) {
         (_, Part::First) => (unit, 0),
         (ChainOperator::And, Part::Chained(ChainOperator::And, members, before))
@@ -102,38 +117,31 @@ fn go_on_chain(
     if before >= limits.operators {
         return Err(StepError::Kind(TextKind::Deep));
     }
-    let part = Part::Chained(operator, members, before + 1);
-    Ok(at(alloc, Mode::WantUnit, part, frames))
+    state.part = Part::Chained(operator, members, before + 1);
+    go_on(state, Mode::WantUnit);
+    Ok(())
 }
 
-fn begin_binary(
-    alloc: Global,
-    operator: BinaryOperator,
-    unit: Formula,
-    part: Part,
-    frames: VecDeque<Frame>,
-) -> Result<State, StepError>
-    ensures { (limits : Limits) → Gives meaning result (checked limits (behind_binary operator unit part frames.items)) }
+fn begin_binary(state: &mut State, operator: BinaryOperator, unit: Formula) -> Result<(), StepError>
+    ensures { (limits : Limits) → Gives (λ u. meaning state.new) result (checked limits (behind_binary operator unit state.old.part state.old.frames.items)) }
 {
-    match part {
-        Part::First => Ok(at(alloc, Mode::WantUnit, Part::Joined(operator, unit), frames)),
-        _ => Err(StepError::Kind(TextKind::Expected)),
-    }
+    let Part::First = state.part else {
+        return Err(StepError::Kind(TextKind::Expected));
+    };
+    state.part = Part::Joined(operator, unit);
+    go_on(state, Mode::WantUnit);
+    Ok(())
 }
 
-fn close_group(
-    alloc: Global,
-    unit: Formula,
-    part: Part,
-    frames: VecDeque<Frame>,
-) -> Result<State, StepError>
-    ensures { (limits : Limits) → Gives meaning result (checked limits (behind_close unit part frames.items)) }
+fn close_group(state: &mut State, alloc: Global, unit: Formula) -> Result<(), StepError>
+    ensures { (limits : Limits) → Gives (λ u. meaning state.new) result (checked limits (behind_close unit state.old.part state.old.frames.items)) }
 {
-    let mut frames = frames;
-    match frames.pop_front() {
+    match state.frames.pop_front() {
         Some(Frame::Group(outer)) => {
+            let part = mem::replace(&mut state.part, outer);
             let formula = completed(alloc, part, unit)?;
-            Ok(at(alloc, Mode::AfterUnit(formula), outer, frames))
+            go_on(state, Mode::AfterUnit(formula));
+            Ok(())
         }
         _ => Err(StepError::Kind(TextKind::Expected)),
     }

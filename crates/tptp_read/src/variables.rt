@@ -3,22 +3,21 @@ ghost use Rattle.std.specs.Prelude.{◌≡◌, [], ◌∷◌, length, reverse, I
 
 use fol::Var;
 use std::alloc::{AllocError, Global};
-use std::collections::VecDeque;
 use std::marker::Model;
 
-/// The variables of a quantifier, the last one first.
+/// The variables of a quantifier, the last one first. They are kept in the order of the text.
 #[derive(Drop)]
 pub struct Variables {
-    items: VecDeque<Var>,
+    items: Vec<Var>,
 }
 
 impl Model for Variables {
-    ghost use Rattle.std.specs.Prelude.{List};
+    ghost use Rattle.std.specs.Prelude.{List, reverse};
     ghost use Rattle.fol.specs.declared.symbols.Var.{Var};
 
     ghost Value = { List Var };
 
-    ghost view = { λ v. v.items.items };
+    ghost view = { λ v. reverse v.items.items };
 }
 
 impl Variables {
@@ -27,7 +26,7 @@ impl Variables {
         ensures { result ≡ [] }
     {
         Variables {
-            items: VecDeque::new(alloc),
+            items: Vec::new(alloc),
         }
     }
 
@@ -42,14 +41,14 @@ impl Variables {
     pub fn push(&mut self, var: Var) -> Result<(), AllocError>
         ensures { OnOk result (self.new ≡ var ∷ self.old) }
     {
-        self.items.push_front(var)?;
+        self.items.push(var)?;
         Ok(())
     }
 
     /// The variables as they stand in the text, the first one first.
-    pub fn in_order(self, alloc: Global) -> Result<Vec<Var>, AllocError>
+    pub fn in_order(self, _alloc: Global) -> Result<Vec<Var>, AllocError>
         ensures { IfOk result (λ vars. vars.items ≡ reverse self) }
     {
-        self.items.into_iter().rev().collect(alloc)
+        Ok(self.items)
     }
 }

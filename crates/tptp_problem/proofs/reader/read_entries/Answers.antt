@@ -9,5 +9,5 @@ loop-pool-init c = entries_none c.args.text.now c.new-entries.result.items c.new
 pub loop-pool-preserved : goal.loop-pool-preserved
 loop-pool-preserved c =
     entry_more c.args.text.now c.loop-pool.rest.now c.in_ok-front.front.now c.loop-pool.names c.loop-pool.conjectures c.loop-pool.entries.items c.loop-pool.invariant c.in_ok-front.ensures.front
-    c.in_ok-entry.behind.now c.note_entry.new.names c.note_entry.new.conjectures c.push.new.self.items c.in_ok-entry.entry
-    (some_number (length c.in_ok-front.front.now) (sym c.is_empty.ensures ∙ c.if-is_empty.false)) c.in_ok-entry.ensures.value c.in_ok-note_entry.ensures.named c.in_ok-note_entry.ensures.counted c.in_ok-push.ensures.items
+    c.in_ok-entry.behind.now c.read_entry.new.names c.count_entry.new.conjectures c.push.new.self.items c.in_ok-entry.entry
+    (some_number (length c.in_ok-front.front.now) (sym c.is_empty.ensures ∙ c.if-is_empty.false)) c.in_ok-entry.ensures.value c.in_ok-entry.ensures.named c.in_ok-count_entry.ensures c.in_ok-push.ensures.items
