@@ -16,6 +16,8 @@ pub mod Starts
 pub mod AtRoots
 pub mod NextRoots
 pub mod Order
+pub mod ToldApart
+pub mod FormulaPlaces
 pub mod Gathered
 pub mod ReadInstances
 pub mod ReadParts

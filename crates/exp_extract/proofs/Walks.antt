@@ -10,7 +10,6 @@ use Rattle.substitution.specs.Closed.{IsClosedMap}
 use Rattle.substitution.specs.Maps.{Map}
 use Rattle.lk_rules.specs.declared.sequent.Sequent.{Sequent}
 use Rattle.lk_rules.specs.declared.sequent.Side.{Side}
-use Rattle.lk_rules.specs.declared.sequent.Side.TheVariants.{Left, Right}
 use Rattle.lk_rules.specs.declared.rule.Rule.{Rule}
 use Rattle.lk_rules.specs.Sequents.{side_of}
 use Rattle.lk_rules.specs.Rules.{Row}
@@ -19,6 +18,7 @@ use Rattle.proof_trees.proofs.Verdicts.{row_of_verdict}
 use Rattle.cut_laws.proofs.Cuts.{main_in_end}
 use Rattle.proof_graph.specs.declared.graph.Graph.{Graph}
 use Rattle.proof_graph.specs.References.{Reference}
+use Rattle.proof_graph.specs.Graphs.{IsOf}
 use Rattle.extraction_laws.specs.Addresses.{Address}
 use Rattle.extraction_laws.specs.States.{State, Includes}
 use Rattle.extraction_laws.specs.Extraction.{Context, main_address, met, inner_map, inner_context, inner_variable, walked}
@@ -34,9 +34,9 @@ use Rattle.exp_extract.specs.declared.visits.Visit.{Visit}
 use Rattle.exp_extract.specs.declared.visits.Visits.{Visits}
 use Rattle.exp_extract.specs.Marked.{Marked}
 use Rattle.exp_extract.specs.Entries.{IsChild}
-use Rattle.exp_extract.specs.Quantifiers.{Grows, AreWithin}
+use Rattle.exp_extract.specs.Quantifiers.{Grows}
 use Rattle.exp_extract.specs.MapList.{map_in, KeepsMaps}
-use Rattle.exp_extract.specs.Sides.{number_in, address_or, numbers_of, context_in, AreAuxiliaries, auxiliary_place, AreInner}
+use Rattle.exp_extract.specs.Sides.{context_in, AreAuxiliaries, auxiliary_place, AreInner}
 use Rattle.exp_extract.specs.Inferences.{IsMet}
 use Rattle.exp_extract.specs.Visits.{IsDone, IsVisit, AreVisits}
 use Rattle.exp_extract.specs.Walking.{IsPlainTree, IsReady, IsRight, IsPremise, IsInner, IsAfter}
@@ -191,6 +191,8 @@ pub right_at : (t : Tree) → IsPlainTree t → IsRight (rule_of t) (concl t)
 right_at (node r s ts) h = record {
   no_cut = free_of_cut (is_cut r) (cut_free_all ts) h.cut_free;
   no_unfolding = h.plain.0.rule;
+  formed = h.valid.0.formed;
+  shape = (row_at (node r s ts) h.valid).shape;
   stands = main_in_end (node r s ts) h.valid;
   eigenvariable = (row_at (node r s ts) h.valid).eigenvariable;
 }
@@ -204,6 +206,7 @@ first_premise (node r s ts) p ps e h = by_trees ts e h
         let same : q ≡ p = cc in
         subst (λ (u : Tree). IsPremise r s 0 u) same (record {
           small = omega arith;
+          counted = omega (arith, (row_at (node r s (more q qs)) h.valid).premises);
           within = (row_at (node r s (more q qs)) h.valid).first_premise;
           tree = record { valid = h.valid.1.0; cut_free = first_free (cut_free q) (cut_free_all qs) (rest_free (is_cut r) _ h.cut_free); plain = h.plain.1.0 };
         })
@@ -218,6 +221,7 @@ second_premise (node r s ts) p q ps e h = by_trees ts e h
         let same : w ≡ q = cc in
         subst (λ (z : Tree). IsPremise r s 1 z) same (record {
           small = omega arith;
+          counted = omega (arith, (row_at (node r s (more u (more w ws))) h.valid).premises);
           within = (row_at (node r s (more u (more w ws))) h.valid).second_premise;
           tree = record {
             valid = h.valid.1.1.0;
@@ -268,20 +272,14 @@ pub if_visit : (g : Graph) (ms : List Map) (m : Marked) (b : Bool) (v : Visit) (
 if_visit g ms m true v o h old = h
 if_visit g ms m false v o h old = old
 
-same_numbers : (x y : Sides) → y.left.items ≡ x.left.items → y.right.items ≡ x.right.items → (side : Side) → numbers_of y side ≡ numbers_of x side
-same_numbers x y left right Left = left
-same_numbers x y left right Right = right
-
-pub copied_visit : (g : Graph) (ms : List Map) (m : Marked) (p q : Reference) (k : ℕ) (x y : Sides) → q ≡ p → y.left.items ≡ x.left.items → y.right.items ≡ x.right.items
-    → IsVisit g ms m (record { proof = p; map = k; sides = x }) → IsVisit g ms m (record { proof = q; map = k; sides = y })
-copied_visit g ms m p q k x y proof left right h =
-    let same : (side : Side) → numbers_of y side ≡ numbers_of x side = same_numbers x y left right in
-    let s : Sequent = concl p.tree in
-    let context : context_in m.addresses s y ≡ context_in m.addresses s x = λ i side f. address_or m.addresses (number_in (set.listing (side_of s side)) (same side i) f) in
-    subst (λ (r : Reference). IsVisit g ms m (record { proof = r; map = k; sides = y })) (sym proof) (record {
-      of = h.of;
-      valid = h.valid;
-      map = h.map;
-      sides = record { counts = λ side. ap length (same side) ∙ h.sides.counts side; within = λ side. subst (AreWithin m.addresses) (sym (same side)) (h.sides.within side) };
-      done = ap (λ d. walked m.outside p.tree (map_in ms k) d m.state) context ∙ h.done;
+-- a proof that was gone through has a visit
+pub visit_after : (g : Graph) (ms ns : List Map) (m n : Marked) (p q : Reference) (k : ℕ) (x : Sides) → q ≡ p → IsOf g p → IsReady ms m p.tree k x → IsAfter ms ns m n p.tree (map_in ms k) (context_in m.addresses (concl p.tree) x)
+    → IsVisit g ns n (record { proof = q; map = k; sides = x })
+visit_after g ms ns m n p q k x same of ready h =
+    subst (λ (r : Reference). IsVisit g ns n (record { proof = r; map = k; sides = x })) (sym same) (record {
+      of = of;
+      valid = ready.tree.valid;
+      map = (h.kept k ready.map).0;
+      sides = sides_grown m.addresses n.addresses (concl p.tree) x h.grown ready.sides;
+      done = done_after ms ns m n p.tree k x ready h;
     })

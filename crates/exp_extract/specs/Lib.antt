@@ -1,4 +1,5 @@
 pub mod Marked
+pub mod Fingerprints
 pub mod Extracting
 pub mod Markings
 pub mod Named

@@ -1,9 +1,10 @@
 -- The addresses of a sequent's formulas, by number, and those of a premise's.
+--     IsPlaceOf, HasNotBetween      the formula stands at a place of a list, or at none of several
 --     number_in, context_in      the number of a formula, and its address
 --     HasCounts, AreSides      there is a number for each formula
 --     auxiliary_place, AreAuxiliaries      the numbers of the addresses of auxiliary formulas
 --     inner_number, AreInner      those of a premise's formulas
-use Rattle.std.specs.Prelude.{◌≡◌, ℕ, zero, suc, ◌<◌, if◌then◌else◌, List, [], ◌∷◌, length, map, Option, Some, None, IfSome}
+use Rattle.std.specs.Prelude.{◌≡◌, ℕ, zero, suc, ◌<◌, ◌≤◌, true, false, if◌then◌else◌, List, [], ◌∷◌, length, get_or, map, Option, Some, None, IfSome}
 use Rattle.std.specs.Ordering.{eq_by_cmp}
 use Rattle.fol.specs.declared.symbols.Var.{Var}
 use Rattle.fol.specs.Syntax.{Formula, top}
@@ -23,6 +24,14 @@ use Rattle.exp_extract.specs.declared.sides.Auxiliary.TheVariants.{Absent, Only,
 use Rattle.exp_extract.specs.Marked.{address_in}
 use Rattle.exp_extract.specs.Entries.{IsChild}
 use Rattle.exp_extract.specs.Quantifiers.{AreWithin}
+
+-- the formula stands at this place
+abbrev pub IsPlaceOf : List Formula → Formula → ℕ → Type 0
+IsPlaceOf fs h i = (i < length fs) × ((d : Formula) → eq_by_cmp formula_cmp h (get_or fs i d) ≡ true)
+
+-- the formula stands at none of the places from one on and before another
+abbrev pub HasNotBetween : List Formula → ℕ → ℕ → Formula → Type 0
+HasNotBetween fs from to h = (i : ℕ) (d : Formula) → from ≤ i → i < to → eq_by_cmp formula_cmp h (get_or fs i d) ≡ false
 
 -- the number of a formula, where the formulas of a list have these numbers
 abbrev pub number_in : List Formula → List ℕ → Formula → Option ℕ

@@ -13,7 +13,7 @@ use Rattle.lk_rules.specs.declared.sequent.Sequent.{Sequent}
 use Rattle.lk_rules.specs.declared.sequent.Side.{Side}
 use Rattle.lk_rules.specs.declared.rule.Rule.{Rule}
 use Rattle.lk_rules.specs.Sequents.{side_of}
-use Rattle.lk_rules.specs.Rules.{is_unfolding_rule, main_stands, eigen_free, IsWithin}
+use Rattle.lk_rules.specs.Rules.{IsFormedRule, is_unfolding_rule, has_shape, needs, main_stands, eigen_free, IsWithin}
 use Rattle.proof_trees.specs.Trees.{Tree, concl, is_cut, IsValid, IsCutFree}
 use Rattle.proof_trees.specs.Occurrence.{IsPlainNode}
 use Rattle.proof_trees.specs.Conclusions.{EachNode}
@@ -43,12 +43,15 @@ pub record IsReady (ms : List Map) (m : Marked) (t : Tree) (k : ℕ) (x : Sides)
 pub record IsRight (r : Rule) (s : Sequent) : Type 0 where
   pub no_cut : is_cut r ≡ false
   pub no_unfolding : is_unfolding_rule r ≡ false
+  pub formed : IsFormedRule r
+  pub shape : has_shape r ≡ true
   pub stands : main_stands r s ≡ true
   pub eigenvariable : eigen_free r s ≡ false
 
 -- the tree is that of a premise
 pub record IsPremise (r : Rule) (s : Sequent) (i : ℕ) (t : Tree) : Type 0 where
   pub small : i < 2
+  pub counted : i < needs r
   pub within : IsWithin r s i (concl t)
   pub tree : IsPlainTree t
 

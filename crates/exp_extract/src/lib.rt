@@ -4,6 +4,7 @@
 mod extraction;
 mod fault;
 mod faults;
+mod fingerprints;
 mod inferences;
 pub mod laws;
 mod maps;

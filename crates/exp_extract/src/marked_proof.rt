@@ -15,7 +15,7 @@ use crate::marks::Marks;
 use crate::roots::enter_roots;
 use crate::sides::Sides;
 use crate::visits::Visits;
-use crate::walking::{Walk, visit};
+use crate::walking::{Walk, visit_new};
 use free_variables::Vars;
 use lk_rules::Side;
 use proof_graph::{Graph, ProofRef};
@@ -61,7 +61,7 @@ pub(crate) fn mark_proof(
         maps: Maps::new(alloc)?,
         visits: Visits::new(alloc),
     };
-    visit(&mut walk, graph, alloc, proof, 0, &sides)?;
+    visit_new(&mut walk, graph, alloc, proof, 0, &sides)?;
     let Walk {
         marks,
         maps: _,

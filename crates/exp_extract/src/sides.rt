@@ -1,9 +1,15 @@
 //! The addresses of the formulas of sequents, by number.
-ghost use Rattle.std.specs.Prelude.{◌≡◌, ◌<◌, length, map, Some, IfOk};
+ghost use Rattle.std.specs.Prelude.{◌≡◌, ◌≤◌, length, map, Some, IfOk, IfSome, IsNone, IsTrue};
+ghost use Rattle.std.specs.Result.{result_ok};
 ghost use Rattle.fol.specs.Order.{formula_cmp};
 ghost use Rattle.finite.specs.Finite as set;
-ghost use Rattle.exp_extract.specs.Sides.{number_in, numbers_of, HasCounts, auxiliary_place, inner_number, AreInner};
+ghost use Rattle.finite.specs.Place.{place};
+ghost use Rattle.lk_rules.specs.declared.sequent.Side.{Side as SequentSide};
+ghost use Rattle.lk_rules.specs.Sequents.{side_of};
+ghost use Rattle.exp_extract.specs.Fingerprints.{IsToldApart, AreAmong};
+ghost use Rattle.exp_extract.specs.Sides.{IsPlaceOf, HasNotBetween, number_in, HasCounts, auxiliary_place, inner_number, AreInner};
 
+use crate::fingerprints::{are_equal, tell_apart};
 use fol::Formula;
 use lk_rules::{Sequent, Side};
 use std::alloc::{AllocError, Global};
@@ -58,20 +64,61 @@ impl Auxiliary {
     }
 }
 
-/// The number of a formula, where the formulas of a rising list have these numbers, by binary search.
+// The place of a formula in a list, from one place on and before another. Fingerprints are compared first, so other formulas cost one look
+// each.
+fn place_between(
+    formulas: &[Formula],
+    from: usize,
+    to: usize,
+    formula: &Formula,
+    told_apart: bool,
+) -> Option<usize>
+    requires to { to ≤ length formulas.now }
+    requires told { IsTrue told_apart → IsToldApart formulas.now formula.now }
+    ensures some { IfSome result (λ at. IsPlaceOf formulas.now formula.now at) }
+    ensures none { IsNone result → HasNotBetween formulas.now from to formula.now }
+{
+    for at in from..to {
+        if are_equal(formula, &formulas[at], told_apart) {
+            return Some(at);
+        }
+    }
+    None
+}
+
+// The place of a formula in a rising list, looked for from one place on and then before that.
+fn place_near(
+    formulas: &[Formula],
+    near: usize,
+    formula: &Formula,
+    told_apart: bool,
+) -> Option<usize>
+    requires rises { set.IsRising formula_cmp formulas.now }
+    requires near { near ≤ length formulas.now }
+    requires told { IsTrue told_apart → IsToldApart formulas.now formula.now }
+    ensures { result ≡ result_ok (place formula_cmp formula.now formulas.now) }
+{
+    match place_between(formulas, near, formulas.len(), formula, told_apart) {
+        Some(at) => Some(at),
+        None => place_between(formulas, 0, near, formula, told_apart),
+    }
+}
+
+/// The number of a formula, where the formulas of a rising list have these numbers.
 pub(crate) fn number_of(formulas: &[Formula], numbers: &[u32], formula: &Formula) -> Option<u32>
     requires rises { set.IsRising formula_cmp formulas.now }
     requires count { length numbers.now ≡ length formulas.now }
     ensures { result ≡ number_in formulas.now numbers.now formula.now }
 {
-    match finite::search(formulas, formula) {
-        Ok(at) => Some(numbers[at]),
-        Err(_) => None,
+    match place_near(formulas, 0, formula, false) {
+        Some(at) => Some(numbers[at]),
+        None => None,
     }
 }
 
 // The numbers of the formulas on a side of a premise: those in the conclusion, where they stand there, and else those of auxiliary
-// formulas. In a right inference each formula has one.
+// formulas. In a right inference each formula has one. A premise's side is mostly the conclusion's but for a formula or two, so each
+// formula is looked for right after the one before it.
 fn inner_side(
     alloc: Global,
     conclusion: &[Formula],
@@ -79,53 +126,69 @@ fn inner_side(
     auxiliary: &Auxiliary,
     premise: u64,
     side: Side,
+    added: &[Formula],
     formulas: &[Formula],
 ) -> Result<Vec<u32>, AllocError>
     requires rises { set.IsRising formula_cmp conclusion.now }
     requires count { length numbers.now ≡ length conclusion.now }
+    requires among { AreAmong conclusion.now added.now formulas.now }
     ensures { IfOk result (λ list. map Some list.items ≡ map (inner_number conclusion.now numbers.now auxiliary.now premise side) formulas.now) }
 {
     let mut list = Vec::with_capacity(alloc, formulas.len())?;
+    let told_apart = tell_apart(conclusion, added);
+    let mut near = 0;
     for formula in formulas {
-        let number = number_in_premise(conclusion, numbers, auxiliary, premise, side, formula)?;
-        list.push(number)?;
+        let (number, next) = number_in_premise(
+            conclusion, numbers, auxiliary, premise, side, near, formula, told_apart,
+        )?;
+        near = next;
+        list.push_reserved(number);
     }
     Ok(list)
 }
 
-// The number of a formula on a side of a premise.
+// The number of a formula on a side of a premise, which is looked for near a place of the conclusion, and the place to look near for the
+// next one.
 fn number_in_premise(
     conclusion: &[Formula],
     numbers: &[u32],
     auxiliary: &Auxiliary,
     premise: u64,
     side: Side,
+    near: usize,
     formula: &Formula,
-) -> Result<u32, AllocError>
+    told_apart: bool,
+) -> Result<(u32, usize), AllocError>
     requires rises { set.IsRising formula_cmp conclusion.now }
     requires count { length numbers.now ≡ length conclusion.now }
-    ensures { IfOk result (λ n. Some n ≡ inner_number conclusion.now numbers.now auxiliary.now premise side formula.now) }
+    requires near { near ≤ length conclusion.now }
+    requires told { IsTrue told_apart → IsToldApart conclusion.now formula.now }
+    ensures number { IfOk result (λ p. Some p.0 ≡ inner_number conclusion.now numbers.now auxiliary.now premise side formula.now) }
+    ensures near { IfOk result (λ p. p.1 ≤ length conclusion.now) }
 {
-    if let Some(number) = number_of(conclusion, numbers, formula) {
-        return Ok(number);
+    if let Some(at) = place_near(conclusion, near, formula, told_apart) {
+        return Ok((numbers[at], at + 1));
     }
     match auxiliary.place(premise, side, formula) {
-        Some(number) => Ok(number),
+        Some(number) => Ok((number, near)),
         None => Err(AllocError),
     }
 }
 
 impl Sides {
-    /// The numbers of the formulas of a premise, where these are the numbers of those of the conclusion.
+    /// The numbers of the formulas of a premise, where these are the numbers of those of the conclusion, and `added` has the auxiliary
+    /// formulas.
     pub fn inner(
         &self,
         alloc: Global,
         conclusion: &Sequent,
         auxiliary: &Auxiliary,
         premise: u64,
+        added: &Sequent,
         end: &Sequent,
     ) -> Result<Sides, AllocError>
-        requires { HasCounts conclusion.now self.now }
+        requires counts { HasCounts conclusion.now self.now }
+        requires among { (side : SequentSide) → AreAmong (set.listing (side_of conclusion.now side)) (set.listing (side_of added.now side)) (set.listing (side_of end.now side)) }
         ensures { IfOk result (AreInner conclusion.now self.now auxiliary.now premise end.now) }
     {
         let left = inner_side(
@@ -135,6 +198,7 @@ impl Sides {
             auxiliary,
             premise,
             Side::Left,
+            added.left(),
             end.left(),
         )?;
         let right = inner_side(
@@ -144,18 +208,9 @@ impl Sides {
             auxiliary,
             premise,
             Side::Right,
+            added.right(),
             end.right(),
         )?;
-        Ok(Sides { left, right })
-    }
-
-    /// The same numbers.
-    pub fn copy(&self, alloc: Global) -> Result<Sides, AllocError>
-        ensures left { IfOk result (λ copy. copy.left.items ≡ self.now.left.items) }
-        ensures right { IfOk result (λ copy. copy.right.items ≡ self.now.right.items) }
-    {
-        let left = Vec::from_slice(alloc, &self.left)?;
-        let right = Vec::from_slice(alloc, &self.right)?;
         Ok(Sides { left, right })
     }
 }

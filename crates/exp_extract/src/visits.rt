@@ -1,12 +1,10 @@
 //! The proofs that were gone through.
-ghost use Rattle.std.specs.Prelude.{◌≡◌, ◌<◌, List, length, IsTrue};
-ghost use Rattle.proof_trees.specs.Trees.{concl};
+ghost use Rattle.std.specs.Prelude.{List, IsTrue};
 ghost use Rattle.proof_graph.specs.declared.graph.Graph.{Graph as ProofGraph};
 ghost use Rattle.proof_graph.specs.Graphs.{IsOf};
 ghost use Rattle.substitution.specs.Maps.{Map};
 ghost use Rattle.exp_extract.specs.Marked.{Marked};
-ghost use Rattle.exp_extract.specs.Sides.{AreSides};
-ghost use Rattle.exp_extract.specs.Visits.{AreVisits, IsDone};
+ghost use Rattle.exp_extract.specs.Visits.{IsVisit, AreVisits, IsDone};
 
 use crate::maps::Maps;
 use crate::marks::Marks;
@@ -39,8 +37,8 @@ fn with_numbers(fingerprint: u64, numbers: &[u32]) -> u64 {
     mixed
 }
 
-// A number in which unequal visits mostly differ.
-fn fingerprint(proof: &ProofRef, map: u32, sides: &Sides) -> u64 {
+/// A number in which unequal visits mostly differ.
+pub(crate) fn fingerprint(proof: &ProofRef, map: u32, sides: &Sides) -> u64 {
     let start = mix(proof.number(), u64::from(map));
     with_numbers(with_numbers(start, &sides.left), &sides.right)
 }
@@ -55,12 +53,14 @@ impl Visits {
         }
     }
 
-    /// Whether the proof was gone through with the same map and the same addresses, as far as that is known. Then it has no new mark.
+    /// Whether the proof was gone through with the same map and the same addresses, as far as the table tells at this fingerprint. Then it
+    /// has no new mark.
     pub fn is_done(
         &self,
         graph: &Graph,
         marks: &Marks,
         maps: &Maps,
+        fingerprint: u64,
         proof: &ProofRef,
         map: u32,
         sides: &Sides,
@@ -70,7 +70,7 @@ impl Visits {
         ensures { IsTrue result → IsDone maps.now marks.now proof.now.tree map sides.now }
     {
         let (_marks, _maps) = (marks, maps);
-        match self.visits.get(&fingerprint(proof, map, sides)) {
+        match self.visits.get(&fingerprint) {
             Some(visit)
                 if graph.same(&visit.proof, proof)
                     && visit.map == map
@@ -80,32 +80,21 @@ impl Visits {
         }
     }
 
-    /// Enters a proof that was gone through.
+    /// Enters a proof that was gone through, by its fingerprint.
     pub fn note(
         &mut self,
-        alloc: Global,
         graph: &Graph,
         marks: &Marks,
         maps: &Maps,
-        proof: &ProofRef,
-        map: u32,
-        sides: &Sides,
+        fingerprint: u64,
+        visit: Visit,
     ) -> Result<(), AllocError>
         requires visits { AreVisits graph.now maps.now marks.now self.old }
-        requires of { IsOf graph.now proof.now }
-        requires map { map < length maps.now }
-        requires sides { AreSides marks.now.addresses (concl proof.now.tree) sides.now }
-        requires done { IsDone maps.now marks.now proof.now.tree map sides.now }
+        requires visit { IsVisit graph.now maps.now marks.now visit }
         ensures { AreVisits graph.now maps.now marks.now self.new }
     {
         let (_graph, _marks, _maps) = (graph, marks, maps);
-        proof.known();
-        let visit = Visit {
-            proof: proof.keep()?,
-            map,
-            sides: sides.copy(alloc)?,
-        };
-        self.visits.insert(fingerprint(proof, map, sides), visit)?;
+        self.visits.insert(fingerprint, visit)?;
         Ok(())
     }
 }

@@ -14,8 +14,8 @@ use crate::inferences::{Inner, mark_inference};
 use crate::maps::Maps;
 use crate::marks::Marks;
 use crate::sides::Sides;
-use crate::visits::Visits;
-use lk_rules::{Rule, Sequent};
+use crate::visits::{Visit, Visits, fingerprint};
+use lk_rules::{Rule, Sequent, aux};
 use proof_graph::{Graph, ProofRef};
 use std::alloc::{AllocError, Global};
 
@@ -49,16 +49,16 @@ fn visit_premise(
     ensures visits { OnOk result (AreVisits graph.now walk.new.maps walk.new.marks walk.new.visits) }
     ensures after { (c : Context) (v : Variable) → IsInner walk.old.maps walk.old.marks rule.now end.now sides.now map inner.now c v → OnOk result (IsAfter walk.old.maps walk.new.maps walk.old.marks walk.new.marks premise.now.tree (inner_map rule.now (map_in walk.old.maps map) v) (inner_context rule.now end.now (map_in walk.old.maps map) c v place)) }
 {
-    let _rule = rule;
     let _map = map;
     let root = graph.get(premise);
-    let inner_sides = sides.inner(alloc, end, &inner.auxiliary, place, &root.end)?;
-    visit(walk, graph, alloc, premise, inner.map, &inner_sides)
+    let added = aux(alloc, rule, place)?;
+    let inner_sides = sides.inner(alloc, end, &inner.auxiliary, place, &added, &root.end)?;
+    visit(walk, graph, alloc, premise, inner.map, inner_sides)
 }
 
-// A proof that wasn't gone through.
+/// Goes through a proof from its conclusion, the left premise first.
 #[cycle(walk)]
-fn visit_new(
+pub(crate) fn visit_new(
     walk: &mut Walk,
     graph: &Graph,
     alloc: Global,
@@ -96,29 +96,31 @@ fn visit_new(
     }
 }
 
-/// Goes through a proof from its conclusion, the left premise first, unless that is done.
+// Goes through a proof, unless that is done.
 #[cycle(walk)]
-pub(crate) fn visit(
+fn visit(
     walk: &mut Walk,
     graph: &Graph,
     alloc: Global,
     proof: &ProofRef,
     map: u32,
-    sides: &Sides,
+    sides: Sides,
 ) -> Result<(), AllocError>
     requires visits { AreVisits graph.now walk.old.maps walk.old.marks walk.old.visits }
     requires of { IsOf graph.now proof.now }
-    requires ready { IsReady walk.old.maps walk.old.marks proof.now.tree map sides.now }
+    requires ready { IsReady walk.old.maps walk.old.marks proof.now.tree map sides }
     ensures visits { OnOk result (AreVisits graph.now walk.new.maps walk.new.marks walk.new.visits) }
-    ensures after { OnOk result (IsAfter walk.old.maps walk.new.maps walk.old.marks walk.new.marks proof.now.tree (map_in walk.old.maps map) (context_in walk.old.marks.addresses (concl proof.now.tree) sides.now)) }
+    ensures after { OnOk result (IsAfter walk.old.maps walk.new.maps walk.old.marks walk.new.marks proof.now.tree (map_in walk.old.maps map) (context_in walk.old.marks.addresses (concl proof.now.tree) sides)) }
 {
+    let key = fingerprint(proof, map, &sides);
     let done = walk
         .visits
-        .is_done(graph, &walk.marks, &walk.maps, proof, map, sides);
+        .is_done(graph, &walk.marks, &walk.maps, key, proof, map, &sides);
     if done {
         return Ok(());
     }
-    visit_new(walk, graph, alloc, proof, map, sides)?;
-    walk.visits
-        .note(alloc, graph, &walk.marks, &walk.maps, proof, map, sides)
+    visit_new(walk, graph, alloc, proof, map, &sides)?;
+    let proof = proof.keep()?;
+    let visit = Visit { proof, map, sides };
+    walk.visits.note(graph, &walk.marks, &walk.maps, key, visit)
 }

@@ -1,20 +1,22 @@
 -- What the walk needs of the premises, and what it comes to.
-use Rattle.std.proofs.Common.{◌≡◌, length, ap, ◌∙◌, subst, arith}
+use Rattle.std.proofs.Common.{◌≡◌, length, sym, ap, ◌∙◌, subst, arith}
 use Rattle.std.specs.FinMap as fin
 use Rattle.substitution.specs.Image.{IsFormedMap}
 use Rattle.substitution.specs.Maps.{Map}
 use Rattle.lk_rules.specs.declared.sequent.Sequent.{Sequent}
+use Rattle.lk_rules.specs.Rules.{IsWithin}
 use Rattle.proof_graph.specs.declared.node.Node.{Node}
 use Rattle.proof_trees.specs.Trees.{more, none}
 use Rattle.exp_extract.specs.Sides.{AreInner}
 use Rattle.exp_extract.proofs.MarkedSets.{on_ok}
-use Rattle.exp_extract.proofs.Walks.{done_after, visits_stay, met_includes, premise_ready, premise_after}
+use Rattle.exp_extract.proofs.Walks.{visit_after, visits_stay, met_includes, premise_ready, premise_after}
 use Rattle.exp_extract.proofs.AtRoots.{root_right, root_first, root_second, root_inner, root_one, root_later, root_two, first_after, one_tree, two_trees, home_at, first_smaller, second_smaller}
+use Rattle.exp_extract.proofs.ToldApart.{premise_among}
 use Rattle.exp_extract.proofs.walking.+walk.Goals as goal
 
-pub visit-note-requires-clause-done : goal.visit-note-requires-clause-done
-visit-note-requires-clause-done t c =
-    done_after c.args.walk.now.maps c.visit_new.new.walk.maps c.args.walk.now.marks c.visit_new.new.walk.marks c.args.proof.now.tree c.args.map c.args.sides.now c.requires.ready c.in_ok-visit_new.ensures.after
+pub visit-note-requires-clause-visit : goal.visit-note-requires-clause-visit
+visit-note-requires-clause-visit t c =
+    visit_after c.args.graph.now c.args.walk.now.maps c.visit_new.new.walk.maps c.args.walk.now.marks c.visit_new.new.walk.marks c.args.proof.now c.in_ok-proof.proof c.args.map c.args.sides c.in_ok-proof.ensures c.requires.of c.requires.ready c.in_ok-visit_new.ensures.after
 
 pub visit_new-returns-in-empty-clause-visits : goal.visit_new-returns-in-empty-clause-visits
 visit_new-returns-in-empty-clause-visits t c =
@@ -112,6 +114,11 @@ visit_new-returns-in-len2-clause-after t c =
     let first = first_after c.args.proof.now.tree c.get-root.result.now.rule c.get-root.result.now.end rule end c.args.walk.now.maps c.mark_inference.new.maps c.args.walk.now.marks c.mark_inference.new.marks c.args.sides.now c.args.map c.in_ok-inner.inner c.requires.ready formed c.first-item.result.tree c.visit_premise-in-len2.new.walk.maps c.visit_premise-in-len2.new.walk.marks met c.in_ok-visit_premise-in-len2.ensures.after in
     root_two c.args.proof.now.tree c.get-root.result.now.rule c.get-root.result.now.end rule end c.args.walk.now.maps c.mark_inference.new.maps c.args.walk.now.marks c.mark_inference.new.marks c.args.sides.now c.args.map c.in_ok-inner.inner c.requires.ready formed c.first-item.result.tree c.visit_premise-in-len2.new.walk.maps c.visit_premise-in-len2.new.walk.marks met first
     c.visit_premise-in-len2-2.result c.second-item.result.tree c.visit_premise-in-len2-2.new.walk.maps c.visit_premise-in-len2-2.new.walk.marks trees c.visit_premise-in-len2-2.ensures.after
+
+pub visit_premise-inner-requires-clause-among : goal.visit_premise-inner-requires-clause-among
+visit_premise-inner-requires-clause-among t c side =
+    let end = ap (λ (n : Node). n.end) c.get-root.ensures in
+    premise_among c.args.rule.now c.args.end.now c.get-root.result.now.end c.in_ok-added.added c.args.place (subst (λ (e : Sequent). IsWithin c.args.rule.now c.args.end.now c.args.place e) (sym end) c.requires.premise.within) c.in_ok-added.ensures side
 
 pub visit_premise-visit-requires : goal.visit_premise-visit-requires
 visit_premise-visit-requires t c =

@@ -5,7 +5,7 @@ use Rattle.std.specs.Map.{lookup}
 use Rattle.exp_extract.specs.declared.visits.Visit.{Visit}
 use Rattle.exp_extract.specs.Visits.{IsVisit}
 use Rattle.exp_extract.proofs.MarkedSets.{either_way}
-use Rattle.exp_extract.proofs.Walks.{if_visit, copied_visit}
+use Rattle.exp_extract.proofs.Walks.{if_visit}
 use Rattle.exp_extract.proofs.visits.Visits.note.Goals as goal
 
 pub returns : goal.returns
@@ -13,12 +13,9 @@ returns c =
     let g = c.args.graph.now in
     let ms = c.args.maps.now in
     let m = c.args.marks.now in
-    let visit : IsVisit g ms m (record { proof = c.in_ok-keep.field-0; map = c.args.map; sides = c.in_ok-copy.field-0 }) =
-    copied_visit g ms m c.args.proof.now c.in_ok-keep.field-0 c.args.map c.args.sides.now c.in_ok-copy.field-0 c.in_ok-keep.ensures c.in_ok-copy.ensures.left c.in_ok-copy.ensures.right
-    (record { of = c.requires.of; valid = c.known.ensures.valid; map = c.requires.map; sides = c.requires.sides; done = c.requires.done }) in
     record {
       visits = λ q. either_way c.insert.result
-          (λ u. subst (λ (o : Option Visit). IfSome o (IsVisit g ms m)) (sym (u.0 q)) (if_visit g ms m (nat_eq c.fingerprint.result q) _ _ visit (c.requires.visits.visits q)))
+          (λ u. subst (λ (o : Option Visit). IfSome o (IsVisit g ms m)) (sym (u.0 q)) (if_visit g ms m (nat_eq c.args.fingerprint q) _ _ c.requires.visit (c.requires.visits.visits q)))
           (λ e. subst (λ es. IfSome (lookup (nat_eq q) es) (IsVisit g ms m)) (sym e) (c.requires.visits.visits q))
           c.insert.ensures.updates c.insert.ensures.err;
     }
