@@ -1,23 +1,13 @@
 -- The proof by a step, and how many inferences it has.
-use Rattle.std.proofs.Common.{◌≡◌, ℕ, ◌+◌, ◌<◌, ◌≤◌, Bool, true, false, if◌then◌else◌, List, Option, Some, None, refl, ap, subst, ◌∙◌, arith}
+use Rattle.std.proofs.Common.{◌≡◌, ℕ, ◌<◌, ◌≤◌, Bool, true, false, if◌then◌else◌, List, Option, Some, None, refl, ap, subst, ◌∙◌, arith}
 use Rattle.std.specs.Prelude.{option_map, nat_lt, Result, Ok, Err}
 use Rattle.std.proofs.lemmas.Bool.Decides.{nat_tests}
-use Rattle.lk_rules.specs.declared.rule.Rule.{Rule}
-use Rattle.lk_rules.specs.declared.sequent.Sequent.{Sequent}
-use Rattle.proof_trees.specs.Trees.{Tree, node, Trees, size}
+use Rattle.proof_trees.specs.Trees.{Tree, node, size}
 use Rattle.building_laws.specs.Lists.{Placed, conclusion}
 use Rattle.building_laws.specs.Building.{Step, build_each, by_step, step_at, build}
 use Rattle.exp_to_lk.specs.declared.fault.BuildFault.{BuildFault}
 use Rattle.exp_to_lk.specs.declared.fault.BuildFault.TheVariants.{Budget}
-use Rattle.exp_to_lk.specs.Building.{sizes, within_budget}
-
--- where the proofs of the premises have more than k, the proof has more than k + 1
-pub one_more : (r : Rule) (s : Sequent) (o : Option Trees) (t : Tree) (k : ℕ) → ((ts : Trees) → o ≡ Some ts → k < sizes ts) → option_map (node r s) o ≡ Some t → k + 1 < size t
-one_more r s None t k larger e = cc
-one_more r s (Some ts) t k larger e =
-    let same : node r s ts ≡ t = cc in
-    let less : k < sizes ts = larger ts refl in
-    subst (λ u. k + 1 < size u) same (omega arith)
+use Rattle.exp_to_lk.specs.Building.{within_budget}
 
 -- the proof of a list is by its step and the proofs of the premises
 pub by_its_step : (l : List Placed) (t : Step) → build l ≡ by_step build l (step_at l) → step_at l ≡ Some t → build l ≡ option_map (node t.rule (conclusion l)) (build_each build t.premises)

@@ -2,6 +2,7 @@ pub mod Variables
 pub mod Places
 pub mod Chosen
 pub mod Built
+pub mod Counted
 pub mod Formed
 pub mod Puts
 pub mod Sequents
@@ -15,4 +16,5 @@ pub mod Closing
 pub mod AddedLeaves
 pub mod Takings
 pub mod Beginnings
+pub mod Weights
 pub mod Premises

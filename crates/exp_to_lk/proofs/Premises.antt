@@ -4,19 +4,20 @@ use Rattle.std.specs.List.{All}
 use Rattle.proof_trees.specs.Trees.{Tree, node, none, more, size}
 use Rattle.arena_cells.specs.Items.{Item}
 use Rattle.arena_cells.specs.Standing.{Extends}
-use Rattle.building_laws.specs.Lists.{Placed, conclusion}
+use Rattle.building_laws.specs.Lists.{Placed}
 use Rattle.building_laws.specs.Building.{build, with_first, build_each}
-use Rattle.exp_to_lk.specs.Dividing.{items_of, IsAddedNumbered}
+use Rattle.exp_to_lk.specs.Dividing.{items_of, IsAddedNumbered, ArePremisesNumbered}
 use Rattle.exp_to_lk.specs.Numbered.{Numbered, trees, IsNumbered}
 use Rattle.exp_to_lk.specs.Putting.{put}
 use Rattle.exp_to_lk.specs.Taking.{IsRest}
 use Rattle.exp_to_lk.specs.declared.dividing.Added.{Added}
 use Rattle.exp_to_lk.specs.declared.dividing.Added.TheVariants.{One, Two}
+use Rattle.exp_to_lk.specs.declared.dividing.Premises.{Premises}
+use Rattle.exp_to_lk.specs.declared.dividing.Premises.TheVariants as premises
 use Rattle.exp_to_lk.specs.declared.lists.Rest.{Rest}
 use Rattle.exp_to_lk.proofs.AddedLeaves.{added_numbered}
 use Rattle.exp_to_lk.proofs.Numbers.{numbered_stay}
 use Rattle.exp_to_lk.proofs.Puts.{map_put, all_put}
-use Rattle.exp_to_lk.proofs.SideNumbers.{sides_stay}
 
 -- a proof has an inference
 pub some_inference : (t : Tree) → 0 < size t
@@ -35,11 +36,14 @@ pub added_stays : (a b : List Item) (x : Added) → Extends a b → IsAddedNumbe
 added_stays a b (One p) grown h = grown _ _ h
 added_stays a b (Two p q) grown h = (grown _ _ h.0, grown _ _ h.1)
 
+pub premises_stay : (a b : List Item) (p : Premises) → Extends a b → ArePremisesNumbered a p → ArePremisesNumbered b p
+premises_stay a b (premises.One x) grown h = added_stays a b x grown h
+premises_stay a b (premises.Two x y) grown h = (added_stays a b x grown h.0, added_stays a b y grown h.1)
+
 pub rest_stays : (a b : List Item) (r : Rest) → Extends a b → IsRest a r → IsRest b r
 rest_stays a b r grown h = record {
   numbers = numbered_stay a b r.list.items grown h.numbers;
   place = h.place;
-  sides = sides_stay a b r.sides (conclusion (trees r.list.items)) grown h.sides;
   open_leaves = h.open_leaves;
 }
 

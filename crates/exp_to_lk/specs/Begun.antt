@@ -1,8 +1,6 @@
 -- A premise that is begun: its leaves end the branch, or its list has to be taken apart.
 --     IsBegun      what is known of it
---     taken_by      how many inferences were made
-use Rattle.std.specs.Prelude.{◌≡◌, ℕ, List, Some}
-use Rattle.proof_trees.specs.Trees.{size}
+use Rattle.std.specs.Prelude.{◌≡◌, List, Some}
 use Rattle.arena_cells.specs.Items.{Item}
 use Rattle.arena_cells.specs.Standing.{HasSequent, tree_at, IsTreeAt}
 use Rattle.building_laws.specs.Lists.{Placed, conclusion}
@@ -14,7 +12,3 @@ use Rattle.exp_to_lk.specs.declared.building.Begun.TheVariants.{Closed, Open}
 abbrev pub IsBegun : List Item → List Placed → Begun → Type 0
 IsBegun a l (Closed n) = (build l ≡ Some (tree_at a n)) × IsTreeAt a n
 IsBegun a l (Open n) = HasSequent a n (conclusion l) × IsOpen l
-
-abbrev pub taken_by : List Item → Begun → ℕ
-taken_by a (Closed n) = size (tree_at a n)
-taken_by a (Open n) = 0

@@ -1,17 +1,19 @@
 -- The sides of a sequent by numbers.
 --     sides_at, AreSidesAt, HasSides      the sequent whose sides stand at the numbers
+--     with_main      a sequent with the formula of a tree that was taken out
 --     added_to      a sequent with the formulas of more trees
 --     is_on, number_on, numbers_on      trees on a side by the numbers of their formulas
-use Rattle.std.specs.Prelude.{ℕ, Bool, false, nat_eq, List, [], ◌∷◌, ◌++◌}
+use Rattle.std.specs.Prelude.{ℕ, Bool, false, nat_eq, List, [], ◌∷◌, ◌++◌, Option, Some, None}
 use Rattle.lk_rules.specs.declared.sequent.Sequent.{Sequent}
 use Rattle.lk_rules.specs.declared.sequent.Side.{Side}
 use Rattle.lk_rules.specs.declared.sequent.Side.TheVariants.{Left, Right}
 use Rattle.lk_rules.specs.Sequents.{adds_to}
 use Rattle.expansion_laws.specs.Expansions.{shallow}
 use Rattle.arena_cells.specs.Items.{Item}
-use Rattle.arena_cells.specs.Standing.{HasSide, side_at, IsSideAt}
+use Rattle.arena_cells.specs.Standing.{HasSide, formula_at, side_at, IsSideAt}
 use Rattle.building_laws.specs.Lists.{Placed}
 use Rattle.exp_to_lk.specs.Numbered.{Numbered}
+use Rattle.exp_to_lk.specs.declared.sides.Main.{Main}
 use Rattle.exp_to_lk.specs.declared.sides.Sides.{Sides}
 
 abbrev pub sides_at : List Item → Sides → Sequent
@@ -24,6 +26,11 @@ pub record AreSidesAt (a : List Item) (s : Sides) : Type 0 where
 pub record HasSides (a : List Item) (s : Sides) (e : Sequent) : Type 0 where
   pub left : HasSide a s.left e.left
   pub right : HasSide a s.right e.right
+
+-- the sequent with the formula that was taken out, if one was
+abbrev pub with_main : List Item → Option Main → Sequent → Sequent
+with_main a None e = e
+with_main a (Some m) e = adds_to e m.side (formula_at a m.formula)
 
 -- the sequent with the formulas of the trees, each on its side
 abbrev pub added_to : Sequent → List Placed → Sequent

@@ -2,9 +2,11 @@
 --     put      elements at a place of a list
 --     step_of      what is stored of a step, as a step
 --     IsRest      what stays of a list
-use Rattle.std.specs.Prelude.{◌≤◌, List, length, map}
+--     HasEnd      the sequent of a list by what stays of the list
+use Rattle.std.specs.Prelude.{◌≡◌, ◌≤◌, List, length, map, IfSome}
 use Rattle.std.specs.List.{All}
 use Rattle.arena_cells.specs.Items.{Item}
+use Rattle.arena_cells.specs.Standing.{IsFormulaAt}
 use Rattle.arena_cells.specs.Meaning.{rule_at}
 use Rattle.building_laws.specs.Lists.{Placed, conclusion}
 use Rattle.building_laws.specs.Building.{Step}
@@ -12,7 +14,7 @@ use Rattle.exp_to_lk.specs.Dividing.{parts_each}
 use Rattle.exp_to_lk.specs.Leaves.{IsOpen}
 use Rattle.exp_to_lk.specs.Numbered.{trees, IsNumbered}
 use Rattle.exp_to_lk.specs.Putting.{put}
-use Rattle.exp_to_lk.specs.Sides.{HasSides}
+use Rattle.exp_to_lk.specs.Sides.{with_main}
 use Rattle.exp_to_lk.specs.declared.lists.Rest.{Rest}
 use Rattle.exp_to_lk.specs.declared.steps.Taken.{Taken}
 
@@ -23,9 +25,13 @@ lists_over r = map (put (trees r.list.items) r.place)
 abbrev pub step_of : List Item → Taken → Step
 step_of a t = record { rule = rule_at a t.rule; premises = lists_over t.rest (parts_each t.premises) }
 
--- what stays of a list has its sides, and its leaves end no branch
+-- the leaves of what stays of a list end no branch
 pub record IsRest (a : List Item) (r : Rest) : Type 0 where
   pub numbers : All (IsNumbered a) r.list.items
   pub place : r.place ≤ length r.list.items
-  pub sides : HasSides a r.sides (conclusion (trees r.list.items))
   pub open_leaves : IsOpen (trees r.list.items)
+
+-- the sequent of the list is that of what stays, with the formula that was taken out
+pub record HasEnd (a : List Item) (l : List Placed) (t : Taken) : Type 0 where
+  pub main : IfSome t.main (λ m. IsFormulaAt a m.formula)
+  pub end : conclusion l ≡ with_main a t.main (conclusion (trees t.rest.list.items))

@@ -11,6 +11,7 @@ ghost use Rattle.building_laws.specs.Buildable.{IsFormedExpansion};
 ghost use Rattle.exp_to_lk.specs.Building.{building, Builds};
 
 use crate::building::build_list;
+use crate::counting::count_list;
 use crate::fault::BuildFault;
 use crate::lists::start;
 use arena::Arena;
@@ -51,17 +52,16 @@ fn build_tree(
     laws::lists();
     known(exps);
     let list = start(arena, alloc, exps.tree())?;
+    // Nothing is built for a proof that has more inferences than the budget allows.
     let mut left = budget;
-    match build_list(arena, alloc, list, &mut left) {
-        Ok(built) => Ok(built),
-        Err(fault) => Err(fault),
-    }
+    count_list(arena, alloc, &list, &mut left)?;
+    Ok(build_list(arena, alloc, list)?)
 }
 
 /// Builds the proof without cuts of an expansion proof, from the conclusion upwards, after Miller (1987): its end sequent has the formulas
-/// of the trees. The budget bounds the number of inferences, each counted as often as it stands in the tree, and the building ends at the
-/// first one over it: `Budget` is answered where the proof has more. The proof goes into the graph once it is built, so of all refusals
-/// only `Memory` may leave new nodes there.
+/// of the trees. The budget bounds the number of inferences, each counted as often as it stands in the tree. They are counted before
+/// anything is built, and `Budget` is answered at the first one over it. The proof goes into the graph once it is built, so of all
+/// refusals only `Memory` may leave new nodes there.
 pub fn build<R: Wait>(
     rt: &R,
     alloc: Global,

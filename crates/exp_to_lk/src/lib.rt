@@ -3,6 +3,7 @@
 
 mod added;
 mod building;
+mod counting;
 mod dividing;
 mod exporting;
 mod fault;

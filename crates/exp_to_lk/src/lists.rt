@@ -12,23 +12,24 @@ ghost use Rattle.exp_to_lk.specs.Putting.{put};
 
 use crate::dividing::Added;
 use crate::placed::{PlacedExp, place_tree};
-use crate::sides::Sides;
 use arena::Arena;
 use exp_tree::{Exp, ExpSequent};
 use free_variables::Vars;
 use lk_rules::Side;
 use std::alloc::{AllocError, Global};
 
-/// What stays of a list when a tree is taken out, the place at which new trees are added, and the sides of the sequent of what stays.
+/// What stays of a list when a tree is taken out, and the place at which new trees are added.
 #[derive(Drop)]
 pub(crate) struct Rest<'e> {
     pub list: Vec<PlacedExp<'e>>,
     pub place: usize,
-    pub sides: Sides,
 }
 
-// The same list, with room for two more trees.
-fn copy_list<'e>(alloc: Global, list: &[PlacedExp<'e>]) -> Result<Vec<PlacedExp<'e>>, AllocError>
+/// The same list, with room for two more trees.
+pub(crate) fn copy_list<'e>(
+    alloc: Global,
+    list: &[PlacedExp<'e>],
+) -> Result<Vec<PlacedExp<'e>>, AllocError>
     ensures { IfOk result (λ copies. copies.items ≡ list.now) }
 {
     let mut copies = Vec::with_capacity(alloc, list.len() + 2)?;
@@ -48,7 +49,6 @@ impl<'e> Rest<'e> {
         Ok(Rest {
             list,
             place: self.place,
-            sides: self.sides,
         })
     }
 
@@ -57,11 +57,7 @@ impl<'e> Rest<'e> {
         requires { self.place ≤ length self.list.items }
         ensures { IfOk result (λ list. list.items ≡ put self.entry.list.items self.entry.place (items_of added.entry)) }
     {
-        let Rest {
-            mut list,
-            place,
-            ..
-        } = self;
+        let Rest { mut list, place } = self;
         match added {
             Added::One(placed) => list.insert(place, placed)?,
             Added::Two(first, second) => {

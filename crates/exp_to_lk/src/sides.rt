@@ -1,5 +1,5 @@
 //! The sides of the sequent of a list's formulas, in an arena.
-ghost use Rattle.std.specs.Prelude.{◌≡◌, ◌++◌, map, IfOk};
+ghost use Rattle.std.specs.Prelude.{◌≡◌, ◌++◌, map, IfOk, IfSome};
 ghost use Rattle.std.specs.List.{All, list_any};
 ghost use Rattle.finite.specs.Finite as set;
 ghost use Rattle.lk_rules.specs.Sequents.{adds_to};
@@ -8,7 +8,7 @@ ghost use Rattle.arena_cells.specs.Standing.{Extends, HasSide, HasSequent, formu
 ghost use Rattle.building_laws.specs.Lists.{conclusion as sequent_of, trees_on};
 ghost use Rattle.exp_to_lk.specs.Dividing.{items_of, IsAddedNumbered};
 ghost use Rattle.exp_to_lk.specs.Numbered.{trees, IsNumbered};
-ghost use Rattle.exp_to_lk.specs.Sides.{sides_at, AreSidesAt, HasSides, added_to, is_on as is_numbered_on, number_on};
+ghost use Rattle.exp_to_lk.specs.Sides.{sides_at, AreSidesAt, HasSides, with_main, added_to, is_on as is_numbered_on, number_on};
 
 use crate::dividing::Added;
 use crate::placed::PlacedExp;
@@ -23,9 +23,16 @@ pub(crate) struct Sides {
     pub right: u32,
 }
 
-/// The sides of a sequent.
+/// The formula that a rule is applied to, on its side.
+#[derive(Clone, Copy)]
+pub(crate) struct Main {
+    pub side: Side,
+    pub formula: u32,
+}
+
+// The sides of a sequent.
 #[tactic(auto, using(arena_cells::proofs::Facts::sequents))]
-pub(crate) fn sides_of(arena: &Arena, sequent: u32) -> Sides
+fn sides_of(arena: &Arena, sequent: u32) -> Sides
     requires { IsSequentAt arena.now sequent }
     ensures { HasSides arena.now result (sequent_at arena.now sequent) }
 {
@@ -77,8 +84,8 @@ fn stands(list: &[PlacedExp<'_>], side: Side, formula: u32) -> bool
     list.iter().any(|placed| is_on(placed, side, formula))
 }
 
-/// The sides without the formula of a tree that is taken out of a list, unless another tree has it there too.
-pub(crate) fn without_tree(
+// The sides without the formula of a tree that is taken out of a list, unless another tree has it there too.
+fn without_tree(
     arena: &mut Arena,
     alloc: Global,
     sides: Sides,
@@ -106,6 +113,27 @@ pub(crate) fn without_tree(
             let right = arena.side_without(alloc, right, formula)?;
             Ok(Sides { left, right })
         }
+    }
+}
+
+/// The sides of what stays of a list, by the sequent of the list and what was taken out of it.
+pub(crate) fn rest_sides(
+    arena: &mut Arena,
+    alloc: Global,
+    end: u32,
+    main: Option<Main>,
+    list: &[PlacedExp<'_>],
+) -> Result<Sides, AllocError>
+    requires numbers { All (IsNumbered arena.old) list.now }
+    requires main { IfSome main (λ m. IsFormulaAt arena.old m.formula) }
+    requires end { HasSequent arena.old end (with_main arena.old main (sequent_of (trees list.now))) }
+    ensures sides { IfOk result (λ s. HasSides arena.new s (sequent_of (trees list.now))) }
+    ensures grown { Extends arena.old arena.new }
+{
+    let sides = sides_of(arena, end);
+    match main {
+        Some(Main { side, formula }) => without_tree(arena, alloc, sides, list, side, formula),
+        None => Ok(sides),
     }
 }
 

@@ -4,30 +4,30 @@ ghost use Rattle.std.specs.List.{All};
 ghost use Rattle.finite.specs.Finite as set;
 ghost use Rattle.arena_cells.specs.Standing.{Extends};
 ghost use Rattle.arena_cells.specs.Meaning.{HasRuleParts};
-ghost use Rattle.building_laws.specs.Lists.{conclusion, strongs_in_list};
+ghost use Rattle.building_laws.specs.Lists.{strongs_in_list};
 ghost use Rattle.building_laws.specs.Building.{parts, instance_at, first_step, step_at};
 ghost use Rattle.exp_to_lk.specs.Choosing.{ready_in, IsAsReady};
 ghost use Rattle.exp_to_lk.specs.Dividing.{ArePremisesNumbered};
 ghost use Rattle.exp_to_lk.specs.Leaves.{IsOpen};
 ghost use Rattle.exp_to_lk.specs.Numbered.{trees, IsNumbered};
-ghost use Rattle.exp_to_lk.specs.Sides.{HasSides};
-ghost use Rattle.exp_to_lk.specs.Taking.{step_of, IsRest};
+ghost use Rattle.exp_to_lk.specs.Taking.{step_of, IsRest, HasEnd};
 
 use crate::dividing::{Added, Divided, Premises, divide};
 use crate::instances::{Instance, instantiate};
 use crate::lists::{Rest, awaited_vars};
 use crate::placed::PlacedExp;
-use crate::sides::{Sides, without_tree};
+use crate::sides::Main;
 use arena::{Arena, RuleKey};
 use building_laws::laws;
 use free_variables::Vars;
 use std::alloc::{AllocError, Global};
 
-/// A rule, what stays of the list, and the trees that are added to that for each premise.
+/// A rule, what stays of the list, the formula that was taken out with its tree, and the trees that are added for each premise.
 #[derive(Drop)]
 pub(crate) struct Taken<'e> {
     pub rule: RuleKey,
     pub rest: Rest<'e>,
+    pub main: Option<Main>,
     pub premises: Premises<'e>,
 }
 
@@ -50,29 +50,27 @@ fn take_apart<'e>(
     arena: &mut Arena,
     alloc: Global,
     list: Vec<PlacedExp<'e>>,
-    sides: Sides,
     place: usize,
 ) -> Result<Taken<'e>, AllocError>
     requires numbers { All (IsNumbered arena.old) list.items }
-    requires sides { HasSides arena.old sides (conclusion (trees list.items)) }
     requires open_leaves { IsOpen (trees list.items) }
     requires place { position (λ q. is_some (parts q.placed)) list.items ≡ Some place }
     ensures step { IfOk result (λ t. first_step parts (trees list.entry.items) ≡ Some (step_of arena.new t)) }
     ensures rule { IfOk result (λ t. HasRuleParts arena.new t.rule) }
     ensures rest { IfOk result (λ t. IsRest arena.new t.rest) }
     ensures premises { IfOk result (λ t. ArePremisesNumbered arena.new t.premises) }
+    ensures end { IfOk result (HasEnd arena.new (trees list.entry.items)) }
     ensures grown { Extends arena.old arena.new }
 {
     let mut list = list;
     let placed = list.remove(place);
     let side = placed.side();
     let formula = placed.formula();
-    let sides = without_tree(arena, alloc, sides, &list, side, formula)?;
     let Divided { rule, premises } = divide(arena, alloc, placed)?;
-    let rest = Rest { list, place, sides };
     Ok(Taken {
         rule,
-        rest,
+        rest: Rest { list, place },
+        main: Some(Main { side, formula }),
         premises,
     })
 }
@@ -82,12 +80,10 @@ fn take_instance<'e>(
     arena: &mut Arena,
     alloc: Global,
     list: Vec<PlacedExp<'e>>,
-    sides: Sides,
     vars: &Vars,
     place: usize,
 ) -> Result<Taken<'e>, AllocError>
     requires numbers { All (IsNumbered arena.old) list.items }
-    requires sides { HasSides arena.old sides (conclusion (trees list.items)) }
     requires open_leaves { IsOpen (trees list.items) }
     requires vars { IsAsReady vars.now (set.adds_each set.empty (strongs_in_list (trees list.items))) (trees list.items) }
     requires place { position (λ q. is_some (ready_in vars.now q.placed.tree)) list.items ≡ Some place }
@@ -95,6 +91,7 @@ fn take_instance<'e>(
     ensures rule { IfOk result (λ t. HasRuleParts arena.new t.rule) }
     ensures rest { IfOk result (λ t. IsRest arena.new t.rest) }
     ensures premises { IfOk result (λ t. ArePremisesNumbered arena.new t.premises) }
+    ensures end { IfOk result (HasEnd arena.new (trees list.entry.items)) }
     ensures grown { Extends arena.old arena.new }
 {
     let mut list = list;
@@ -109,12 +106,11 @@ fn take_instance<'e>(
     } = instantiate(arena, alloc, placed, instance)?;
     list.insert(place, others)?;
     let place = place + 1;
-    let rest = Rest { list, place, sides };
-    let premises = Premises::One(Added::One(child));
     Ok(Taken {
         rule,
-        rest,
-        premises,
+        rest: Rest { list, place },
+        main: None,
+        premises: Premises::One(Added::One(child)),
     })
 }
 
@@ -124,24 +120,23 @@ pub(crate) fn take_step<'e>(
     arena: &mut Arena,
     alloc: Global,
     list: Vec<PlacedExp<'e>>,
-    sides: Sides,
 ) -> Result<Option<Taken<'e>>, AllocError>
     requires numbers { All (IsNumbered arena.old) list.items }
-    requires sides { HasSides arena.old sides (conclusion (trees list.items)) }
     requires open_leaves { IsOpen (trees list.items) }
     ensures step { IfOk result (λ o. step_at (trees list.entry.items) ≡ option_map (step_of arena.new) o) }
     ensures rule { IfOk result (λ o. IfSome o (λ t. HasRuleParts arena.new t.rule)) }
     ensures rest { IfOk result (λ o. IfSome o (λ t. IsRest arena.new t.rest)) }
     ensures premises { IfOk result (λ o. IfSome o (λ t. ArePremisesNumbered arena.new t.premises)) }
+    ensures end { IfOk result (λ o. IfSome o (HasEnd arena.new (trees list.entry.items))) }
     ensures grown { Extends arena.old arena.new }
 {
     laws::taken();
     if let Some(place) = first_compound(&list) {
-        return Ok(Some(take_apart(arena, alloc, list, sides, place)?));
+        return Ok(Some(take_apart(arena, alloc, list, place)?));
     }
     let vars = awaited_vars(alloc, &list)?;
     match first_with_instance(&list, &vars) {
-        Some(place) => { Ok(Some(take_instance(arena, alloc, list, sides, &vars, place)?)) }
+        Some(place) => { Ok(Some(take_instance(arena, alloc, list, &vars, place)?)) }
         None => Ok(None),
     }
 }

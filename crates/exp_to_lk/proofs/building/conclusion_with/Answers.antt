@@ -19,6 +19,6 @@ returns-clause-sequent c =
     let ps = trees (items_of c.args.added.now) in
     let shown : sides_at c.with_added.new.arena c.in_ok-sides.sides ≡ conclusion (put l rest.place ps) =
     sides_are _ _ _ c.in_ok-sides.ensures.sides
-    ∙ (ap (λ (e : Sequent). added_to e ps) (sides_are c.args.arena.now rest.sides (conclusion l) c.requires.rest.sides)
+    ∙ (ap (λ (e : Sequent). added_to e ps) (sides_are c.args.arena.now c.args.sides (conclusion l) c.requires.sides)
     ∙ sym (conclusion_put l rest.place ps)) in
     subst (λ (e : Sequent). IfOk c.put_sequent.result (λ n. HasSequent c.put_sequent.new.self n e)) shown c.put_sequent.ensures.sequent

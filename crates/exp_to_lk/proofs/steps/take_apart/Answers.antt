@@ -4,40 +4,22 @@ use Rattle.std.specs.Prelude.{Some, is_some}
 use Rattle.std.specs.List.{All, remove, slice_get}
 use Rattle.std.proofs.lemmas.Option.{slice_get-get_or}
 use Rattle.std.proofs.lemmas.List.Edits.{length-remove}
-use Rattle.lk_rules.specs.declared.sequent.Sequent.{Sequent}
 use Rattle.lk_rules.specs.Sequents.{adds_to}
 use Rattle.expansion_laws.specs.Expansions.{shallow}
-use Rattle.arena_cells.specs.Standing.{Extends, formula_at}
+use Rattle.arena_cells.specs.Standing.{formula_at, IsFormulaAt}
 use Rattle.arena_cells.proofs.Staying.{is_formula}
+use Rattle.arena_cells.proofs.Facts as facts
 use Rattle.building_laws.specs.Lists.{Placed, conclusion}
 use Rattle.building_laws.specs.Building.{parts, within}
 use Rattle.exp_to_lk.specs.Dividing.{divided}
 use Rattle.exp_to_lk.specs.Leaves.{IsOpen}
 use Rattle.exp_to_lk.specs.Numbered.{Numbered, trees, IsNumbered}
 use Rattle.exp_to_lk.specs.Putting.{put}
-use Rattle.exp_to_lk.specs.Sides.{HasSides}
 use Rattle.exp_to_lk.proofs.Numbers.{numbered_stay}
 use Rattle.exp_to_lk.proofs.Places.{step_there, passes_there, position_within}
 use Rattle.exp_to_lk.proofs.Puts.{all_removed, map_removed}
-use Rattle.exp_to_lk.proofs.SideNumbers.{sides_stay}
 use Rattle.exp_to_lk.proofs.Takings.{tree_there, position_of_tree, numbered_at, compound_unused, open_without, conclusion_without}
 use Rattle.exp_to_lk.proofs.steps.take_apart.Goals as goal
-
-pub without_tree-requires-clause-sides : goal.without_tree-requires-clause-sides
-without_tree-requires-clause-sides c =
-    let a = c.args.arena.now in
-    let l = c.args.list.items in
-    let n = c.args.place in
-    let q = c.remove-placed.result in
-    let test = λ (q : Numbered). is_some (parts q.placed) in
-    let inside : n < length l = position_within test l n c.requires.place in
-    let there : slice_get l n ≡ Some q = slice_get-get_or l n q inside ∙ ap Some (sym c.remove-placed.ensures.value) in
-    let number = numbered_at a l n q inside c.requires.numbers there in
-    let rest : remove l n ≡ c.deref.result.now = sym c.remove-placed.ensures.items ∙ sym c.deref.ensures.value in
-    let formula : shallow q.placed.tree ≡ formula_at a c.formula-formula.result = sym (is_formula a q.formula (shallow q.placed.tree) number) ∙ ap (formula_at a) (sym c.formula-formula.ensures) in
-    subst (λ (e : Sequent). HasSides a c.args.sides e)
-    (conclusion_without l n q there ∙ (λ i. adds_to (conclusion (trees (rest i))) (sym c.side-side.ensures i) (formula i)))
-    c.requires.sides
 
 pub divide-requires-clause-number : goal.divide-requires-clause-number
 divide-requires-clause-number c =
@@ -47,7 +29,7 @@ divide-requires-clause-number c =
     let test = λ (q : Numbered). is_some (parts q.placed) in
     let inside : n < length l = position_within test l n c.requires.place in
     let there : slice_get l n ≡ Some q = slice_get-get_or l n q inside ∙ ap Some (sym c.remove-placed.ensures.value) in
-    c.without_tree.ensures.grown _ _ (numbered_at c.args.arena.now l n q inside c.requires.numbers there)
+    numbered_at c.args.arena.now l n q inside c.requires.numbers there
 
 pub divide-requires-clause-compound : goal.divide-requires-clause-compound
 divide-requires-clause-compound c =
@@ -82,14 +64,28 @@ returns-clause-rest c =
     let test = λ (q : Numbered). is_some (parts q.placed) in
     let inside : n < length l = position_within test l n c.requires.place in
     let there : slice_get l n ≡ Some q = slice_get-get_or l n q inside ∙ ap Some (sym c.remove-placed.ensures.value) in
-    let grown : Extends a b = λ m t h. c.divide.ensures.grown m t (c.without_tree.ensures.grown m t h) in
     let rest : remove l n ≡ c.remove-placed.new.self.items = sym c.remove-placed.ensures.items in
     let compound = passes_there test l n q c.requires.place there in
     let shorter : length (remove l n) + 1 ≡ length l = length-remove l n inside in
     let lengths : length (remove l n) ≡ length c.remove-placed.new.self.items = ap length rest in
     record {
-      numbers = subst (λ (ps : List Numbered). All (IsNumbered b) ps) rest (all_removed (IsNumbered b) l n (numbered_stay a b l grown c.requires.numbers));
+      numbers = subst (λ (ps : List Numbered). All (IsNumbered b) ps) rest (all_removed (IsNumbered b) l n (numbered_stay a b l c.divide.ensures.grown c.requires.numbers));
       place = omega arith;
-      sides = subst (λ (e : Sequent). HasSides b c.in_ok-sides.sides e) (ap (λ (ps : List Numbered). conclusion (trees ps)) c.deref.ensures.value) (sides_stay _ b c.in_ok-sides.sides _ c.divide.ensures.grown c.in_ok-sides.ensures.sides);
       open_leaves = subst (λ (ps : List Numbered). IsOpen (trees ps)) rest (open_without l n q there (compound_unused q.placed compound) c.requires.open_leaves);
+    }
+
+pub returns-clause-end : goal.returns-clause-end
+returns-clause-end c =
+    let b = c.divide.new.arena in
+    let l = c.args.list.items in
+    let n = c.args.place in
+    let q = c.remove-placed.result in
+    let test = λ (q : Numbered). is_some (parts q.placed) in
+    let inside : n < length l = position_within test l n c.requires.place in
+    let there : slice_get l n ≡ Some q = slice_get-get_or l n q inside ∙ ap Some (sym c.remove-placed.ensures.value) in
+    let number = c.divide.ensures.grown _ _ (numbered_at c.args.arena.now l n q inside c.requires.numbers there) in
+    let formula : shallow q.placed.tree ≡ formula_at b c.formula-formula.result = sym (is_formula b q.formula (shallow q.placed.tree) number) ∙ ap (formula_at b) (sym c.formula-formula.ensures) in
+    record {
+      main = subst (λ m. IsFormulaAt b m) (sym c.formula-formula.ensures) (facts.formula_there b q.formula _ number);
+      end = conclusion_without l n q there ∙ (λ i. adds_to (conclusion (trees (sym c.remove-placed.ensures.items i))) (sym c.side-side.ensures i) (formula i));
     }

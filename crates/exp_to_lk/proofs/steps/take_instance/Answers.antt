@@ -6,7 +6,6 @@ use Rattle.std.proofs.lemmas.Grind.{common_steps}
 use Rattle.std.proofs.lemmas.Option.{slice_get-get_or}
 use Rattle.std.proofs.lemmas.List.Edits.{length-remove}
 use Rattle.std.proofs.lemmas.List.Elements.{All-cons}
-use Rattle.lk_rules.specs.declared.sequent.Sequent.{Sequent}
 use Rattle.building_laws.specs.Lists.{Placed, strongs_in_list, conclusion}
 use Rattle.building_laws.specs.Building.{instance_at}
 use Rattle.exp_to_lk.specs.Choosing.{ready_in}
@@ -14,12 +13,10 @@ use Rattle.exp_to_lk.specs.Instances.{taken_as}
 use Rattle.exp_to_lk.specs.Leaves.{IsOpen}
 use Rattle.exp_to_lk.specs.Numbered.{Numbered, trees, IsNumbered}
 use Rattle.exp_to_lk.specs.Putting.{put}
-use Rattle.exp_to_lk.specs.Sides.{HasSides}
 use Rattle.exp_to_lk.proofs.Chosen.{step_at_place, instance_placed, position_alike, ready_there}
 use Rattle.exp_to_lk.proofs.Numbers.{numbered_stay}
 use Rattle.exp_to_lk.proofs.Places.{step_there, passes_there, position_within}
 use Rattle.exp_to_lk.proofs.Puts.{all_put, all_removed}
-use Rattle.exp_to_lk.proofs.SideNumbers.{sides_stay}
 use Rattle.exp_to_lk.proofs.Takings.{tree_there, position_of_tree, numbered_at, numbered_instead, open_instead, conclusion_instead, behind_instead}
 use Rattle.exp_to_lk.proofs.steps.take_instance.Goals as goal
 
@@ -81,8 +78,20 @@ returns-clause-rest c =
           subst (λ (ps : List Numbered). All (IsNumbered b) ps) rest
           (all_put (IsNumbered b) (remove l n) n (i.others ∷ []) (all_removed (IsNumbered b) l n (numbered_stay a b l c.instantiate.ensures.grown c.requires.numbers)) (All-cons (IsNumbered b) i.others [] number (search rules)));
       place = grind (arith, common_steps, c.in_ok-insert.ensures.len);
-      sides =
-          subst (λ (e : Sequent). HasSides b c.args.sides e) (conclusion_instead l n q there i.others c.in_ok-rule.ensures.others ∙ ap (λ (ps : List Numbered). conclusion (trees ps)) rest)
-          (sides_stay a b c.args.sides _ c.instantiate.ensures.grown c.requires.sides);
       open_leaves = subst (λ (ps : List Numbered). IsOpen (trees ps)) rest (open_instead l n q there i.others c.in_ok-rule.ensures.others c.requires.open_leaves);
+    }
+
+pub returns-clause-end : goal.returns-clause-end
+returns-clause-end c =
+    let l = c.args.list.items in
+    let n = c.args.place in
+    let q = c.remove-placed.result in
+    let i = c.in_ok-rule.field-0 in
+    let test = λ (q : Numbered). is_some (ready_in c.args.vars.now q.placed.tree) in
+    let there : slice_get l n ≡ Some q = slice_get-get_or l n q (position_within test l n c.requires.place) ∙ ap Some (sym c.remove-placed.ensures.value) in
+    let rest : put (remove l n) n (i.others ∷ []) ≡ c.insert.new.self.items =
+    (λ k. put (sym c.remove-placed.ensures.items k) n (i.others ∷ [])) ∙ sym c.in_ok-insert.ensures.items in
+    record {
+      main = search rules;
+      end = conclusion_instead l n q there i.others c.in_ok-rule.ensures.others ∙ ap (λ (ps : List Numbered). conclusion (trees ps)) rest;
     }
