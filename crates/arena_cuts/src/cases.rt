@@ -126,16 +126,9 @@ fn proves(arena: &Arena, proof: u32, larger: u32, first: Side) -> bool
     requires larger { IsSequentAt arena.now larger }
     ensures { result ≡ is_subsequent (concl (tree_at arena.now proof)) (sequent_at arena.now larger) }
 {
-    let (left, right) = arena.sides(end(arena, proof));
-    let (larger_left, larger_right) = arena.sides(larger);
-    match first {
-        Side::Left => {
-            arena.is_side_within(left, larger_left) && arena.is_side_within(right, larger_right)
-        }
-        Side::Right => {
-            arena.is_side_within(right, larger_right) && arena.is_side_within(left, larger_left)
-        }
-    }
+    let end = end(arena, proof);
+    arena.is_side_within(arena.side(end, first), arena.side(larger, first))
+        && arena.is_subsequent(end, larger)
 }
 
 /// The case of a cut.
