@@ -5,7 +5,7 @@ use Rattle.std.proofs.lemmas.Bool.{cases_lt}
 use Rattle.std.proofs.lemmas.List.{get_or-map, get_or_default, length-map, take_more}
 use Rattle.std.proofs.lemmas.List.Elements.{Contains-push}
 use mathlib.Core.List.{IsPrefix}
-use Rattle.turn_log.proofs.Prefixes.{prefix_trans, prefix_contains}
+use Rattle.turn_log.proofs.Prefixes.{prefix_contains}
 use Rattle.proof_graph.specs.declared.node.Node.{Node}
 use Rattle.proof_graph.specs.References.{Reference, key_of, numbers_of}
 use Rattle.proof_graph.specs.History.{IsLegal, StandsAt, AddsAtMost}
@@ -48,17 +48,9 @@ known_number old new key m n legal grown there before =
     let same : there.0 ≡ before.0 = one_entry new there.0 before.0 legal (there.2 ∙ sym before.2) there.1 (prefix_contains old new before.0 grown before.1) in
     sym there.3 ∙ ap (λ (r : Reference). r.number) same ∙ before.3
 
--- a key that was found
-pub found_adds : (old new : List Reference) (key : Node) (r : Reference) → key_of r ≡ key → Contains new r → IsPrefix old new → AddsAtMost old key r new
-found_adds old new key r is there grown = (new, grown, inl (stands_there new key r is there, refl))
-
 -- a key stands at the number of its reference, whether it was added or stood there
 pub stands_after : (old new : List Reference) (key : Node) (r : Reference) → key_of r ≡ key → AddsAtMost old key r new → StandsAt new key r.number
 stands_after old new key r is adds = elim adds.2 [
   | inl known ↦ subst (λ (h : List Reference). StandsAt h key r.number) (sym known.1) known.0
   | inr added ↦ stands_there new key r is (subst (λ (h : List Reference). Contains h r) (sym added.1) (Contains-push adds.0 r))
 ]
-
--- what is added after an earlier history is added after one that begins it
-pub adds_later : (old later new : List Reference) (key : Node) (r : Reference) → IsPrefix old later → AddsAtMost later key r new → AddsAtMost old key r new
-adds_later old later new key r grown adds = (adds.0, prefix_trans old later adds.0 grown adds.1, adds.2)

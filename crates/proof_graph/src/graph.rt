@@ -14,7 +14,8 @@ ghost use Rattle.proof_graph.specs.History.{IsLegal, StandsAt, AddsAtMost};
 ghost use Rattle.proof_graph.specs.Unique.{legal_prop};
 ghost use Rattle.proof_graph.specs.Drafts.{IsDraftOf};
 
-use crate::index::{Index, see_trees};
+use crate::boxed::BoxedIndex;
+use crate::index::see_trees;
 use crate::key::Key;
 use crate::node::Node;
 use crate::reference::{Draft, ProofRef};
@@ -28,15 +29,15 @@ use turn_log::{Pass, TurnLog};
 /// each puts nodes in by a pass of its own. It can't be dropped, and is ended by `close`.
 pub struct Graph {
     nodes: Nodes,
-    index: TurnLog<Index>,
+    index: TurnLog<BoxedIndex>,
     // The references of the index are of this graph.
-    ghost home: { (opening index).home ≡ nodes } by { Coded-set shelves_coded _ _ },
+    ghost home: { (opening index).index.value.home ≡ nodes } by { Coded-set shelves_coded _ _ },
 }
 
 /// What a thread needs to put nodes into a graph. It has seen a beginning of the graph's history.
 #[derive(Drop)]
 pub struct GraphPass {
-    pass: Pass<Index>,
+    pass: Pass<BoxedIndex>,
     ghost legal: { IsLegal (seen pass) } by { legal_prop _ },
 }
 
@@ -58,16 +59,15 @@ impl Graph {
         ensures history { IfOk result (λ made. history made.1 ≡ []) }
     {
         let nodes = boxcar::Vec::new(alloc)?;
-        let index = Index::new(alloc, &nodes);
-        index.known();
+        let index = BoxedIndex::new(alloc, &nodes)?;
+        index.index.known();
         let (index, pass) = TurnLog::new(alloc, index)?;
         Ok((Graph { nodes, index }, GraphPass { pass }))
     }
 
     /// The reference of the tree whose last inference has this rule and this end sequent over the trees of the premises. Its key is the
-    /// rule, the end sequent and the numbers of the premises. A key that is there keeps its number, whoever interned it, and takes one
-    /// short turn with one look-up by its hash. A new one takes another turn, in which it is looked for once more: between the two
-    /// another thread may have interned it.
+    /// rule, the end sequent and the numbers of the premises. A key that is there keeps its number, whoever interned it. All that can be
+    /// made before is made before the one short turn, in which the key is looked for by its hash, and put in where it isn't there.
     pub fn intern<R: Wait>(
         &self,
         rt: &R,
@@ -94,32 +94,10 @@ impl Graph {
             premises: numbers_of_all(alloc, premises)?,
         };
         let key = Key::new(alloc, root)?;
-        if let Some(found) = self.look_up(rt, pass, &key)? {
-            see_trees(&self.nodes, &found, premises);
-            return Ok(found);
-        }
         let draft = Draft::new(alloc, &key, premises)?;
         let made = self.add(rt, alloc, pass, key, draft)?;
         see_trees(&self.nodes, &made, premises);
         Ok(made)
-    }
-
-    // The reference whose key this is, looked for in a turn.
-    fn look_up<R: Wait>(
-        &self,
-        rt: &R,
-        pass: &mut GraphPass,
-        key: &Key,
-    ) -> Result<Option<ProofRef>, AllocError>
-        requires pass_of { IsPassOf self.now pass.old }
-        ensures found { IfOk result (λ o. IfSome o (λ r. (key_of r ≡ key.now) × Contains (history pass.new) r × IsOf self.now r)) }
-        ensures grown { IsPrefix (history pass.old) (history pass.new) }
-        ensures pass_stays { IsPassOf self.now pass.new }
-    {
-        let turn = self.index.take(rt, &mut pass.pass);
-        let found = turn.value().look_up(key);
-        self.index.give(&mut pass.pass, turn);
-        found
     }
 
     // The reference of a key, which is added in a turn where it isn't there.
@@ -140,7 +118,10 @@ impl Graph {
         ensures pass_stays { IsPassOf self.now pass.new }
     {
         let mut turn = self.index.take(rt, &mut pass.pass);
-        let made = turn.value_mut().intern(rt, alloc, &self.nodes, key, draft);
+        let made = turn
+            .value_mut()
+            .index
+            .intern(rt, alloc, &self.nodes, key, draft);
         self.index.give(&mut pass.pass, turn);
         made
     }

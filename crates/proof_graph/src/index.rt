@@ -1,5 +1,5 @@
 //! The index of a graph: which key stands at which number.
-ghost use Rattle.std.specs.Prelude.{◌≡◌, ◌≢◌, ◌++◌, ◌∷◌, [], IfOk, OnOk, OnErr, IfSome, IsNone};
+ghost use Rattle.std.specs.Prelude.{◌≡◌, ◌≢◌, ◌<◌, ◌^◌, ◌++◌, ◌∷◌, [], length, IfOk, OnOk, OnErr, IfSome, IsNone};
 ghost use Rattle.std.specs.List.{All, Contains};
 ghost use mathlib.Core.List.{IsPrefix};
 ghost use Rattle.proof_trees.specs.Trees.{below};
@@ -16,7 +16,6 @@ use std::collections::HashMap;
 use std::marker::Model;
 use std::snapshot::Snapshot;
 use std::sync::Wait;
-use turn_log::Grows;
 
 /// The references of a graph in the order in which they were interned, and for the key of each its place.
 #[derive(Drop)]
@@ -42,22 +41,6 @@ impl Model for Index {
     ghost invariant = { IsIndexed };
 }
 
-impl Grows for Index {
-    ghost use Rattle.boxcar.specs.Table.{Shelves};
-
-    type Entry = ProofRef;
-
-    ghost Home = { Shelves };
-
-    ghost entries = { λ i. i.history };
-
-    ghost home = { λ i. i.home };
-
-    fn count(&self) -> u64 {
-        self.refs.len() as u64
-    }
-}
-
 impl Index {
     /// An index with no entry.
     pub fn new(alloc: Global, nodes: &Nodes) -> Index
@@ -70,6 +53,14 @@ impl Index {
             places: HashMap::with_hasher(alloc, ByNumber),
             top: 0,
         }
+    }
+
+    /// How many entries there are.
+    pub fn count(&self) -> u64
+        ensures length { result ≡ length self.now.history }
+        ensures bound { result < 2 ^ 63 }
+    {
+        self.refs.len() as u64
     }
 
     /// A history is legal.

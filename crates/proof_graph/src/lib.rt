@@ -1,6 +1,7 @@
 //! Proofs as shared trees: each node stands once, and a reference to it means a valid tree. Threads share a graph of them.
 #![tactic(auto)]
 
+mod boxed;
 mod counts;
 mod graph;
 mod index;

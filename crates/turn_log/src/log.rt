@@ -8,9 +8,13 @@ use crate::rule::{Both, Claim, Look, Ruled, Same, Settle, View};
 use crate::turn::Turn;
 use atomic_table::{Refused, Seat, Table};
 use std::alloc::{AllocError, Global};
+use std::hint::spin_loop;
 use std::snapshot::Snapshot;
 use std::sync::Wait;
 use std::thread::yield_now;
+
+// How often a pass that waits for its turn looks again before it lets another thread run. Most turns take less time than that.
+const MOST_LOOKS: u64 = 100;
 
 /// A value that threads change in turns. It can't be dropped: it is ended by `close`.
 pub struct TurnLog<T: Grows> {
@@ -82,11 +86,18 @@ impl<T: Grows> TurnLog<T> {
         ensures seen { seen pass.new ≡ T.entries (value_in result) }
         ensures grown { IsPrefix (seen pass.old) (seen pass.new) }
     {
+        let mut looks = 0u64;
         for _ in rt.forever() {
             if let Some(turn) = self.try_take(pass) {
                 return turn;
             }
-            yield_now();
+            if looks < MOST_LOOKS {
+                looks += 1;
+                spin_loop();
+            } else {
+                looks = 0;
+                yield_now();
+            }
         }
         unreachable!()
     }
