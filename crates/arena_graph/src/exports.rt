@@ -1,10 +1,9 @@
 //! Trees that go from an arena into a graph.
 ghost use Rattle.std.specs.Prelude.{◌≡◌, ◌∷◌, [], IfOk};
 ghost use Rattle.std.specs.List.{All};
-ghost use mathlib.Core.List.{IsPrefix};
 ghost use Rattle.proof_trees.specs.Trees.{below, IsValid, AllValid};
 ghost use Rattle.proof_graph.specs.References.{trees_of};
-ghost use Rattle.proof_graph.specs.Graphs.{IsOf, IsPassOf, history};
+ghost use Rattle.proof_graph.specs.Graphs.{IsOf, IsPassOf, Makes, Extends};
 ghost use Rattle.arena_cells.specs.Standing.{sequent_at, tree_at, IsSequentAt, IsTreeAt};
 ghost use Rattle.arena_cells.specs.Meaning.{trees_at, HasPremises, ArePartsBelow};
 ghost use Rattle.proof_trees.specs.Conclusions.{IsFormedSequent, HasFormedEnd, HaveFormedEnds};
@@ -77,10 +76,8 @@ fn export_over<R: Wait>(
     requires formed { HasFormedEnd (tree_at arena.now proof) }
     requires premises_of { All (IsOf graph.now) premises.now }
     requires trees { trees_of premises.now ≡ below (tree_at arena.now proof) }
-    ensures tree { IfOk result (λ r. r.tree ≡ tree_at arena.now proof) }
-    ensures of { IfOk result (IsOf graph.now) }
-    ensures grown { IsPrefix (history pass.old) (history pass.new) }
-    ensures pass_stays { IsPassOf graph.now pass.new }
+    ensures made { IfOk result (Makes graph.now (tree_at arena.now proof)) }
+    ensures extends { Extends graph.now pass.old pass.new }
     ensures numbers_stay { AreNumbersOf graph.now arena.now numbers.new }
 {
     let rule = export_rule(arena, rule(arena, proof))?;
@@ -105,10 +102,8 @@ fn export_new<R: Wait>(
     requires there { IsTreeAt arena.now proof }
     requires valid { IsValid (tree_at arena.now proof) }
     requires formed { HasFormedEnd (tree_at arena.now proof) }
-    ensures tree { IfOk result (λ r. r.tree ≡ tree_at arena.now proof) }
-    ensures of { IfOk result (IsOf graph.now) }
-    ensures grown { IsPrefix (history pass.old) (history pass.new) }
-    ensures pass_stays { IsPassOf graph.now pass.new }
+    ensures made { IfOk result (Makes graph.now (tree_at arena.now proof)) }
+    ensures extends { Extends graph.now pass.old pass.new }
     ensures numbers_stay { AreNumbersOf graph.now arena.now numbers.new }
 {
     let parts = premises(arena, proof);
@@ -136,8 +131,7 @@ fn export_below<R: Wait>(
     requires formed { HaveFormedEnds (trees_at arena.now premises) }
     ensures trees { IfOk result (λ made. trees_of made.items ≡ trees_at arena.now premises) }
     ensures of { IfOk result (λ made. All (IsOf graph.now) made.items) }
-    ensures grown { IsPrefix (history pass.old) (history pass.new) }
-    ensures pass_stays { IsPassOf graph.now pass.new }
+    ensures extends { Extends graph.now pass.old pass.new }
     ensures numbers_stay { AreNumbersOf graph.now arena.now numbers.new }
 {
     let _above = above;
@@ -171,10 +165,8 @@ fn export_tree<R: Wait>(
     requires there { IsTreeAt arena.now proof }
     requires valid { IsValid (tree_at arena.now proof) }
     requires formed { HasFormedEnd (tree_at arena.now proof) }
-    ensures tree { IfOk result (λ r. r.tree ≡ tree_at arena.now proof) }
-    ensures of { IfOk result (IsOf graph.now) }
-    ensures grown { IsPrefix (history pass.old) (history pass.new) }
-    ensures pass_stays { IsPassOf graph.now pass.new }
+    ensures made { IfOk result (Makes graph.now (tree_at arena.now proof)) }
+    ensures extends { Extends graph.now pass.old pass.new }
     ensures numbers_stay { AreNumbersOf graph.now arena.now numbers.new }
 {
     if let Some(known) = numbers.proof(graph, arena, proof) {
@@ -202,10 +194,8 @@ pub fn export_proof<R: Wait>(
     requires there { IsTreeAt arena.now proof }
     requires valid { IsValid (tree_at arena.now proof) }
     requires formed { HasFormedEnd (tree_at arena.now proof) }
-    ensures tree { IfOk result (λ r. r.tree ≡ tree_at arena.now proof) }
-    ensures of { IfOk result (IsOf graph.now) }
-    ensures grown { IsPrefix (history pass.old) (history pass.new) }
-    ensures pass_stays { IsPassOf graph.now pass.new }
+    ensures made { IfOk result (Makes graph.now (tree_at arena.now proof)) }
+    ensures extends { Extends graph.now pass.old pass.new }
     ensures numbers_stay { AreNumbersOf graph.now arena.now numbers.new }
 {
     let hints = numbers.take_hints(alloc, graph, arena);

@@ -26,9 +26,9 @@ pub fn see_formed(end: &Sequent)
 
 // The number of a proof's tree, whose premises are in the arena.
 fn import_over(
-    arena: &mut Arena,
     alloc: Global,
     graph: &Graph,
+    arena: &mut Arena,
     proof: &ProofRef,
     premises: Parts,
 ) -> Result<u32, AllocError>
@@ -47,9 +47,9 @@ fn import_over(
 // The numbers of the premises' trees.
 #[cycle(import)]
 fn import_below(
-    arena: &mut Arena,
     alloc: Global,
     graph: &Graph,
+    arena: &mut Arena,
     numbers: &mut ProofNumbers,
     premises: &[ProofRef],
 ) -> Result<Parts, AllocError>
@@ -64,12 +64,12 @@ fn import_below(
     match premises {
         [] => Ok(Parts::Zero),
         [only] => {
-            let only = import_proof(arena, alloc, graph, numbers, only)?;
+            let only = import_proof(alloc, graph, arena, numbers, only)?;
             Ok(Parts::One(only))
         }
         [first, second] => {
-            let first = import_proof(arena, alloc, graph, numbers, first)?;
-            let second = import_proof(arena, alloc, graph, numbers, second)?;
+            let first = import_proof(alloc, graph, arena, numbers, first)?;
+            let second = import_proof(alloc, graph, arena, numbers, second)?;
             Ok(Parts::Two(first, second))
         }
         _ => unreachable!(),
@@ -79,9 +79,9 @@ fn import_below(
 // The number of a proof's tree that isn't known.
 #[cycle(import)]
 fn import_new(
-    arena: &mut Arena,
     alloc: Global,
     graph: &Graph,
+    arena: &mut Arena,
     numbers: &mut ProofNumbers,
     proof: &ProofRef,
 ) -> Result<u32, AllocError>
@@ -93,17 +93,17 @@ fn import_new(
     ensures numbers_stay { AreNumbersOf graph.now arena.new numbers.new }
 {
     proof.known();
-    let premises = import_below(arena, alloc, graph, numbers, proof.premises())?;
-    import_over(arena, alloc, graph, proof, premises)
+    let premises = import_below(alloc, graph, arena, numbers, proof.premises())?;
+    import_over(alloc, graph, arena, proof, premises)
 }
 
 /// The number of a proof's tree in the arena. A proof that is known costs one look-up by its number. Else each distinct node of it that
 /// isn't known is put, beside what its sequent and its rule cost: formulas that came in before are found by one look-up each.
 #[cycle(import)]
 pub fn import_proof(
-    arena: &mut Arena,
     alloc: Global,
     graph: &Graph,
+    arena: &mut Arena,
     numbers: &mut ProofNumbers,
     proof: &ProofRef,
 ) -> Result<u32, AllocError>
@@ -117,7 +117,7 @@ pub fn import_proof(
     if let Some(number) = numbers.number(graph, arena, proof) {
         return Ok(number);
     }
-    let number = import_new(arena, alloc, graph, numbers, proof)?;
+    let number = import_new(alloc, graph, arena, numbers, proof)?;
     numbers.note(graph, arena, proof, number)?;
     Ok(number)
 }

@@ -1,13 +1,12 @@
 //! The contraction of a cut.
 ghost use Rattle.std.specs.Prelude.{◌≡◌, ◌+◌, IfOk};
-ghost use mathlib.Core.List.{IsPrefix};
 ghost use Rattle.fol.specs.Syntax.{Formula as Sentence};
 ghost use Rattle.lk_rules.specs.declared.sequent.Sequent.{Sequent as Conclusion};
 ghost use Rattle.proof_trees.specs.Trees.{Tree as Proof, concl, IsValid};
-ghost use Rattle.proof_graph.specs.Graphs.{IsOf, history};
-ghost use Rattle.proof_subst.specs.Benches.{graph_of, pass_in, images_in, arena_in, IsBenchPassOf};
+ghost use Rattle.proof_graph.specs.Graphs.{IsOf};
+ghost use Rattle.proof_subst.specs.Benches.{graph_of, pass_in, images_in, arena_in, IsBenchPassOf, Extends};
 ghost use Rattle.cut_laws.specs.Contraction.{cut as cut_tree, con};
-ghost use Rattle.arena_cells.specs.Standing.{Extends, HasTree, tree_at, IsTreeAt};
+ghost use Rattle.arena_cells.specs.Standing.{Extends as ExtendsArena, HasTree, tree_at, IsTreeAt};
 ghost use Rattle.proof_trees.specs.Conclusions.{HasFormedEnd};
 ghost use Rattle.cut_contract.specs.LowestCuts.{IsLowestCut, contracted};
 
@@ -27,7 +26,7 @@ fn contract_number(arena: &mut Arena, alloc: Global, cut: u32) -> Result<u32, Al
     requires valid { IsValid (tree_at arena.old cut) }
     requires cut { IsLowestCut (tree_at arena.old cut) }
     ensures tree { IfOk result (λ n. HasTree arena.new n (contracted (tree_at arena.old cut))) }
-    ensures grown { Extends arena.old arena.new }
+    ensures grown { ExtendsArena arena.old arena.new }
 {
     let RuleKey::Cut(formula) = rule(arena, cut) else {
         unreachable!()
@@ -77,9 +76,8 @@ pub fn contract<R: Wait, L: Ledger>(
     ensures tree { IfOk result (λ made. (s : Conclusion) (a : Sentence) (l r : Proof) → proof.now.tree ≡ cut_tree s a l r → made.tree ≡ con s a l r) }
     ensures end { IfOk result (λ made. concl made.tree ≡ concl proof.now.tree) }
     ensures of { IfOk result (IsOf (graph_of bench.now)) }
-    ensures grown { IsPrefix (history (pass_in pass.old)) (history (pass_in pass.new)) }
     ensures images_stay { images_in pass.new ≡ images_in pass.old }
-    ensures pass_stays { IsBenchPassOf bench.now pass.new }
+    ensures extends { Extends bench.now pass.old pass.new }
     ensures counted { steps.new ≡ steps.old + 1 }
 {
     steps.tick();

@@ -1,6 +1,7 @@
--- The parts of a desk, and which passes belong to it.
+-- The parts of a desk, which passes belong to it, and what calls do to a pass.
 use Rattle.std.specs.Prelude.{ℕ, List}
 use Rattle.std.specs.Ordering.{nat_cmp}
+use mathlib.Core.List.{IsPrefix}
 use Rattle.turn_log.specs.Passes.{seen}
 use Rattle.memo_table.specs.declared.rows.Pair.{Pair}
 use Rattle.memo_table.specs.Pairs.{IsIn}
@@ -38,3 +39,7 @@ HasElimination p n = IsIn nat_cmp (eliminations_in p) n
 pub record IsDeskPassOf (d : Desk) (p : DeskPass) : Type 0 where
   pub bench : IsBenchPassOf (bench_of d) (pass_in p)
   pub eliminations : memo.IsPassOf d.eliminations p.eliminations
+
+-- what a call does to a pass of the desk: it is one after the call, and has seen at least what it had seen of the graph's history
+abbrev pub Extends : Desk → DeskPass → DeskPass → Type 0
+Extends d old new = IsDeskPassOf d new × IsPrefix (history_in old) (history_in new)

@@ -3,11 +3,11 @@ ghost use Rattle.std.specs.Prelude.{◌≡◌, ◌+◌, ◌≤◌, Some, None, I
 ghost use mathlib.Core.List.{IsPrefix};
 ghost use Rattle.proof_trees.specs.Trees.{concl, IsCutFree, IsValid};
 ghost use Rattle.proof_graph.specs.Graphs.{IsOf, history};
-ghost use Rattle.proof_subst.specs.Benches.{graph_of, pass_in, images_in, arena_in, IsBenchPassOf};
+ghost use Rattle.proof_subst.specs.Benches.{graph_of, pass_in, images_in, arena_in, IsBenchPassOf, Extends};
 ghost use Rattle.cut_laws.specs.Elimination.{elimination};
 ghost use Rattle.arena_cells.specs.Standing.{tree_at, IsTreeAt};
 ghost use Rattle.proof_trees.specs.Conclusions.{HasFormedEnd};
-ghost use Rattle.cut_elim.specs.Desks.{bench_of, pass_in as bench_pass_in, eliminations_in, HasElimination, IsDeskPassOf};
+ghost use Rattle.cut_elim.specs.Desks.{bench_of, pass_in as bench_pass_in, eliminations_in, HasElimination, IsDeskPassOf, Extends as ExtendsDesk};
 ghost use Rattle.cut_elim.specs.Eliminations.{IsReduced};
 
 use crate::desk::{Desk, DeskPass};
@@ -70,9 +70,8 @@ fn compute<R: Wait, L: Ledger>(
     ensures ok { IfOk result (λ made. elimination proof.now.tree budget ≡ Some (made.proof.tree, made.reductions)) }
     ensures budget { result ≡ Err ElimFault.Budget → elimination proof.now.tree budget ≡ None }
     ensures unchanged { result ≡ Err ElimFault.Budget → history (pass_in pass.new) ≡ history (pass_in pass.old) }
-    ensures grown { IsPrefix (history (pass_in pass.old)) (history (pass_in pass.new)) }
     ensures images_stay { images_in pass.new ≡ images_in pass.old }
-    ensures pass_stays { IsBenchPassOf bench.now pass.new }
+    ensures extends { Extends bench.now pass.old pass.new }
     ensures counted_ok { IfOk result (λ made. steps.new ≤ steps.old + made.reductions) }
     ensures counted { steps.new ≤ steps.old + budget }
 {
@@ -138,10 +137,9 @@ pub fn eliminate<R: Wait, L: Ledger>(
     ensures end { IfOk result (λ made. concl made.proof.tree ≡ concl proof.now.tree) }
     ensures noted { IfOk result (λ _. HasElimination pass.new proof.now.number) }
     ensures unchanged { result ≡ Err ElimFault.Budget → history (pass_in (bench_pass_in pass.new)) ≡ history (pass_in (bench_pass_in pass.old)) }
-    ensures grown { IsPrefix (history (pass_in (bench_pass_in pass.old))) (history (pass_in (bench_pass_in pass.new))) }
     ensures images_stay { images_in (bench_pass_in pass.new) ≡ images_in (bench_pass_in pass.old) }
     ensures eliminations_grown { IsPrefix (eliminations_in pass.old) (eliminations_in pass.new) }
-    ensures pass_stays { IsDeskPassOf desk.now pass.new }
+    ensures extends { ExtendsDesk desk.now pass.old pass.new }
     ensures counted_ok { IfOk result (λ made. steps.new ≤ steps.old + made.reductions) }
     ensures counted { steps.new ≤ steps.old + budget }
     ensures free { HasElimination pass.old proof.now.number → steps.new ≡ steps.old }

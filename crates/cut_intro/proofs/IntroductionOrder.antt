@@ -19,7 +19,7 @@ use Rattle.cut_intro.specs.declared.introduction.Introduced.{Introduced}
 use Rattle.cut_intro.specs.declared.introduction.Introduced.TheVariants.{Shorter, Same}
 use Rattle.cut_intro.specs.Faults.{intro_fault}
 use Rattle.cut_intro.specs.Instancing.{instancing, HasInstances}
-use Rattle.cut_intro.specs.Performing.{Makes, IsShortOfOne}
+use Rattle.cut_intro.specs.Performing.{Performs, IsShortOfOne}
 use Rattle.cut_intro.specs.Introducing.{Answer, shorter, same, if_found, by_searches, with_candidate, by_candidate, by_items, from_instances, introducing, Introduces}
 
 not_above : (n m : ℕ) → m ≤ n → nat_lt n m ≡ false
@@ -102,10 +102,10 @@ module _ (width : ℕ) (t : Tree) (n : ℕ) where
               searched ∙ (λ i. if not_above n (visits first) h i || not_above n (visits second) k i then Err fault.Budget else Ok (if_found (e i)))
 
           -- what is made is what is answered
-          pub made_shorter : (r : Reference) → Makes (Ok r) n first second made → introducing width t n ≡ Ok (shorter r.tree)
+          pub made_shorter : (r : Reference) → Performs (Ok r) n first second made → introducing width t n ≡ Ok (shorter r.tree)
           made_shorter r h = found_proof r.tree h.0 h.1 h.2
 
-          pub made_fault : (f : IntroFault) → Makes (Err f) n first second made → Introduces (Err f) (introducing width t n)
+          pub made_fault : (f : IntroFault) → Performs (Err f) n first second made → Introduces (Err f) (introducing width t n)
           made_fault fault.Budget h = budget h
           made_fault fault.Memory h = tt
           made_fault (fault.Cut k) h = absurd h

@@ -24,7 +24,7 @@ use Rattle.herbrand_laws.proofs.NewProof.{left_found, right_found, introduced_wi
 use Rattle.cut_intro.specs.declared.fault.IntroFault.{IntroFault}
 use Rattle.cut_intro.specs.declared.performing.Cutting.{Cutting}
 use Rattle.cut_intro.specs.Branches.{inferences, over_each, AreInferences, AreUsable}
-use Rattle.cut_intro.specs.Performing.{tree_with, performed, IsReady, Makes}
+use Rattle.cut_intro.specs.Performing.{tree_with, performed, IsReady, Performs}
 use Rattle.cut_intro.specs.Cuttings.{IsCuttingFor}
 use Rattle.cut_intro.specs.Instancing.{AreInstancesFor}
 use Rattle.cut_intro.proofs.BranchSteps.{over_inferences, end_over, right_inferences}
@@ -90,15 +90,15 @@ module _ (width : ℕ) (s : Sequent) (items : List Item) (w : TermSet) (c : Cutt
   pub performed_is : performed s c ≡ introduced width s items w
   performed_is = λ i. from_walks (λ l r. same_tree l r i) (walk (k.left_searched i)) (walk (k.right_searched i))
 
-  makes_for : (result : Result Reference IntroFault) (n : ℕ) → Makes result n (walk c.left.searched) (walk c.right.searched) (performed s c)
-      → Makes result n (walk (left_search width s items w)) (walk (right_search width s items w)) (introduced width s items w)
-  makes_for result n h = subst (λ (P : Type 0). P) (λ i. Makes result n (walk (k.left_searched i)) (walk (k.right_searched i)) (performed_is i)) h
+  makes_for : (result : Result Reference IntroFault) (n : ℕ) → Performs result n (walk c.left.searched) (walk c.right.searched) (performed s c)
+      → Performs result n (walk (left_search width s items w)) (walk (right_search width s items w)) (introduced width s items w)
+  makes_for result n h = subst (λ (P : Type 0). P) (λ i. Performs result n (walk (k.left_searched i)) (walk (k.right_searched i)) (performed_is i)) h
 
 -- what is made by the parts is what is made for the candidate
 pub makes_at : (e s : Sequent) → e ≡ s → (width : ℕ) (items : List Item) (w : TermSet) (c : Cutting) → IsCuttingFor width e items w c → (result : Result Reference IntroFault) (n : ℕ)
-    → Makes result n (walk c.left.searched) (walk c.right.searched) (performed e c) → Makes result n (walk (left_search width s items w)) (walk (right_search width s items w)) (introduced width s items w)
+    → Performs result n (walk c.left.searched) (walk c.right.searched) (performed e c) → Performs result n (walk (left_search width s items w)) (walk (right_search width s items w)) (introduced width s items w)
 makes_at e s is width items w c k result n h =
-    subst (λ q. Makes result n (walk (left_search width q items w)) (walk (right_search width q items w)) (introduced width q items w)) is (makes_for width e items w c k result n h)
+    subst (λ q. Performs result n (walk (left_search width q items w)) (walk (right_search width q items w)) (introduced width q items w)) is (makes_for width e items w c k result n h)
 
 -- both searches find proofs, and the inferences are right over them
 pub ready : (s : Sequent) (items : List Item) → AreInstancesFor s items → (width : ℕ) (w : TermSet) → Contains (occurring width items) w → (c : Cutting) → IsCuttingFor width s items w c → IsReady s c

@@ -2,7 +2,7 @@
 --     tree_with, performed      the proof by proofs of what is searched; the same by searches
 --     IsReady      both searches find proofs, and all inferences are right over these
 --     IsShort, IsShortOfOne      the fault says that a search visits more sequents than it may, or one of two searches
---     Makes      the proof is made, or one of the searches visits more sequents than it may
+--     Performs      the proof is made, or one of the searches visits more sequents than it may
 use Rattle.std.specs.Prelude.{◌≡◌, ℕ, ◌<◌, ◌≤◌, ◌⊎◌, Option, Some, Result, Ok, Err}
 use Rattle.lk_rules.specs.declared.sequent.Sequent.{Sequent}
 use Rattle.lk_rules.specs.declared.rule.Rule.TheVariants.{Cut}
@@ -53,6 +53,6 @@ IsShortOfOne (fault.NotPrenex f side) n v w = ⊥
 IsShortOfOne (fault.TooMany k) n v w = ⊥
 
 -- by two searches that visit at most n sequents each a proof is made; else the fault says that one visits more
-abbrev pub Makes : Result Reference IntroFault → ℕ → Walk → Walk → Option Tree → Type 0
-Makes (Ok r) n v w made = (visits v ≤ n) × (visits w ≤ n) × (made ≡ Some r.tree)
-Makes (Err e) n v w made = IsShortOfOne e n v w
+abbrev pub Performs : Result Reference IntroFault → ℕ → Walk → Walk → Option Tree → Type 0
+Performs (Ok r) n v w made = (visits v ≤ n) × (visits w ≤ n) × (made ≡ Some r.tree)
+Performs (Err e) n v w made = IsShortOfOne e n v w

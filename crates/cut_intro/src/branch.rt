@@ -1,11 +1,10 @@
 //! The premises of a cut: inferences of one premise each, from the root up to a sequent that is searched.
 ghost use Rattle.std.specs.Prelude.{◌≡◌, ◌<◌, true, not as negated, IfOk};
 ghost use Rattle.std.specs.List.{filter};
-ghost use mathlib.Core.List.{IsPrefix};
 ghost use Rattle.finite.specs.Finite as set;
 ghost use Rattle.lk_rules.specs.Rules.{IsFormedRule, has_shape, needs, aux as auxiliary_formulas};
 ghost use Rattle.lk_rules.specs.Sequents.{extended};
-ghost use Rattle.proof_graph.specs.Graphs.{IsOf, IsPassOf, history};
+ghost use Rattle.proof_graph.specs.Graphs.{IsOf, IsPassOf, Makes, Extends};
 ghost use Rattle.search_laws.specs.Truth.{has_quantifier as is_quantified};
 ghost use Rattle.herbrand_laws.specs.Introduction.{end_after, plain_formulas, plain_part as plain_part_of};
 ghost use Rattle.cut_intro.specs.Branches.{inferences, over_each, AreInferences, AreUsable};
@@ -108,10 +107,8 @@ pub(crate) fn over<R: Wait>(
     requires pass_of { IsPassOf graph.now pass.old }
     requires of { IsOf graph.now proof }
     requires right { AreInferences list.items proof.tree }
-    ensures tree { IfOk result (λ r. r.tree ≡ over_each list.items proof.tree) }
-    ensures of { IfOk result (IsOf graph.now) }
-    ensures grown { IsPrefix (history pass.old) (history pass.new) }
-    ensures pass_stays { IsPassOf graph.now pass.new }
+    ensures made { IfOk result (Makes graph.now (over_each list.items proof.tree)) }
+    ensures extends { Extends graph.now pass.old pass.new }
 {
     let mut list = list;
     let mut proof = proof;

@@ -37,7 +37,7 @@ fn outside(
     ensures exact { IfOk result (λ fault. (n : ℕ) → HasInstances (Err fault) (instancing proof.now.tree n)) }
     ensures named { IfOk result NamesFormed }
 {
-    match first_cut(graph, alloc, proof)? {
+    match first_cut(alloc, graph, proof)? {
         Some(place) => Ok(HerbrandFault::Cut(place)),
         None => Ok(HerbrandFault::NotPrenex { formula, side }),
     }

@@ -1,14 +1,13 @@
 //! Introduction of one cut.
 ghost use Rattle.std.specs.Prelude.{◌≡◌, ◌≢◌, ◌<◌, ◌≤◌, ◌^◌, ℕ, IfOk, IfErr, true};
-ghost use mathlib.Core.List.{IsPrefix};
 ghost use Rattle.delta_table.specs.Items.{counted};
 ghost use Rattle.proof_trees.specs.Trees.{concl, IsValid, cuts as cuts_of, quants as quants_of, size as size_of};
-ghost use Rattle.proof_graph.specs.Graphs.{IsOf, IsPassOf, history};
+ghost use Rattle.proof_graph.specs.Graphs.{IsOf, IsPassOf, history, Extends};
 ghost use Rattle.search_laws.specs.Search.{walk};
 ghost use Rattle.herbrand_laws.specs.Introduction.{left_search, right_search, introduced as introduced_by};
 ghost use Rattle.cut_intro.specs.Cuttings.{HasCandidate, IsCandidateFor};
 ghost use Rattle.cut_intro.specs.Instancing.{AreInstancesFor};
-ghost use Rattle.cut_intro.specs.Performing.{Makes};
+ghost use Rattle.cut_intro.specs.Performing.{Performs};
 ghost use Rattle.cut_intro.specs.Introducing.{has_formed_instances, introducing, Introduces, NamesFormedFormula, IfShorter, IfSame, answered, ChoosesBelow};
 
 use crate::fault::IntroFault;
@@ -52,7 +51,7 @@ fn cheaper<R: Threads + Sync>(
     ensures { IfOk result (λ o. ChoosesBelow o width (quants_of proof.now.tree) instances.now) }
 {
     laws::candidates();
-    let quantifiers = quants(graph, alloc, proof)?;
+    let quantifiers = quants(alloc, graph, proof)?;
     match best(rt, alloc, instances, width)? {
         Some(candidate) => {
             let is_less = candidate.cost < u128::from(quantifiers);
@@ -81,11 +80,10 @@ fn with_cut<R: Wait>(
     requires of { IsOf graph.now proof.now }
     requires instances { AreInstancesFor (concl proof.now.tree) instances.now }
     requires candidate { HasCandidate instances.now candidate.now }
-    ensures made { (width : ℕ) → IsCandidateFor width instances.now candidate.now → let s = concl proof.now.tree in Makes result budget (walk (left_search width s instances.now candidate.now.values)) (walk (right_search width s instances.now candidate.now.values)) (introduced_by width s instances.now candidate.now.values) }
+    ensures made { (width : ℕ) → IsCandidateFor width instances.now candidate.now → let s = concl proof.now.tree in Performs result budget (walk (left_search width s instances.now candidate.now.values)) (walk (right_search width s instances.now candidate.now.values)) (introduced_by width s instances.now candidate.now.values) }
     ensures unchanged { IfErr result (λ fault. fault ≢ IntroFault.Memory → history pass.new ≡ history pass.old) }
     ensures of { IfOk result (IsOf graph.now) }
-    ensures grown { IsPrefix (history pass.old) (history pass.new) }
-    ensures pass_stays { IsPassOf graph.now pass.new }
+    ensures extends { Extends graph.now pass.old pass.new }
 {
     let end = &graph.get(proof).end;
     let cutting = plan(alloc, end, instances, candidate)?;
@@ -127,8 +125,7 @@ pub fn introduce<R: Wait + Threads + Sync>(
     ensures unchanged { IfErr result (λ fault. fault ≢ IntroFault.Memory → history pass.new ≡ history pass.old) }
     ensures unchanged_same { IfOk result (IfSame (λ _. history pass.new ≡ history pass.old)) }
     ensures of { IfOk result (λ made. IsOf graph.now (answered made)) }
-    ensures grown { IsPrefix (history pass.old) (history pass.new) }
-    ensures pass_stays { IsPassOf graph.now pass.new }
+    ensures extends { Extends graph.now pass.old pass.new }
 {
     let instances = herbrand(alloc, graph, proof, budget)?;
     let tuples = count(&instances);

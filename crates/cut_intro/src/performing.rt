@@ -1,11 +1,10 @@
 //! The proof with a cut, by its parts.
 ghost use Rattle.std.specs.Prelude.{◌≡◌, ◌≢◌, ◌≤◌, Some, Ok, IfOk, IfErr};
-ghost use mathlib.Core.List.{IsPrefix};
-ghost use Rattle.proof_graph.specs.Graphs.{IsOf, IsPassOf, history};
+ghost use Rattle.proof_graph.specs.Graphs.{IsOf, IsPassOf, history, Extends};
 ghost use Rattle.search_laws.specs.Truth.{IsPropositional};
 ghost use Rattle.search_laws.specs.Search.{visits, proved, walk};
 ghost use Rattle.prop_search.specs.Deciding.{IsProved};
-ghost use Rattle.cut_intro.specs.Performing.{IsShort, Makes, IsReady, performed};
+ghost use Rattle.cut_intro.specs.Performing.{IsShort, Performs, IsReady, performed};
 
 use crate::branch::{Branch, over};
 use crate::fault::IntroFault;
@@ -58,8 +57,7 @@ fn prove<R: Wait>(
     ensures short { IfErr result (λ fault. IsShort fault budget (walk sequent.now)) }
     ensures unchanged { IfErr result (λ fault. fault ≢ IntroFault.Memory → history pass.new ≡ history pass.old) }
     ensures of { IfOk result (IsOf graph.now) }
-    ensures grown { IsPrefix (history pass.old) (history pass.new) }
-    ensures pass_stays { IsPassOf graph.now pass.new }
+    ensures extends { Extends graph.now pass.old pass.new }
 {
     match search(rt, alloc, graph, pass, sequent, budget) {
         Ok(proof) => Ok(proof),
@@ -85,8 +83,7 @@ fn prove_checked<R: Wait>(
     requires within { visits (walk sequent.now) ≤ budget }
     ensures found { IfOk result (λ r. walk sequent.now ≡ proved r.tree) }
     ensures of { IfOk result (IsOf graph.now) }
-    ensures grown { IsPrefix (history pass.old) (history pass.new) }
-    ensures pass_stays { IsPassOf graph.now pass.new }
+    ensures extends { Extends graph.now pass.old pass.new }
 {
     match search(rt, alloc, graph, pass, sequent, budget) {
         Ok(proof) => Ok(proof),
@@ -114,8 +111,7 @@ fn finish<R: Wait>(
     requires second_found { walk cutting.right.searched ≡ proved second.tree }
     ensures proof { IfOk result (λ r. performed end.now cutting ≡ Some r.tree) }
     ensures of { IfOk result (IsOf graph.now) }
-    ensures grown { IsPrefix (history pass.old) (history pass.new) }
-    ensures pass_stays { IsPassOf graph.now pass.new }
+    ensures extends { Extends graph.now pass.old pass.new }
 {
     let Cutting {
         formula,
@@ -142,11 +138,10 @@ pub(crate) fn perform<R: Wait>(
 ) -> Result<ProofRef, IntroFault>
     requires pass_of { IsPassOf graph.now pass.old }
     requires ready { IsReady end.now cutting }
-    ensures made { Makes result budget (walk cutting.left.searched) (walk cutting.right.searched) (performed end.now cutting) }
+    ensures made { Performs result budget (walk cutting.left.searched) (walk cutting.right.searched) (performed end.now cutting) }
     ensures unchanged { IfErr result (λ fault. fault ≢ IntroFault.Memory → history pass.new ≡ history pass.old) }
     ensures of { IfOk result (IsOf graph.now) }
-    ensures grown { IsPrefix (history pass.old) (history pass.new) }
-    ensures pass_stays { IsPassOf graph.now pass.new }
+    ensures extends { Extends graph.now pass.old pass.new }
 {
     check(alloc, &cutting.right.searched, budget)?;
     let first = prove(rt, alloc, graph, pass, &cutting.left.searched, budget)?;

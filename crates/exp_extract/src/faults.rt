@@ -23,7 +23,7 @@ pub(crate) fn check(
     ensures err { IfErr result (λ fault. Extracts (Err fault) (extracting proof.now.tree budget)) }
     ensures named { IfErr result NamesFormed }
 {
-    match first_cut(graph, alloc, proof)? {
+    match first_cut(alloc, graph, proof)? {
         Some(place) => Err(ExtractFault::Cut(place)),
         None => check_end(graph, proof, budget),
     }

@@ -1,9 +1,8 @@
 //! Proofs from expansion proofs.
 ghost use Rattle.std.specs.Prelude.{◌≡◌, ◌≢◌, Ok, Err, IfOk, IfErr};
-ghost use mathlib.Core.List.{IsPrefix};
 ghost use Rattle.proof_trees.specs.Trees.{concl, IsValid, IsCutFree};
 ghost use Rattle.proof_trees.specs.Conclusions.{IsFormedSequent, HasFormedEnd};
-ghost use Rattle.proof_graph.specs.Graphs.{IsOf, IsPassOf, history};
+ghost use Rattle.proof_graph.specs.Graphs.{IsOf, IsPassOf, history, Extends};
 ghost use Rattle.expansion_laws.specs.Proofs.{shallow_sequent, IsExpansionProof};
 ghost use Rattle.exp_tree.specs.Reads.{expansion_of};
 ghost use Rattle.arena_cells.specs.Standing.{tree_at, IsTreeAt};
@@ -78,8 +77,7 @@ pub fn build<R: Wait>(
     ensures end { IfOk result (λ r. concl r.tree ≡ shallow_sequent (expansion_of exps.now)) }
     ensures unchanged { IfErr result (λ e. e ≢ BuildFault.Memory → history pass.new ≡ history pass.old) }
     ensures of { IfOk result (IsOf graph.now) }
-    ensures grown { IsPrefix (history pass.old) (history pass.new) }
-    ensures pass_stays { IsPassOf graph.now pass.new }
+    ensures extends { Extends graph.now pass.old pass.new }
 {
     let mut arena = Arena::new(alloc);
     let built = match build_tree(&mut arena, alloc, exps, budget) {

@@ -1,12 +1,11 @@
 //! From a list of steps to the tree of the last one.
 ghost use Rattle.std.specs.Prelude.{◌≡◌, ◌≢◌, ◌<◌, ℕ, [], length, map, slice_get, Some, Err, IfOk, IfErr};
 ghost use Rattle.std.specs.List.{All, filter_map};
-ghost use mathlib.Core.List.{IsPrefix};
 ghost use Rattle.lk_rules.specs.Rules.{IsFormedRule};
 ghost use Rattle.proof_trees.specs.Trees.{concl, IsInference};
 ghost use Rattle.proof_graph.specs.Shown.{trees};
 ghost use Rattle.proof_graph.specs.References.{trees_of};
-ghost use Rattle.proof_graph.specs.Graphs.{IsOf, IsPassOf, history};
+ghost use Rattle.proof_graph.specs.Graphs.{IsOf, IsPassOf, history, Extends};
 ghost use Rattle.lk_check.specs.Checking.{last_end, first_fault as first_fault_of, IsProof};
 ghost use Rattle.lk_check.specs.declared.checking.StepCause.{StepCause as Cause};
 ghost use Rattle.lk_check.specs.StepTrees.{tree_over, trees_of_steps, IsTreeOf};
@@ -51,9 +50,9 @@ fn pick(alloc: Global, proofs: &[ProofRef], premises: &[u64]) -> Result<Vec<Proo
 
 // The reference of one step's tree, from those of the earlier steps.
 fn admit_step<R: Wait>(
-    graph: &Graph,
     rt: &R,
     alloc: Global,
+    graph: &Graph,
     pass: &mut GraphPass,
     step: &Step,
     proofs: &[ProofRef],
@@ -64,8 +63,7 @@ fn admit_step<R: Wait>(
     requires inference { IsInference step.now.rule step.now.end (trees (filter_map (slice_get (map (λ r. r.tree) proofs.now)) step.now.premises)) }
     ensures of { IfOk result (IsOf graph.now) }
     ensures tree { IfOk result (λ r. r.tree ≡ tree_over (map (λ r. r.tree) proofs.now) step.now) }
-    ensures grown { IsPrefix (history pass.old) (history pass.new) }
-    ensures pass_stays { IsPassOf graph.now pass.new }
+    ensures extends { Extends graph.now pass.old pass.new }
 {
     let premises = pick(alloc, proofs, step.premises.as_slice())?;
     let rule = step.rule.copy()?;
@@ -75,9 +73,9 @@ fn admit_step<R: Wait>(
 
 // The references of the trees of all steps.
 fn admit_all<R: Wait>(
-    graph: &Graph,
     rt: &R,
     alloc: Global,
+    graph: &Graph,
     pass: &mut GraphPass,
     steps: &[Step],
 ) -> Result<Vec<ProofRef>, AllocError>
@@ -86,12 +84,11 @@ fn admit_all<R: Wait>(
     requires proof { IsProof steps.now }
     ensures of { IfOk result (λ proofs. All (IsOf graph.now) proofs.items) }
     ensures trees { IfOk result (λ proofs. map (λ r. r.tree) proofs.items ≡ trees_of_steps steps.now) }
-    ensures grown { IsPrefix (history pass.old) (history pass.new) }
-    ensures pass_stays { IsPassOf graph.now pass.new }
+    ensures extends { Extends graph.now pass.old pass.new }
 {
     let mut proofs = Vec::with_capacity(alloc, steps.len())?;
     for step in steps {
-        let proof = admit_step(graph, rt, alloc, pass, step, &proofs)?;
+        let proof = admit_step(rt, alloc, graph, pass, step, &proofs)?;
         proofs.push(proof)?;
     }
     Ok(proofs)
@@ -99,9 +96,9 @@ fn admit_all<R: Wait>(
 
 /// The reference of the tree that the last step stands for. All steps are checked before the first is put into the graph.
 pub fn admit<R: Wait>(
-    graph: &Graph,
     rt: &R,
     alloc: Global,
+    graph: &Graph,
     pass: &mut GraphPass,
     steps: &[Step],
 ) -> Result<ProofRef, AdmitFault>
@@ -117,8 +114,7 @@ pub fn admit<R: Wait>(
     ensures faulty { (i : ℕ) (cause : Cause) → first_fault_of steps.now ≡ Some (i, cause) → result ≡ Err (AdmitFault.Step i cause) }
     ensures fault { IfErr result (IsFault steps.now) }
     ensures unchanged { IfErr result (λ e. e ≢ AdmitFault.Memory → history pass.new ≡ history pass.old) }
-    ensures grown { IsPrefix (history pass.old) (history pass.new) }
-    ensures pass_stays { IsPassOf graph.now pass.new }
+    ensures extends { Extends graph.now pass.old pass.new }
 {
     if steps.is_empty() {
         return Err(AdmitFault::Empty);
@@ -126,7 +122,7 @@ pub fn admit<R: Wait>(
     if let Some((step, cause)) = first_fault(steps) {
         return Err(AdmitFault::Step { step, cause });
     }
-    let Ok(mut proofs) = admit_all(graph, rt, alloc, pass, steps) else {
+    let Ok(mut proofs) = admit_all(rt, alloc, graph, pass, steps) else {
         return Err(AdmitFault::Memory);
     };
     match proofs.pop() {

@@ -75,7 +75,7 @@ pub(crate) fn check(
     ensures err { IfErr result (λ fault. Interpolates (Err fault) (interpolating proof.now.tree first.now second.now budget)) }
     ensures named { IfErr result NamesFormed }
 {
-    if let Some(place) = first_cut(graph, alloc, proof)? {
+    if let Some(place) = first_cut(alloc, graph, proof)? {
         return Err(InterpFault::Cut(place));
     }
     let end = &graph.get(proof).end;

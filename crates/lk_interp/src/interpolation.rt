@@ -1,6 +1,5 @@
 //! Interpolation.
 ghost use Rattle.std.specs.Prelude.{◌≡◌, ◌≢◌, ◌^◌, ◌<◌, true, IfOk, IfErr};
-ghost use mathlib.Core.List.{IsPrefix};
 ghost use Rattle.fol.specs.declared.symbols.Var.{Var as Variable};
 ghost use Rattle.fol.specs.Syntax.{Pred};
 ghost use Rattle.fol.specs.Formed.{IsFormed};
@@ -13,9 +12,9 @@ ghost use Rattle.proof_trees.specs.Occurrence.{is_pred_in_sequent};
 ghost use Rattle.proof_graph.specs.Graphs.{IsOf, history};
 ghost use Rattle.interp_laws.specs.Interpolation.{itp};
 ghost use Rattle.interp_laws.specs.Parts.{IsFormedSequent, HasParts};
-ghost use Rattle.arena_cells.specs.Standing.{Extends, tree_at, IsTreeAt};
+ghost use Rattle.arena_cells.specs.Standing.{Extends as ExtendsArena, tree_at, IsTreeAt};
 ghost use Rattle.arena_interp.specs.Partitions.{IsInterpolatedAt, interpolation_at, HasInterpolation};
-ghost use Rattle.proof_subst.specs.Benches.{graph_of, pass_in, images_in, arena_in, IsBenchPassOf};
+ghost use Rattle.proof_subst.specs.Benches.{graph_of, pass_in, images_in, arena_in, IsBenchPassOf, Extends};
 ghost use Rattle.lk_interp.specs.Interpolating.{interpolating, interpolation_of, Interpolates, AreProofs, NamesFormed};
 
 use crate::fault::InterpFault;
@@ -59,7 +58,7 @@ fn interpolate_at(
     requires parts { HasParts (tree_at arena.old proof) first.now second.now }
     ensures made { IfOk result (HasInterpolation arena.new (itp (tree_at arena.old proof) first.now second.now)) }
     ensures small { IfOk result (λ _. nesting (itp (tree_at arena.old proof) first.now second.now).formula < 2 ^ 32) }
-    ensures grown { Extends arena.old arena.new }
+    ensures grown { ExtendsArena arena.old arena.new }
 {
     let first = arena.import_sequent(alloc, first)?;
     let second = arena.import_sequent(alloc, second)?;
@@ -104,9 +103,8 @@ fn export<R: Wait>(
     requires valid { AreProofs (interpolation_at (arena_in pass.old) made) }
     ensures interpolation { IfOk result (λ r. interpolation_of r ≡ interpolation_at (arena_in pass.old) made) }
     ensures of { IfOk result (λ r. IsOf (graph_of bench.now) r.first × IsOf (graph_of bench.now) r.second) }
-    ensures grown { IsPrefix (history (pass_in pass.old)) (history (pass_in pass.new)) }
     ensures images_stay { images_in pass.new ≡ images_in pass.old }
-    ensures pass_stays { IsBenchPassOf bench.now pass.new }
+    ensures extends { Extends bench.now pass.old pass.new }
 {
     let formula = Bench::arena(pass).formula(made.formula).copy()?;
     let first = proof_at(rt, alloc, bench, pass, made.first)?;
@@ -150,9 +148,8 @@ pub fn interpolate<R: Wait>(
     ensures named { IfErr result NamesFormed }
     ensures of { IfOk result (λ made. IsOf (graph_of bench.now) made.first × IsOf (graph_of bench.now) made.second) }
     ensures unchanged { IfErr result (λ fault. fault ≢ InterpFault.Memory → history (pass_in pass.new) ≡ history (pass_in pass.old)) }
-    ensures grown { IsPrefix (history (pass_in pass.old)) (history (pass_in pass.new)) }
     ensures images_stay { images_in pass.new ≡ images_in pass.old }
-    ensures pass_stays { IsBenchPassOf bench.now pass.new }
+    ensures extends { Extends bench.now pass.old pass.new }
 {
     proof.known();
     see_formed(first);

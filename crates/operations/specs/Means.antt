@@ -5,6 +5,7 @@
 --     needs      what an operation is run with
 --     Comes      what an operation came to stands for an answer
 --     is_refusal      an operation came to a refusal or a failure
+--     IsShort      an operation failed because the work takes more than the budget allows
 --     IsAnswerOf      an outcome and a value are what is answered
 use Rattle.std.specs.Prelude.{◌≡◌, ◌⊎◌, Bool, true, false, Option, Some, None, Result, Ok, Err}
 use Rattle.std.specs.List.{All}
@@ -21,6 +22,7 @@ use Rattle.reply_lines.specs.declared.replies.Outcome.{Outcome}
 use Rattle.reply_lines.specs.declared.replies.Outcome.TheVariants.{Memory}
 use Rattle.operation_laws.specs.declared.refusals.Refusal.{Refusal}
 use Rattle.operation_laws.specs.declared.refusals.Refusal.TheVariants.{UnknownName, Kind, Empty, Step}
+use Rattle.operation_laws.specs.declared.refusals.Failure.TheVariants.{Budget}
 use Rattle.operations.specs.declared.held.Held.{Held}
 use Rattle.operations.specs.declared.held.Held.TheVariants as held
 use Rattle.operations.specs.declared.answers.Made.{Made}
@@ -175,6 +177,9 @@ is_refusal ran.Unnamed = true
 is_refusal (ran.Failed f) = true
 is_refusal ran.Lacking = false
 is_refusal (ran.Done m) = false
+
+abbrev pub IsShort : Ran → Type 0
+IsShort r = r ≡ ran.Failed Budget
 
 -- An outcome with what the job holds. Where a refusal shows a name and there is no memory for that, want of memory is answered with the
 -- value of a refusal, which no other answer has. Where memory ran out in the operation, want of it is answered with the value that later

@@ -1,17 +1,17 @@
 //! Answering an operation over the values that its names of jobs stand for.
-ghost use Rattle.std.specs.Prelude.{◌≡◌, true, length, map};
+ghost use Rattle.std.specs.Prelude.{◌≡◌, ◌≢◌, true, length, map};
 ghost use Rattle.std.specs.List.{All};
 ghost use mathlib.Core.List.{IsPrefix};
 ghost use Rattle.proof_graph.specs.declared.graph.Graph.{Graph as GraphMeaning};
 ghost use Rattle.proof_graph.specs.Graphs.{history};
-ghost use Rattle.proof_subst.specs.Benches.{graph_of, pass_in, images_in, IsBenchPassOf};
-ghost use Rattle.cut_elim.specs.Desks.{bench_of, pass_in as bench_pass_in, eliminations_in, IsDeskPassOf};
+ghost use Rattle.proof_subst.specs.Benches.{graph_of, pass_in, images_in, IsBenchPassOf, Extends};
+ghost use Rattle.cut_elim.specs.Desks.{bench_of, pass_in as bench_pass_in, eliminations_in, IsDeskPassOf, Extends as ExtendsDesk};
 ghost use Rattle.tptp_problem.specs.ProblemClauses.{IsReadProblem};
 ghost use Rattle.job_lang.specs.FormedOps.{IsFormedOp};
 ghost use Rattle.operation_laws.specs.Answers.{product, problem as problem_made};
 ghost use Rattle.operation_laws.specs.Given.{names_in};
 ghost use Rattle.operation_laws.specs.Running.{run};
-ghost use Rattle.operations.specs.Means.{sense, Fits, a_graph, a_bench, needs, Comes, is_refusal, IsAnswerOf};
+ghost use Rattle.operations.specs.Means.{sense, Fits, a_graph, a_bench, needs, Comes, is_refusal, IsShort, IsAnswerOf};
 ghost use Rattle.operations.specs.Noted.{IsNoted, is_done, is_reduced};
 
 use crate::answers::{Made, Ran};
@@ -91,9 +91,9 @@ fn run_making<R: Wait + Threads + Sync>(
     requires fits { All (Fits (graph_of bench.now)) given.now }
     ensures ran { Comes (graph_of bench.now) result (run op.now (map sense given.now)) }
     ensures unchanged { is_refusal result ≡ true → history (pass_in pass.new) ≡ history (pass_in pass.old) }
-    ensures grown { IsPrefix (history (pass_in pass.old)) (history (pass_in pass.new)) }
+    ensures images_unchanged { is_refusal result ≡ true → images_in pass.new ≡ images_in pass.old }
     ensures images_grown { IsPrefix (images_in pass.old) (images_in pass.new) }
-    ensures pass_stays { IsBenchPassOf bench.now pass.new }
+    ensures extends { Extends bench.now pass.old pass.new }
 {
     match op {
         Op::Lk { steps } => admit_steps(rt, alloc, bench, pass, steps.as_slice()),
@@ -149,10 +149,11 @@ fn run_given<R: Wait + Threads + Sync>(
     ensures ran { Comes (graph_of (bench_of desk.now)) result (run op.now (map sense given.now)) }
     ensures noted { is_done result ≡ true → IsNoted op.now given.now pass.new }
     ensures unchanged { is_refusal result ≡ true → history (pass_in (bench_pass_in pass.new)) ≡ history (pass_in (bench_pass_in pass.old)) }
-    ensures grown { IsPrefix (history (pass_in (bench_pass_in pass.old))) (history (pass_in (bench_pass_in pass.new))) }
+    ensures images_unchanged { is_refusal result ≡ true → images_in (bench_pass_in pass.new) ≡ images_in (bench_pass_in pass.old) }
     ensures images_grown { IsPrefix (images_in (bench_pass_in pass.old)) (images_in (bench_pass_in pass.new)) }
+    ensures eliminations_unchanged { is_refusal result ≡ true → ¬ IsShort result → eliminations_in pass.new ≡ eliminations_in pass.old }
     ensures eliminations_grown { IsPrefix (eliminations_in pass.old) (eliminations_in pass.new) }
-    ensures pass_stays { IsDeskPassOf desk.now pass.new }
+    ensures extends { ExtendsDesk desk.now pass.old pass.new }
 {
     let bench = desk.bench();
     let graph = bench.graph();
@@ -202,12 +203,14 @@ pub fn answer<R: Wait + Threads + Sync>(
     ensures fits { Fits (graph_of (bench_of desk.now)) result.1 }
     // An elimination of cuts that is done has noted the proof that it was given.
     ensures noted { is_reduced result.0 ≡ true → IsNoted op.now given.now pass.new }
-    // A refusal comes before any work, and what work found to have no product is thrown away.
+    // A refusal comes before any work, and what work found to have no product is thrown away, but for what an elimination of cuts has found
+    // when its budget is used up.
     ensures unchanged { result.1 ≡ Held.Refused → history (pass_in (bench_pass_in pass.new)) ≡ history (pass_in (bench_pass_in pass.old)) }
-    ensures grown { IsPrefix (history (pass_in (bench_pass_in pass.old))) (history (pass_in (bench_pass_in pass.new))) }
+    ensures images_unchanged { result.1 ≡ Held.Refused → images_in (bench_pass_in pass.new) ≡ images_in (bench_pass_in pass.old) }
+    ensures eliminations_unchanged { result.1 ≡ Held.Refused → result.0 ≢ Outcome.Budget → eliminations_in pass.new ≡ eliminations_in pass.old }
     ensures images_grown { IsPrefix (images_in (bench_pass_in pass.old)) (images_in (bench_pass_in pass.new)) }
     ensures eliminations_grown { IsPrefix (eliminations_in pass.old) (eliminations_in pass.new) }
-    ensures pass_stays { IsDeskPassOf desk.now pass.new }
+    ensures extends { ExtendsDesk desk.now pass.old pass.new }
 {
     let ran = run_given(rt, alloc, desk, pass, op, given);
     conclude(desk.bench().graph(), alloc, ran)

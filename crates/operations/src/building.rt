@@ -1,8 +1,7 @@
 //! What the building of a proof from an expansion proof comes to.
 ghost use Rattle.std.specs.Prelude.{◌≡◌, [], ◌∷◌, true};
-ghost use mathlib.Core.List.{IsPrefix};
 ghost use Rattle.proof_graph.specs.Graphs.{history};
-ghost use Rattle.proof_subst.specs.Benches.{graph_of, pass_in, images_in, IsBenchPassOf};
+ghost use Rattle.proof_subst.specs.Benches.{graph_of, pass_in, images_in, IsBenchPassOf, Extends};
 ghost use Rattle.exp_tree.specs.Reads.{expansion_of};
 ghost use Rattle.exp_to_lk.specs.Building.{building, has_formed_trees};
 ghost use Rattle.operation_laws.specs.Running.{built, builds, run};
@@ -42,9 +41,8 @@ fn build_within<R: Wait>(
     requires pass { IsBenchPassOf bench.now pass.old }
     ensures ran { Comes (graph_of bench.now) result (built (building (expansion_of exps.now) budget)) }
     ensures unchanged { is_refusal result ≡ true → history (pass_in pass.new) ≡ history (pass_in pass.old) }
-    ensures grown { IsPrefix (history (pass_in pass.old)) (history (pass_in pass.new)) }
-    ensures images_grown { IsPrefix (images_in pass.old) (images_in pass.new) }
-    ensures pass_stays { IsBenchPassOf bench.now pass.new }
+    ensures images_stay { images_in pass.new ≡ images_in pass.old }
+    ensures extends { Extends bench.now pass.old pass.new }
 {
     let graph = bench.graph();
     match build(rt, alloc, graph, Bench::graph_pass(pass), exps, budget) {
@@ -67,9 +65,8 @@ fn build_by<R: Wait>(
     requires pass { IsBenchPassOf bench.now pass.old }
     ensures ran { Comes (graph_of bench.now) result (builds (expansion_of exps.now) budget) }
     ensures unchanged { is_refusal result ≡ true → history (pass_in pass.new) ≡ history (pass_in pass.old) }
-    ensures grown { IsPrefix (history (pass_in pass.old)) (history (pass_in pass.new)) }
-    ensures images_grown { IsPrefix (images_in pass.old) (images_in pass.new) }
-    ensures pass_stays { IsBenchPassOf bench.now pass.new }
+    ensures images_stay { images_in pass.new ≡ images_in pass.old }
+    ensures extends { Extends bench.now pass.old pass.new }
 {
     see_formed(exps);
     build_within(rt, alloc, bench, pass, exps, budget)
@@ -89,9 +86,8 @@ pub fn build_from<R: Wait>(
     requires pass { IsBenchPassOf bench.now pass.old }
     ensures ran { Comes (graph_of bench.now) result (run (Op.Fromexp of.now budget) (sense value.now ∷ [])) }
     ensures unchanged { is_refusal result ≡ true → history (pass_in pass.new) ≡ history (pass_in pass.old) }
-    ensures grown { IsPrefix (history (pass_in pass.old)) (history (pass_in pass.new)) }
-    ensures images_grown { IsPrefix (images_in pass.old) (images_in pass.new) }
-    ensures pass_stays { IsBenchPassOf bench.now pass.new }
+    ensures images_stay { images_in pass.new ≡ images_in pass.old }
+    ensures extends { Extends bench.now pass.old pass.new }
 {
     match expansion_given(alloc, of, value) {
         Ok(exps) => build_by(rt, alloc, bench, pass, exps, budget),

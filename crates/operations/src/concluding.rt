@@ -5,7 +5,7 @@ ghost use Rattle.proof_graph.specs.Graphs.{IsOf};
 ghost use Rattle.exp_tree.specs.Reads.{expansion_of};
 ghost use Rattle.tptp_problem.specs.ProblemClauses.{IsReadProblem};
 ghost use Rattle.operation_laws.specs.Answers.{Answer, product, proof as proof_made, reduced as reduced_made, problem as problem_made, expansion as expansion_made, interpolant as interpolant_made, introduced as introduced_made, summary_of, exp_summary_of, shown_refusal as refusal_shown, shown_failure as failure_shown};
-ghost use Rattle.operations.specs.Means.{Fits, FitsMade, made_of, Comes, is_refusal, IsAnswerOf};
+ghost use Rattle.operations.specs.Means.{Fits, FitsMade, made_of, Comes, is_refusal, IsShort, IsAnswerOf};
 ghost use Rattle.operations.specs.Noted.{is_done, is_reduced};
 
 use crate::answers::{Made, Ran};
@@ -56,8 +56,8 @@ fn summary(graph: &Graph, alloc: Global, proof: &ProofRef) -> Result<Summary, Al
     requires { IsOf graph.now proof.now }
     ensures { IfOk result (λ s. s ≡ summary_of proof.now.tree) }
 {
-    let cuts = cuts(graph, alloc, proof)?;
-    let quants = quants(graph, alloc, proof)?;
+    let cuts = cuts(alloc, graph, proof)?;
+    let quants = quants(alloc, graph, proof)?;
     let end = graph.get(proof).end.copy()?;
     Ok(Summary { cuts, end, quants })
 }
@@ -230,6 +230,7 @@ pub fn conclude(graph: &Graph, alloc: Global, ran: Ran) -> (Outcome, Held)
     ensures fits { Fits graph.now result.1 }
     ensures refused { result.1 ≡ Held.Refused → is_refusal ran ≡ true }
     ensures reduced { is_reduced result.0 ≡ true → is_done ran ≡ true }
+    ensures budget { IsShort ran → result.0 ≡ Outcome.Budget }
 {
     match ran {
         Ran::Refused(refusal) => (shown_refusal(refusal), Held::Refused),

@@ -1,10 +1,9 @@
 //! What an interpolation comes to.
 ghost use Rattle.std.specs.Prelude.{◌≡◌, ◌≢◌, [], ◌∷◌, true, false, Result, Ok, Err};
-ghost use mathlib.Core.List.{IsPrefix};
 ghost use Rattle.fol.specs.Formed.{IsFormed};
 ghost use Rattle.proof_graph.specs.declared.graph.Graph.{Graph as GraphMeaning};
 ghost use Rattle.proof_graph.specs.Graphs.{IsOf, history};
-ghost use Rattle.proof_subst.specs.Benches.{graph_of, pass_in, images_in, IsBenchPassOf};
+ghost use Rattle.proof_subst.specs.Benches.{graph_of, pass_in, images_in, IsBenchPassOf, Extends};
 ghost use Rattle.interp_laws.specs.Interpolation.{Interpolation};
 ghost use Rattle.lk_interp.specs.declared.fault.InterpFault.{InterpFault as Fault};
 ghost use Rattle.lk_interp.specs.Interpolating.{interpolating, Interpolates, NamesFormed};
@@ -81,9 +80,8 @@ fn interpolate_by<R: Wait>(
     requires of { IsOf (graph_of bench.now) proof.now }
     ensures ran { Comes (graph_of bench.now) result (interpolated (interpolating proof.now.tree one.now two.now budget)) }
     ensures unchanged { is_refusal result ≡ true → history (pass_in pass.new) ≡ history (pass_in pass.old) }
-    ensures grown { IsPrefix (history (pass_in pass.old)) (history (pass_in pass.new)) }
-    ensures images_grown { IsPrefix (images_in pass.old) (images_in pass.new) }
-    ensures pass_stays { IsBenchPassOf bench.now pass.new }
+    ensures images_stay { images_in pass.new ≡ images_in pass.old }
+    ensures extends { Extends bench.now pass.old pass.new }
 {
     match interpolate(rt, alloc, bench, pass, proof, one, two, budget) {
         Ok(made) => done(made),
@@ -108,9 +106,8 @@ pub fn interpolate_in<R: Wait>(
     requires fits { Fits (graph_of bench.now) value.now }
     ensures ran { Comes (graph_of bench.now) result (run (Op.Interpolate of.now one.now two.now budget) (sense value.now ∷ [])) }
     ensures unchanged { is_refusal result ≡ true → history (pass_in pass.new) ≡ history (pass_in pass.old) }
-    ensures grown { IsPrefix (history (pass_in pass.old)) (history (pass_in pass.new)) }
-    ensures images_grown { IsPrefix (images_in pass.old) (images_in pass.new) }
-    ensures pass_stays { IsBenchPassOf bench.now pass.new }
+    ensures images_stay { images_in pass.new ≡ images_in pass.old }
+    ensures extends { Extends bench.now pass.old pass.new }
 {
     match proof_given(alloc, of, value) {
         Ok(proof) => interpolate_by(rt, alloc, bench, pass, proof, one, two, budget),

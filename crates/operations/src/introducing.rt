@@ -1,11 +1,10 @@
 //! What the introduction of a cut comes to.
 ghost use Rattle.std.specs.Prelude.{◌≡◌, ◌≢◌, [], ◌∷◌, true, false, Result, Ok, Err};
-ghost use mathlib.Core.List.{IsPrefix};
 ghost use Rattle.proof_trees.specs.Trees.{Tree};
 ghost use Rattle.proof_graph.specs.declared.graph.Graph.{Graph as GraphMeaning};
 ghost use Rattle.proof_graph.specs.Graphs.{IsOf, history};
 ghost use Rattle.proof_graph.specs.References.{Reference};
-ghost use Rattle.proof_subst.specs.Benches.{graph_of, pass_in, images_in, IsBenchPassOf};
+ghost use Rattle.proof_subst.specs.Benches.{graph_of, pass_in, images_in, IsBenchPassOf, Extends};
 ghost use Rattle.cut_intro.specs.declared.fault.IntroFault.{IntroFault as Fault};
 ghost use Rattle.cut_intro.specs.Introducing.{Answer, introducing, has_formed_instances, Introduces, NamesFormedFormula, IfSame, answered};
 ghost use Rattle.operation_laws.specs.Running.{shortened, run};
@@ -77,9 +76,8 @@ fn introduce_by<R: Wait + Threads + Sync>(
     requires of { IsOf (graph_of bench.now) proof.now }
     ensures ran { Comes (graph_of bench.now) result (shortened proof.now.tree (introducing width.now proof.now.tree budget)) }
     ensures unchanged { is_refusal result ≡ true → history (pass_in pass.new) ≡ history (pass_in pass.old) }
-    ensures grown { IsPrefix (history (pass_in pass.old)) (history (pass_in pass.new)) }
-    ensures images_grown { IsPrefix (images_in pass.old) (images_in pass.new) }
-    ensures pass_stays { IsBenchPassOf bench.now pass.new }
+    ensures images_stay { images_in pass.new ≡ images_in pass.old }
+    ensures extends { Extends bench.now pass.old pass.new }
 {
     let graph = bench.graph();
     let width = width.get();
@@ -114,9 +112,8 @@ pub fn introduce_in<R: Wait + Threads + Sync>(
     requires fits { Fits (graph_of bench.now) value.now }
     ensures ran { Comes (graph_of bench.now) result (run (Op.Cutintro of.now width.now budget) (sense value.now ∷ [])) }
     ensures unchanged { is_refusal result ≡ true → history (pass_in pass.new) ≡ history (pass_in pass.old) }
-    ensures grown { IsPrefix (history (pass_in pass.old)) (history (pass_in pass.new)) }
-    ensures images_grown { IsPrefix (images_in pass.old) (images_in pass.new) }
-    ensures pass_stays { IsBenchPassOf bench.now pass.new }
+    ensures images_stay { images_in pass.new ≡ images_in pass.old }
+    ensures extends { Extends bench.now pass.old pass.new }
 {
     match proof_given(alloc, of, value) {
         Ok(proof) => introduce_by(rt, alloc, bench, pass, proof, width, budget),

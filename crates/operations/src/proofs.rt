@@ -9,11 +9,11 @@ ghost use Rattle.proof_trees.specs.Substitution.{sub};
 ghost use Rattle.cut_laws.specs.Elimination.{elimination};
 ghost use Rattle.lk_check.specs.Admission.{admission};
 ghost use Rattle.proof_graph.specs.Graphs.{IsOf, history};
-ghost use Rattle.proof_subst.specs.Benches.{graph_of, pass_in, images_in, IsBenchPassOf};
-ghost use Rattle.cut_elim.specs.Desks.{bench_of, pass_in as bench_pass_in, eliminations_in, HasElimination, IsDeskPassOf};
+ghost use Rattle.proof_subst.specs.Benches.{graph_of, pass_in, images_in, IsBenchPassOf, Extends};
+ghost use Rattle.cut_elim.specs.Desks.{bench_of, pass_in as bench_pass_in, eliminations_in, HasElimination, IsDeskPassOf, Extends as ExtendsDesk};
 ghost use Rattle.operation_laws.specs.Answers.{product, proof as proof_made};
 ghost use Rattle.operation_laws.specs.Running.{step_shown as shown_step, admits, eliminates, run};
-ghost use Rattle.operations.specs.Means.{sense, Fits, Comes, is_refusal};
+ghost use Rattle.operations.specs.Means.{sense, Fits, Comes, is_refusal, IsShort};
 ghost use Rattle.operations.specs.Noted.{proof_in, is_done};
 ghost use Rattle.std.specs.Option.{IsSomeAnd};
 
@@ -58,12 +58,11 @@ pub fn admit_steps<R: Wait>(
     requires formed { All (λ s. IsFormedRule s.rule) list.now }
     ensures ran { Comes (graph_of bench.now) result (admits (admission list.now)) }
     ensures unchanged { is_refusal result ≡ true → history (pass_in pass.new) ≡ history (pass_in pass.old) }
-    ensures grown { IsPrefix (history (pass_in pass.old)) (history (pass_in pass.new)) }
-    ensures images_grown { IsPrefix (images_in pass.old) (images_in pass.new) }
-    ensures pass_stays { IsBenchPassOf bench.now pass.new }
+    ensures images_stay { images_in pass.new ≡ images_in pass.old }
+    ensures extends { Extends bench.now pass.old pass.new }
 {
     let graph = bench.graph();
-    match admit(graph, rt, alloc, Bench::graph_pass(pass), list) {
+    match admit(rt, alloc, graph, Bench::graph_pass(pass), list) {
         Ok(proof) => Ran::Done(Made::Proof(proof)),
         Err(AdmitFault::Empty) => Ran::Refused(Refusal::Empty),
         Err(AdmitFault::Step { step, cause }) => Ran::Refused(Refusal::Step {
@@ -88,9 +87,9 @@ fn substituted<R: Wait>(
     requires map { IsFormedMap (fin.get map.now) }
     ensures ran { Comes (graph_of bench.now) result (product (proof_made (sub proof.now.tree map.now))) }
     ensures unchanged { is_refusal result ≡ true → history (pass_in pass.new) ≡ history (pass_in pass.old) }
-    ensures grown { IsPrefix (history (pass_in pass.old)) (history (pass_in pass.new)) }
+    ensures images_unchanged { is_refusal result ≡ true → images_in pass.new ≡ images_in pass.old }
     ensures images_grown { IsPrefix (images_in pass.old) (images_in pass.new) }
-    ensures pass_stays { IsBenchPassOf bench.now pass.new }
+    ensures extends { Extends bench.now pass.old pass.new }
 {
     match substitute(rt, alloc, bench, pass, proof, map) {
         Ok(image) => Ran::Done(Made::Proof(image)),
@@ -114,9 +113,9 @@ pub fn substitute_in<R: Wait>(
     requires map { IsFormedMap (fin.get map.now) }
     ensures ran { Comes (graph_of bench.now) result (run (Op.Subst of.now map.now) (sense value.now ∷ [])) }
     ensures unchanged { is_refusal result ≡ true → history (pass_in pass.new) ≡ history (pass_in pass.old) }
-    ensures grown { IsPrefix (history (pass_in pass.old)) (history (pass_in pass.new)) }
+    ensures images_unchanged { is_refusal result ≡ true → images_in pass.new ≡ images_in pass.old }
     ensures images_grown { IsPrefix (images_in pass.old) (images_in pass.new) }
-    ensures pass_stays { IsBenchPassOf bench.now pass.new }
+    ensures extends { Extends bench.now pass.old pass.new }
 {
     match proof_given(alloc, of, value) {
         Ok(proof) => substituted(rt, alloc, bench, pass, proof, map),
@@ -143,10 +142,10 @@ fn eliminate_counted<R: Wait + Threads + Sync, L: Ledger>(
     ensures ran { Comes (graph_of (bench_of desk.now)) result (eliminates (elimination proof.now.tree budget)) }
     ensures noted { is_done result ≡ true → HasElimination pass.new proof.now.number }
     ensures unchanged { is_refusal result ≡ true → history (pass_in (bench_pass_in pass.new)) ≡ history (pass_in (bench_pass_in pass.old)) }
-    ensures grown { IsPrefix (history (pass_in (bench_pass_in pass.old))) (history (pass_in (bench_pass_in pass.new))) }
-    ensures images_grown { IsPrefix (images_in (bench_pass_in pass.old)) (images_in (bench_pass_in pass.new)) }
+    ensures images_stay { images_in (bench_pass_in pass.new) ≡ images_in (bench_pass_in pass.old) }
+    ensures eliminations_unchanged { is_refusal result ≡ true → ¬ IsShort result → eliminations_in pass.new ≡ eliminations_in pass.old }
     ensures eliminations_grown { IsPrefix (eliminations_in pass.old) (eliminations_in pass.new) }
-    ensures pass_stays { IsDeskPassOf desk.now pass.new }
+    ensures extends { ExtendsDesk desk.now pass.old pass.new }
 {
     let mut contractions = Contractions::<L>::new(ledger);
     let made = eliminate(rt, alloc, desk, pass, proof, budget, &mut contractions);
@@ -174,10 +173,10 @@ pub fn eliminate_in<R: Wait + Threads + Sync>(
     ensures ran { Comes (graph_of (bench_of desk.now)) result (run (Op.Cutelim of.now budget) (sense value.now ∷ [])) }
     ensures noted { is_done result ≡ true → IsSomeAnd (proof_in of.now value.now) (λ r. HasElimination pass.new r.number) }
     ensures unchanged { is_refusal result ≡ true → history (pass_in (bench_pass_in pass.new)) ≡ history (pass_in (bench_pass_in pass.old)) }
-    ensures grown { IsPrefix (history (pass_in (bench_pass_in pass.old))) (history (pass_in (bench_pass_in pass.new))) }
-    ensures images_grown { IsPrefix (images_in (bench_pass_in pass.old)) (images_in (bench_pass_in pass.new)) }
+    ensures images_stay { images_in (bench_pass_in pass.new) ≡ images_in (bench_pass_in pass.old) }
+    ensures eliminations_unchanged { is_refusal result ≡ true → ¬ IsShort result → eliminations_in pass.new ≡ eliminations_in pass.old }
     ensures eliminations_grown { IsPrefix (eliminations_in pass.old) (eliminations_in pass.new) }
-    ensures pass_stays { IsDeskPassOf desk.now pass.new }
+    ensures extends { ExtendsDesk desk.now pass.old pass.new }
 {
     match proof_given(alloc, of, value) {
         Ok(proof) => eliminate_counted::<R, Brand>(

@@ -24,7 +24,7 @@ fn listed(graph: &Graph, alloc: Global, proof: &ProofRef) -> Ran
     requires { IsOf graph.now proof.now }
     ensures { Comes graph.now result (product (steps_made (steps_of proof.now.tree))) }
 {
-    match steps(graph, alloc, proof) {
+    match steps(alloc, graph, proof) {
         Ok(list) => Ran::Done(Made::Steps(Steps::from_vec(list))),
         Err(_) => Ran::Lacking,
     }
@@ -57,10 +57,10 @@ fn sizes(graph: &Graph, alloc: Global, proof: &ProofRef) -> Result<Made, AllocEr
     requires { IsOf graph.now proof.now }
     ensures { IfOk result (λ made. made_of made ≡ sizes_of proof.now.tree) }
 {
-    let cuts = cuts(graph, alloc, proof)?;
-    let nodes = nodes(graph, alloc, proof)?;
-    let quants = quants(graph, alloc, proof)?;
-    let size = size(graph, alloc, proof)?;
+    let cuts = cuts(alloc, graph, proof)?;
+    let nodes = nodes(alloc, graph, proof)?;
+    let quants = quants(alloc, graph, proof)?;
+    let size = size(alloc, graph, proof)?;
     Ok(Made::Sizes {
         cuts,
         nodes,

@@ -1,12 +1,11 @@
 //! What the import of a refutation comes to.
 ghost use Rattle.std.specs.Prelude.{◌≡◌, [], ◌∷◌, true};
 ghost use Rattle.std.specs.List.{All, list_all};
-ghost use mathlib.Core.List.{IsPrefix};
 ghost use Rattle.refutations.specs.Clauses.{IsClauseOf};
 ghost use Rattle.refutations.specs.Refutations.{refutation, AreFormedSteps};
 ghost use Rattle.tptp_problem.specs.ProblemClauses.{IsReadProblem};
 ghost use Rattle.proof_graph.specs.Graphs.{history};
-ghost use Rattle.proof_subst.specs.Benches.{graph_of, pass_in, images_in, IsBenchPassOf};
+ghost use Rattle.proof_subst.specs.Benches.{graph_of, pass_in, images_in, IsBenchPassOf, Extends};
 ghost use Rattle.operation_laws.specs.Running.{has_closure, refutation_shown as shown_refutation, refuted, refutes, run};
 ghost use Rattle.operations.specs.Means.{sense, Fits, Comes, is_refusal};
 
@@ -56,9 +55,8 @@ fn import_in<R: Wait>(
     requires steps { AreFormedSteps steps.now }
     ensures ran { Comes (graph_of bench.now) result (refuted (refutation clauses.now steps.now)) }
     ensures unchanged { is_refusal result ≡ true → history (pass_in pass.new) ≡ history (pass_in pass.old) }
-    ensures grown { IsPrefix (history (pass_in pass.old)) (history (pass_in pass.new)) }
-    ensures images_grown { IsPrefix (images_in pass.old) (images_in pass.new) }
-    ensures pass_stays { IsBenchPassOf bench.now pass.new }
+    ensures images_stay { images_in pass.new ≡ images_in pass.old }
+    ensures extends { Extends bench.now pass.old pass.new }
 {
     match import(rt, alloc, bench, pass, clauses, steps) {
         Ok(proof) => Ran::Done(Made::Proof(proof)),
@@ -85,9 +83,8 @@ fn import_problem<R: Wait>(
     requires steps { AreFormedSteps steps.now }
     ensures ran { Comes (graph_of bench.now) result (refutes steps.now problem.now) }
     ensures unchanged { is_refusal result ≡ true → history (pass_in pass.new) ≡ history (pass_in pass.old) }
-    ensures grown { IsPrefix (history (pass_in pass.old)) (history (pass_in pass.new)) }
-    ensures images_grown { IsPrefix (images_in pass.old) (images_in pass.new) }
-    ensures pass_stays { IsBenchPassOf bench.now pass.new }
+    ensures images_stay { images_in pass.new ≡ images_in pass.old }
+    ensures extends { Extends bench.now pass.old pass.new }
 {
     let Ok(clauses) = clauses(alloc, problem) else {
         return Ran::Lacking;
@@ -114,9 +111,8 @@ pub fn refute<R: Wait>(
     requires steps { AreFormedSteps steps.now }
     ensures ran { Comes (graph_of bench.now) result (run (Op.Resolution of.now steps.now) (sense value.now ∷ [])) }
     ensures unchanged { is_refusal result ≡ true → history (pass_in pass.new) ≡ history (pass_in pass.old) }
-    ensures grown { IsPrefix (history (pass_in pass.old)) (history (pass_in pass.new)) }
-    ensures images_grown { IsPrefix (images_in pass.old) (images_in pass.new) }
-    ensures pass_stays { IsBenchPassOf bench.now pass.new }
+    ensures images_stay { images_in pass.new ≡ images_in pass.old }
+    ensures extends { Extends bench.now pass.old pass.new }
 {
     match problem_given(alloc, of, value) {
         Ok(problem) => import_problem(rt, alloc, bench, pass, problem, steps),

@@ -1,11 +1,10 @@
 //! What the search for the proof of a sequent comes to.
 ghost use Rattle.std.specs.Prelude.{◌≡◌, find, option_copied, option_map, IfSome, true};
 ghost use Rattle.std.specs.List.{All};
-ghost use mathlib.Core.List.{IsPrefix};
 ghost use Rattle.fol.specs.Formed.{IsFormed};
 ghost use Rattle.proof_graph.specs.declared.graph.Graph.{Graph as GraphMeaning};
 ghost use Rattle.proof_graph.specs.Graphs.{history};
-ghost use Rattle.proof_subst.specs.Benches.{graph_of, pass_in, images_in, IsBenchPassOf};
+ghost use Rattle.proof_subst.specs.Benches.{graph_of, pass_in, images_in, IsBenchPassOf, Extends};
 ghost use Rattle.search_laws.specs.Truth.{has_quantifier as is_quantified, IsPropositional};
 ghost use Rattle.search_laws.specs.Search.{walk};
 ghost use Rattle.prop_search.specs.Deciding.{found};
@@ -80,9 +79,8 @@ fn search_for<R: Wait>(
     requires propositional { IsPropositional sequent.now }
     ensures ran { Comes (graph_of bench.now) result (searched (found budget (walk sequent.now))) }
     ensures unchanged { is_refusal result ≡ true → history (pass_in pass.new) ≡ history (pass_in pass.old) }
-    ensures grown { IsPrefix (history (pass_in pass.old)) (history (pass_in pass.new)) }
-    ensures images_grown { IsPrefix (images_in pass.old) (images_in pass.new) }
-    ensures pass_stays { IsBenchPassOf bench.now pass.new }
+    ensures images_stay { images_in pass.new ≡ images_in pass.old }
+    ensures extends { Extends bench.now pass.old pass.new }
 {
     let graph = bench.graph();
     match search(rt, alloc, graph, Bench::graph_pass(pass), sequent, budget) {
@@ -106,9 +104,8 @@ pub fn prove_sequent<R: Wait>(
     requires pass { IsBenchPassOf bench.now pass.old }
     ensures ran { Comes (graph_of bench.now) result (searches (quantified_of sequent.now) sequent.now budget) }
     ensures unchanged { is_refusal result ≡ true → history (pass_in pass.new) ≡ history (pass_in pass.old) }
-    ensures grown { IsPrefix (history (pass_in pass.old)) (history (pass_in pass.new)) }
-    ensures images_grown { IsPrefix (images_in pass.old) (images_in pass.new) }
-    ensures pass_stays { IsBenchPassOf bench.now pass.new }
+    ensures images_stay { images_in pass.new ≡ images_in pass.old }
+    ensures extends { Extends bench.now pass.old pass.new }
 {
     match quantified_in(sequent) {
         Some((formula, side)) => quantified(formula, side),

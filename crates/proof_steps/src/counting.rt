@@ -7,7 +7,7 @@ use proof_graph::{Graph, ProofRef};
 use std::alloc::{AllocError, Global};
 
 /// The number of nodes in the tree, at most 2^64 - 1.
-pub fn size(_graph: &Graph, _alloc: Global, proof: &ProofRef) -> Result<u64, AllocError>
+pub fn size(_alloc: Global, _graph: &Graph, proof: &ProofRef) -> Result<u64, AllocError>
     requires { IsOf _graph.now proof.now }
     ensures { IfOk result (λ n. n ≡ min (size_of proof.now.tree) (2 ^ 64 - 1)) }
 {
@@ -15,7 +15,7 @@ pub fn size(_graph: &Graph, _alloc: Global, proof: &ProofRef) -> Result<u64, All
 }
 
 /// The number of nodes by cut in the tree, at most 2^64 - 1.
-pub fn cuts(_graph: &Graph, _alloc: Global, proof: &ProofRef) -> Result<u64, AllocError>
+pub fn cuts(_alloc: Global, _graph: &Graph, proof: &ProofRef) -> Result<u64, AllocError>
     requires { IsOf _graph.now proof.now }
     ensures { IfOk result (λ n. n ≡ min (cuts_of proof.now.tree) (2 ^ 64 - 1)) }
 {
@@ -23,7 +23,7 @@ pub fn cuts(_graph: &Graph, _alloc: Global, proof: &ProofRef) -> Result<u64, All
 }
 
 /// The number of nodes by a quantifier rule in the tree, at most 2^64 - 1.
-pub fn quants(_graph: &Graph, _alloc: Global, proof: &ProofRef) -> Result<u64, AllocError>
+pub fn quants(_alloc: Global, _graph: &Graph, proof: &ProofRef) -> Result<u64, AllocError>
     requires { IsOf _graph.now proof.now }
     ensures { IfOk result (λ n. n ≡ min (quants_of proof.now.tree) (2 ^ 64 - 1)) }
 {

@@ -16,7 +16,7 @@ use proof_graph::{Graph, ProofRef};
 use std::alloc::{AllocError, Global};
 
 // The listing of the distinct subtrees.
-fn list(graph: &Graph, alloc: Global, proof: &ProofRef) -> Result<Listing, AllocError>
+fn list(alloc: Global, graph: &Graph, proof: &ProofRef) -> Result<Listing, AllocError>
     requires { IsOf graph.now proof.now }
     ensures { IfOk result (λ listing. listing.trees ≡ distinct_subtrees proof.now.tree) }
 {
@@ -27,7 +27,7 @@ fn list(graph: &Graph, alloc: Global, proof: &ProofRef) -> Result<Listing, Alloc
 
 /// The distinct subtrees in post-order, the premises' from left to right and the root last, each as a step whose premises are the places
 /// of their trees in this list. It takes O(n) look-ups by hashes for n distinct references.
-pub fn steps(graph: &Graph, alloc: Global, proof: &ProofRef) -> Result<Vec<Step>, AllocError>
+pub fn steps(alloc: Global, graph: &Graph, proof: &ProofRef) -> Result<Vec<Step>, AllocError>
     requires { IsOf graph.now proof.now }
     ensures steps { IfOk result (λ steps. steps.items ≡ steps_of proof.now.tree) }
     ensures trees { IfOk result (λ steps. trees_of_steps steps.items ≡ distinct_subtrees proof.now.tree) }
@@ -36,25 +36,25 @@ pub fn steps(graph: &Graph, alloc: Global, proof: &ProofRef) -> Result<Vec<Step>
     ensures formed { IfOk result (λ steps. All (λ s. IsFormedRule s.rule) steps.items) }
 {
     proof.known();
-    let listing = list(graph, alloc, proof)?;
+    let listing = list(alloc, graph, proof)?;
     listing.to_steps(alloc)
 }
 
 /// The number of distinct subtrees.
-pub fn nodes(graph: &Graph, alloc: Global, proof: &ProofRef) -> Result<u64, AllocError>
+pub fn nodes(alloc: Global, graph: &Graph, proof: &ProofRef) -> Result<u64, AllocError>
     requires { IsOf graph.now proof.now }
     ensures { IfOk result (λ n. n ≡ length (steps_of proof.now.tree)) }
 {
-    let listing = list(graph, alloc, proof)?;
+    let listing = list(alloc, graph, proof)?;
     Ok(listing.len())
 }
 
 /// The place of the first cut in `steps`.
-pub fn first_cut(graph: &Graph, alloc: Global, proof: &ProofRef) -> Result<Option<u64>, AllocError>
+pub fn first_cut(alloc: Global, graph: &Graph, proof: &ProofRef) -> Result<Option<u64>, AllocError>
     requires { IsOf graph.now proof.now }
     ensures place { IfOk result (λ place. place ≡ position is_cut_step (steps_of proof.now.tree)) }
     ensures none { IfOk result (λ place. IsNone place ↔ IsCutFree proof.now.tree) }
 {
-    let listing = list(graph, alloc, proof)?;
+    let listing = list(alloc, graph, proof)?;
     Ok(listing.first_cut())
 }

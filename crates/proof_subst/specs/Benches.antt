@@ -1,5 +1,6 @@
--- The parts of a bench, and which passes belong to it.
+-- The parts of a bench, which passes belong to it, and what calls do to a pass.
 use Rattle.std.specs.Prelude.{ℕ, List}
+use mathlib.Core.List.{IsPrefix}
 use Rattle.substitution.specs.Maps.{Map}
 use Rattle.turn_log.specs.Passes.{seen}
 use Rattle.memo_table.specs.declared.rows.Pair.{Pair}
@@ -7,7 +8,7 @@ use Rattle.memo_table.specs.Pairs.{IsIn}
 use Rattle.memo_table.specs.Memos as memo
 use Rattle.proof_graph.specs.declared.graph.Graph.{Graph}
 use Rattle.proof_graph.specs.declared.graph.GraphPass.{GraphPass}
-use Rattle.proof_graph.specs.Graphs.{IsPassOf}
+use Rattle.proof_graph.specs.Graphs.{IsPassOf, history}
 use Rattle.arena_cells.specs.Items.{Item}
 use Rattle.arena_graph.specs.ProofNumbers.{AreNumbersOf}
 use Rattle.proof_subst.specs.declared.bench.Bench.{Bench}
@@ -41,3 +42,7 @@ pub record IsBenchPassOf (b : Bench) (p : BenchPass) : Type 0 where
   pub graph : IsPassOf (graph_of b) (pass_in p)
   pub images : memo.IsPassOf b.images p.images
   pub numbers : AreNumbersOf (graph_of b) (arena_in p) p.numbers
+
+-- what a call does to a pass of the bench: it is one after the call, and has seen at least what it had seen of the graph's history
+abbrev pub Extends : Bench → BenchPass → BenchPass → Type 0
+Extends b old new = IsBenchPassOf b new × IsPrefix (history (pass_in old)) (history (pass_in new))

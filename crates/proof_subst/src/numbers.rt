@@ -1,11 +1,10 @@
 //! Proofs by the numbers of their trees in the arena of a pass.
 ghost use Rattle.std.specs.Prelude.{◌≡◌, ◌≤◌, ◌^◌, length, IfOk};
-ghost use mathlib.Core.List.{IsPrefix};
 ghost use Rattle.proof_trees.specs.Trees.{IsValid};
-ghost use Rattle.proof_graph.specs.Graphs.{IsOf, history};
+ghost use Rattle.proof_graph.specs.Graphs.{IsOf, Makes};
 ghost use Rattle.arena_cells.specs.Standing.{HasTree, tree_at, IsTreeAt};
 ghost use Rattle.proof_trees.specs.Conclusions.{HasFormedEnd};
-ghost use Rattle.proof_subst.specs.Benches.{graph_of, pass_in, images_in, arena_in, IsBenchPassOf};
+ghost use Rattle.proof_subst.specs.Benches.{graph_of, pass_in, images_in, arena_in, IsBenchPassOf, Extends};
 
 use crate::bench::{Bench, BenchPass};
 use arena::Arena;
@@ -52,9 +51,9 @@ pub fn number_of(
 {
     make_room(alloc, bench, pass);
     import_proof(
-        &mut pass.arena,
         alloc,
         bench.graph(),
+        &mut pass.arena,
         &mut pass.numbers,
         proof,
     )
@@ -72,12 +71,10 @@ pub fn proof_at<R: Wait>(
     requires there { IsTreeAt (arena_in pass.old) number }
     requires valid { IsValid (tree_at (arena_in pass.old) number) }
     requires formed { HasFormedEnd (tree_at (arena_in pass.old) number) }
-    ensures tree { IfOk result (λ r. r.tree ≡ tree_at (arena_in pass.old) number) }
-    ensures of { IfOk result (IsOf (graph_of bench.now)) }
+    ensures made { IfOk result (Makes (graph_of bench.now) (tree_at (arena_in pass.old) number)) }
     ensures arena_stays { arena_in pass.new ≡ arena_in pass.old }
     ensures images_stay { images_in pass.new ≡ images_in pass.old }
-    ensures grown { IsPrefix (history (pass_in pass.old)) (history (pass_in pass.new)) }
-    ensures pass_stays { IsBenchPassOf bench.now pass.new }
+    ensures extends { Extends bench.now pass.old pass.new }
 {
     export_proof(
         rt,

@@ -9,9 +9,9 @@ ghost use Rattle.lk_rules.specs.Sequents.{image_sequent};
 ghost use Rattle.proof_trees.specs.Trees.{concl, IsValid};
 ghost use Rattle.proof_trees.specs.FreeVariables.{is_free_in_tree};
 ghost use Rattle.proof_trees.specs.Substitution.{sub};
-ghost use Rattle.proof_graph.specs.Graphs.{IsOf, history};
-ghost use Rattle.arena_cells.specs.Standing.{Extends, HasTree, tree_at, IsTreeAt};
-ghost use Rattle.proof_subst.specs.Benches.{graph_of, pass_in, images_in, arena_in, HasImage, IsBenchPassOf};
+ghost use Rattle.proof_graph.specs.Graphs.{IsOf, Makes};
+ghost use Rattle.arena_cells.specs.Standing.{Extends as ExtendsArena, HasTree, tree_at, IsTreeAt};
+ghost use Rattle.proof_subst.specs.Benches.{graph_of, pass_in, images_in, arena_in, HasImage, IsBenchPassOf, Extends};
 ghost use Rattle.proof_subst.specs.Images.{IsImageOf};
 
 use crate::bench::{Bench, BenchPass};
@@ -35,7 +35,7 @@ fn image_of(
     requires there { IsTreeAt (arena_in pass.old) number }
     requires valid { IsValid (tree_at (arena_in pass.old) number) }
     ensures tree { IfOk result (λ n. HasTree (arena_in pass.new) n (sub (tree_at (arena_in pass.old) number) map.now)) }
-    ensures arena { Extends (arena_in pass.old) (arena_in pass.new) }
+    ensures arena { ExtendsArena (arena_in pass.old) (arena_in pass.new) }
     ensures graph_stays { pass_in pass.new ≡ pass_in pass.old }
     ensures images_stay { images_in pass.new ≡ images_in pass.old }
     ensures pass_stays { IsBenchPassOf bench.now pass.new }
@@ -57,12 +57,10 @@ fn compute<R: Wait>(
     requires pass_of { IsBenchPassOf bench.now pass.old }
     requires of { IsOf (graph_of bench.now) proof.now }
     requires map { IsFormedMap (fin.get map.now) }
-    ensures tree { IfOk result (λ r. r.tree ≡ sub proof.now.tree map.now) }
+    ensures made { IfOk result (Makes (graph_of bench.now) (sub proof.now.tree map.now)) }
     ensures kept { ((v : Variable) → is_free_in_tree v proof.now.tree ≡ true → image_term (fin.get map.now) (free v) ≡ free v) → IfOk result (λ r. r ≡ proof.now) }
-    ensures of { IfOk result (IsOf (graph_of bench.now)) }
-    ensures grown { IsPrefix (history (pass_in pass.old)) (history (pass_in pass.new)) }
     ensures images_stay { images_in pass.new ≡ images_in pass.old }
-    ensures pass_stays { IsBenchPassOf bench.now pass.new }
+    ensures extends { Extends bench.now pass.old pass.new }
 {
     proof.known();
     let number = number_of(alloc, bench, pass, proof)?;
@@ -147,15 +145,13 @@ pub fn substitute<R: Wait>(
     requires pass_of { IsBenchPassOf bench.now pass.old }
     requires of { IsOf (graph_of bench.now) proof.now }
     requires map { IsFormedMap (fin.get map.now) }
-    ensures tree { IfOk result (λ r. r.tree ≡ sub proof.now.tree map.now) }
+    ensures made { IfOk result (Makes (graph_of bench.now) (sub proof.now.tree map.now)) }
     ensures valid { IfOk result (λ r. IsValid r.tree) }
     ensures end { IfOk result (λ r. concl r.tree ≡ image_sequent (fin.get map.now) (concl proof.now.tree)) }
     ensures kept { ((v : Variable) → is_free_in_tree v proof.now.tree ≡ true → image_term (fin.get map.now) (free v) ≡ free v) → IfOk result (λ r. r ≡ proof.now) }
-    ensures of { IfOk result (IsOf (graph_of bench.now)) }
     ensures noted { IfOk result (λ _. HasImage pass.new proof.now.number map.now) }
-    ensures grown { IsPrefix (history (pass_in pass.old)) (history (pass_in pass.new)) }
     ensures images_grown { IsPrefix (images_in pass.old) (images_in pass.new) }
-    ensures pass_stays { IsBenchPassOf bench.now pass.new }
+    ensures extends { Extends bench.now pass.old pass.new }
 {
     let key = ImageKey {
         proof: proof.number(),

@@ -54,8 +54,8 @@ fn contracted<R: Abort + Wait, L: Ledger>(
     let (Rule::Cut(_), [left, right]) = (&graph.get(proof).rule, proof.premises()) else {
         panic!(rt; "no cut")
     };
-    let left_cut = first_cut(graph, alloc, left)?;
-    let right_cut = first_cut(graph, alloc, right)?;
+    let left_cut = first_cut(alloc, graph, left)?;
+    let right_cut = first_cut(alloc, graph, right)?;
     assert!(rt; left_cut.is_none() && right_cut.is_none());
     Ok(contract(rt, alloc, bench, pass, proof, steps)?)
 }

@@ -108,7 +108,7 @@ fn admitted<R: Wait>(
     ensures of { IfOk result (IsOf (graph_of bench.now)) }
     ensures pass_stays { IsBenchPassOf bench.now pass.new }
 {
-    Ok(admit(bench.graph(), rt, alloc, Bench::graph_pass(pass), list)?)
+    Ok(admit(rt, alloc, bench.graph(), Bench::graph_pass(pass), list)?)
 }
 
 // Sees on a desk what the elimination of such a cut comes to: a cut on its unfolding takes the place of the cut, and a weakening that of

@@ -252,7 +252,7 @@ pub fn proof<R: Wait>(
     ensures pass_stays { IsPassOf graph.now pass.new }
 {
     let list = steps(alloc, text)?;
-    Ok(admit(graph, rt, alloc, pass, list.as_slice())?)
+    Ok(admit(rt, alloc, graph, pass, list.as_slice())?)
 }
 
 /// Sees that a proof is that of a text: one graph has each proof once.

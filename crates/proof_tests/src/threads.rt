@@ -27,7 +27,7 @@ fn put<R: Wait>(
     ensures pass_stays { IsPassOf graph.now result.0 }
     ensures of { IfSome result.1 (IsOf graph.now) }
 {
-    let made = admit(graph, rt, alloc, &mut pass, list).ok();
+    let made = admit(rt, alloc, graph, &mut pass, list).ok();
     (pass, made)
 }
 
@@ -131,7 +131,7 @@ fn count_by_one<R: Wait>(
 {
     for block in 1..3u64 {
         let list = ten_thousand_axioms(alloc, block)?;
-        admit(graph, rt, alloc, pass, &list)?;
+        admit(rt, alloc, graph, pass, &list)?;
     }
     count(rt, alloc, graph, pass)
 }
@@ -149,8 +149,8 @@ fn count_by_two<R: Abort + Threads + Wait + Sync>(
     let first = ten_thousand_axioms(alloc, 1)?;
     let second = ten_thousand_axioms(alloc, 2)?;
     put_both(rt, alloc, graph, pass, &first, &second)?;
-    admit(graph, rt, alloc, pass, &first)?;
-    admit(graph, rt, alloc, pass, &second)?;
+    admit(rt, alloc, graph, pass, &first)?;
+    admit(rt, alloc, graph, pass, &second)?;
     count(rt, alloc, graph, pass)
 }
 

@@ -1,13 +1,12 @@
 //! Search for the proof of a sequent.
 ghost use Rattle.std.specs.Prelude.{◌≡◌, ◌≢◌, ◌<◌, true, length, Some, Err, IfOk, IfErr};
 ghost use Rattle.std.specs.List.{All, list_all};
-ghost use mathlib.Core.List.{IsPrefix};
 ghost use Rattle.fol.specs.Formed.{IsFormed};
 ghost use Rattle.finite.specs.Finite as set;
 ghost use Rattle.lk_rules.specs.Rules.{needs};
 ghost use Rattle.proof_trees.specs.Trees.{concl, IsValid, IsCutFree};
 ghost use Rattle.proof_graph.specs.References.{trees_of};
-ghost use Rattle.proof_graph.specs.Graphs.{IsOf, IsPassOf, history};
+ghost use Rattle.proof_graph.specs.Graphs.{IsOf, IsPassOf, history, Extends};
 ghost use Rattle.refutations.specs.Clauses.{is_atom};
 ghost use Rattle.search_laws.specs.Truth.{Assignment, IsPropositional, falsifies};
 ghost use Rattle.search_laws.specs.Search.{premises_from, rule_at, proved, all_proved, walk_each, walk};
@@ -55,8 +54,7 @@ fn conclude<R: Wait>(
     requires trees { walk_each walk (premises_from rule sequent 0 (needs rule)) ≡ all_proved (trees_of premises.now) }
     ensures tree { IfOk result (λ r. walk sequent ≡ proved r.tree) }
     ensures of { IfOk result (IsOf graph.now) }
-    ensures grown { IsPrefix (history pass.old) (history pass.new) }
-    ensures pass_stays { IsPassOf graph.now pass.new }
+    ensures extends { Extends graph.now pass.old pass.new }
 {
     laws::steps();
     laws::proofs();
@@ -81,8 +79,7 @@ fn prove_at<R: Wait>(
     requires proved { IsProved (walk (sequent_of numbering.now sequent)) }
     ensures proof { IfOk result (IsProofOf graph.now numbering.now sequent) }
     ensures made { AreMade graph.now numbering.now made.new }
-    ensures grown { IsPrefix (history pass.old) (history pass.new) }
-    ensures pass_stays { IsPassOf graph.now pass.new }
+    ensures extends { Extends graph.now pass.old pass.new }
 {
     if let Some(proof) = made.proof(graph, numbering, &sequent) {
         return proof.keep();
@@ -109,8 +106,7 @@ fn prove_new<R: Wait>(
     requires proved { IsProved (walk (sequent_of numbering.now sequent.now)) }
     ensures proof { IfOk result (IsProofOf graph.now numbering.now sequent.now) }
     ensures made { AreMade graph.now numbering.now made.new }
-    ensures grown { IsPrefix (history pass.old) (history pass.new) }
-    ensures pass_stays { IsPassOf graph.now pass.new }
+    ensures extends { Extends graph.now pass.old pass.new }
 {
     laws::steps();
     let end = made.sequent(alloc, graph, numbering, sequent)?;
@@ -152,8 +148,7 @@ fn prove_premises<R: Wait>(
     ensures trees { IfOk result (λ proofs. walk_each walk (premises_of numbering.now (sequent_of numbering.now sequent.now) main parts) ≡ all_proved (trees_of proofs.items)) }
     ensures of { IfOk result (λ proofs. All (IsOf graph.now) proofs.items) }
     ensures made { AreMade graph.now numbering.now made.new }
-    ensures grown { IsPrefix (history pass.old) (history pass.new) }
-    ensures pass_stays { IsPassOf graph.now pass.new }
+    ensures extends { Extends graph.now pass.old pass.new }
 {
     let mut premise = sequent.copy(alloc)?;
     match parts {
@@ -200,8 +195,7 @@ pub fn search<R: Wait>(
     ensures atoms { (a : Assignment) → result ≡ Err (SearchFault.Falsified a) → list_all is_atom (set.listing a) ≡ true }
     ensures unchanged { IfErr result (λ e. e ≢ SearchFault.Memory → history pass.new ≡ history pass.old) }
     ensures of { IfOk result (IsOf graph.now) }
-    ensures grown { IsPrefix (history pass.old) (history pass.new) }
-    ensures pass_stays { IsPassOf graph.now pass.new }
+    ensures extends { Extends graph.now pass.old pass.new }
 {
     laws::proofs();
     let numbering = Numbering::new(alloc, sequent)?;

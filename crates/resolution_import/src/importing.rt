@@ -1,12 +1,11 @@
 //! The proof that a refutation stands for.
 ghost use Rattle.std.specs.Prelude.{◌≡◌, ◌≢◌, Ok, IfOk, IfErr};
 ghost use Rattle.std.specs.List.{All};
-ghost use mathlib.Core.List.{IsPrefix};
 ghost use Rattle.fol.specs.Formed.{IsFormed};
 ghost use Rattle.proof_trees.specs.Trees.{concl, IsValid};
 ghost use Rattle.proof_graph.specs.Graphs.{IsOf, history};
 ghost use Rattle.arena_cells.specs.Standing.{tree_at, IsTreeAt};
-ghost use Rattle.proof_subst.specs.Benches.{graph_of, pass_in, images_in, arena_in, IsBenchPassOf};
+ghost use Rattle.proof_subst.specs.Benches.{graph_of, pass_in, images_in, arena_in, IsBenchPassOf, Extends};
 ghost use Rattle.refutations.specs.Clauses.{IsClauseOf, closure_of, closures};
 ghost use Rattle.refutations.specs.Refutations.{refutation, AreFormedSteps};
 ghost use Rattle.resolution_import.specs.Importing.{IsRefuted, Refutes, Imports};
@@ -89,9 +88,8 @@ pub fn import<R: Wait>(
     ensures of { IfOk result (IsOf (graph_of bench.now)) }
     // Each step is looked at before the first proof is put into the graph.
     ensures unchanged { IfErr result (λ e. e ≢ ImportFault.Memory → history (pass_in pass.new) ≡ history (pass_in pass.old)) }
-    ensures grown { IsPrefix (history (pass_in pass.old)) (history (pass_in pass.new)) }
     ensures images_stay { images_in pass.new ≡ images_in pass.old }
-    ensures pass_stays { IsBenchPassOf bench.now pass.new }
+    ensures extends { Extends bench.now pass.old pass.new }
 {
     laws::refutations();
     laws::valid_refutations();

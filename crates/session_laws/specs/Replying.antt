@@ -1,7 +1,7 @@
 -- The reply line of a job, and what it tells.
 use Rattle.std.specs.Prelude.{ℕ, ◌+◌, Bool, List, length}
 use Rattle.reply_lines.specs.declared.replies.Outcome.{Outcome}
-use Rattle.reply_lines.specs.declared.replies.Outcome.TheVariants.{Reduced}
+use Rattle.reply_lines.specs.declared.replies.Outcome.TheVariants as outcomes
 use Rattle.reply_lines.specs.declared.replies.Reply.{Reply}
 use Rattle.reply_lines.specs.Replies.{line_of, is_ok_outcome}
 use Rattle.session_laws.specs.Jobs.{Past}
@@ -21,8 +21,39 @@ is_ok_reply earlier job = is_ok_outcome (outcome_of earlier job)
 
 -- the reductions that a reply tells of, as that to cut elimination does
 abbrev pub reductions_in : Outcome → ℕ
-reductions_in (Reduced summary reductions) = reductions
-reductions_in outcome = 0
+reductions_in (outcomes.Reduced summary reductions) = reductions
+reductions_in (outcomes.Proof summary) = 0
+reductions_in (outcomes.Entries entries sequent) = 0
+reductions_in (outcomes.Proves proves) = 0
+reductions_in (outcomes.Steps steps) = 0
+reductions_in (outcomes.Measure cuts nodes quants size) = 0
+reductions_in (outcomes.Expansion summary) = 0
+reductions_in (outcomes.Nodes flat) = 0
+reductions_in (outcomes.Interpolant first formula second) = 0
+reductions_in (outcomes.Herbrand count sequent) = 0
+reductions_in (outcomes.Introduced summary shorter) = 0
+reductions_in outcomes.LineTooLong = 0
+reductions_in (outcomes.Reading cause) = 0
+reductions_in outcomes.NameTaken = 0
+reductions_in (outcomes.UnknownName name) = 0
+reductions_in (outcomes.Kind name) = 0
+reductions_in outcomes.Empty = 0
+reductions_in (outcomes.Step step cause) = 0
+reductions_in (outcomes.Refutation step cause) = 0
+reductions_in (outcomes.Quantified formula side) = 0
+reductions_in (outcomes.Falsified atoms) = 0
+reductions_in (outcomes.Node node cause) = 0
+reductions_in (outcomes.Root root cause) = 0
+reductions_in (outcomes.EigenTwice var) = 0
+reductions_in (outcomes.EigenFree var) = 0
+reductions_in (outcomes.Cycle vars) = 0
+reductions_in (outcomes.Cut place) = 0
+reductions_in (outcomes.Defined formula side) = 0
+reductions_in (outcomes.Partition formula side) = 0
+reductions_in (outcomes.NotPrenex formula side) = 0
+reductions_in (outcomes.TooMany tuples) = 0
+reductions_in outcomes.Budget = 0
+reductions_in outcomes.Memory = 0
 
 unfoldable pub reductions_shown : List Past → Past → ℕ
 reductions_shown earlier job = reductions_in (outcome_of earlier job)

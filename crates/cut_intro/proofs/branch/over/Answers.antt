@@ -18,6 +18,5 @@ loop-rule-preserved g c = record {
       subst (λ (t : Tree). AreInferences c.pop.new.self.items t) (sym c.in_ok-next.ensures.tree)
       (popped_rest c.loop-rule.list.items c.pop.new.self.items c.in-Some.field-0 c.loop-rule.proof.tree c.in-Some.ensures.items c.loop-rule.invariant.right);
   of = c.in_ok-next.ensures.of;
-  grown = prefix_trans _ _ _ c.loop-rule.invariant.grown c.in_ok-next.ensures.grown;
-  pass_of = c.in_ok-next.ensures.pass_stays;
+  extends = (c.in_ok-next.ensures.pass_stays, prefix_trans _ _ _ c.loop-rule.invariant.extends.1 c.in_ok-next.ensures.grown);
 }

@@ -1,7 +1,6 @@
 -- The inferences that are left are right over the proof so far, and give the whole.
 use Rattle.std.proofs.Common.{◌≡◌, vec_len}
-use mathlib.Core.List.{IsPrefix}
-use Rattle.proof_graph.specs.Graphs.{IsOf, IsPassOf, history}
+use Rattle.proof_graph.specs.Graphs.{IsOf, Extends}
 use Rattle.cut_intro.specs.Branches.{over_each, AreInferences}
 use Rattle.cut_intro.proofs.branch.over.Given as goal
 
@@ -10,8 +9,7 @@ invariant-loop-rule g l = record {
   whole : over_each l.list.items l.proof.tree ≡ over_each l.initial.list.items l.initial.proof.tree;
   right : AreInferences l.list.items l.proof.tree;
   of : IsOf l.graph l.proof;
-  grown : IsPrefix (history l.initial.pass) (history l.pass);
-  pass_of : IsPassOf l.graph l.pass;
+  extends : Extends l.graph l.initial.pass l.pass;
 }
 
 abbrev pub decreases-loop-rule : goal.decreases-loop-rule

@@ -26,6 +26,5 @@ loop-step-preserved g c =
       of = rw c.in_ok-push.ensures.items (All-push (IsOf c.args.graph.now) c.loop-step.proofs.items c.in_ok-proof.proof c.loop-step.invariant.of c.in_ok-proof.ensures.of);
       trees = rw c.in_ok-push.ensures.items (trees_next c.args.steps.now c.loop-step.step-index c.step-item.result c.loop-step.proofs.items c.in_ok-proof.proof within c.step-item.is tree c.loop-step.invariant.trees);
       ends = rw c.in_ok-push.ensures.items (ends_next c.args.steps.now c.loop-step.step-index c.step-item.result c.loop-step.proofs.items c.in_ok-proof.proof within c.step-item.is tree c.loop-step.invariant.ends);
-      grown = prefix_trans _ _ _ c.loop-step.invariant.grown c.in_ok-proof.ensures.grown;
-      pass = c.in_ok-proof.ensures.pass_stays;
+      extends = (c.in_ok-proof.ensures.extends.0, prefix_trans _ _ _ c.loop-step.invariant.extends.1 c.in_ok-proof.ensures.extends.1);
     }

@@ -1,9 +1,8 @@
 -- The steps so far have their trees.
 use Rattle.std.proofs.Common.{◌≡◌, map, take, drop}
 use Rattle.std.specs.List.{All}
-use mathlib.Core.List.{IsPrefix}
 use Rattle.proof_trees.specs.Trees.{concl}
-use Rattle.proof_graph.specs.Graphs.{IsOf, IsPassOf, history}
+use Rattle.proof_graph.specs.Graphs.{IsOf, Extends}
 use Rattle.lk_check.specs.StepTrees.{trees_after, trees_of_steps}
 use Rattle.lk_check.proofs.Picks.{tree_of}
 use Rattle.lk_check.proofs.Growing.{end_of}
@@ -14,6 +13,5 @@ invariant-loop-step g l = record {
   of : All (IsOf l.graph) l.proofs.items;
   trees : trees_after (map tree_of l.proofs.items) (drop l.step-index l.steps) ≡ trees_of_steps l.steps;
   ends : map concl (map tree_of l.proofs.items) ≡ map end_of (take l.step-index l.steps);
-  grown : IsPrefix (history l.initial.pass) (history l.pass);
-  pass : IsPassOf l.graph l.pass;
+  extends : Extends l.graph l.initial.pass l.pass;
 }

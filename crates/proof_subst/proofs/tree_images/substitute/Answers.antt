@@ -30,7 +30,7 @@ returns-in-Some-clause-noted g c =
     at_key c.look_up.new.pass c.number.result c.args.proof.now.number c.args.map.now c.in_ok-copy.field-0 c.number.ensures c.in_ok-copy.ensures (stands refl)
 
 pub returns-clause-end : goal.returns-clause-end
-returns-clause-end g c = ap concl c.in_ok-image.ensures.tree ∙ concl-sub c.args.proof.now.tree c.args.map.now
+returns-clause-end g c = ap concl c.in_ok-image.ensures.made.1 ∙ concl-sub c.args.proof.now.tree c.args.map.now
 
 pub returns-clause-noted : goal.returns-clause-noted
 returns-clause-noted g c =
