@@ -59,6 +59,48 @@ fn a_write_fails_at_each_call(rt: HostRuntime) -> Result<(), Fail> {
     Ok(())
 }
 
+/// The bytes of the replies to the first 64 lines.
+fn first_window(written: &[u8]) -> u64 {
+    let mut lines = 0u64;
+    let mut bytes = 0u64;
+    for byte in written {
+        if lines < 64 {
+            bytes = bytes.saturating_add(1);
+        }
+        if *byte == b'\n' {
+            lines = lines.saturating_add(1);
+        }
+    }
+    bytes
+}
+
+/// The replies of a full window are written a byte a call. Then comes a flush, and the reply to the next line only at the end of the input.
+#[test]
+fn a_full_window_is_flushed(rt: HostRuntime) -> Result<(), Fail> {
+    let mut input = String::new(rt.alloc());
+    for _ in 0..65 {
+        input.push_str("{}\n")?;
+    }
+    let whole = run(&rt, rt.alloc(), &[], input.as_bytes(), 1, NONE)?;
+    let window = first_window(&whole.written);
+    assert!(rt; (whole.written.len() as u64) > window);
+    for behind in 0..3u64 {
+        let failing = Failing {
+            write: window.saturating_add(1).saturating_add(behind),
+            ..NONE
+        };
+        let ran = run(&rt, rt.alloc(), &[], input.as_bytes(), 1, failing)?;
+        let count = window.saturating_add(behind.saturating_sub(1));
+        assert_eq!(rt;
+            ran.written.len() as u64,
+            count,
+            "{behind} calls behind the flush"
+        );
+        assert_eq!(rt; ran.status, 4, "{behind} calls behind the flush");
+    }
+    Ok(())
+}
+
 /// All jobs before a read fault are answered, also where the last line is cut off; where the flush behind it fails too, the status is that
 /// of a write fault. A reply goes out in two calls of 50 bytes, and the third reply only in part.
 #[test]
