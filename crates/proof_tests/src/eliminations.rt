@@ -43,6 +43,24 @@ fn see_same<R: Abort>(rt: &R, desk: &Desk, made: &ProofRef, again: &ProofRef)
     assert!(rt; desk.bench().graph().same(made, again));
 }
 
+// Sees that the elimination takes more contractions than the budget allows.
+fn see_short<R: Abort + Wait + Threads + Sync, L: Ledger>(
+    rt: &R,
+    alloc: Global,
+    desk: &Desk,
+    pass: &mut DeskPass,
+    proof: &ProofRef,
+    budget: u64,
+    steps: &mut Steps<L>,
+)
+    requires pass_of { IsDeskPassOf desk.now pass.old }
+    requires of { IsOf (graph_of (bench_of desk.now)) proof.now }
+    ensures { IsDeskPassOf desk.now pass.new }
+{
+    let made = eliminate(rt, alloc, desk, pass, proof, budget, steps);
+    assert!(rt; told(&made) == Err(true));
+}
+
 // Sees that the elimination takes just so many contractions, and that none is made once it is known.
 fn see_known<R: Abort + Wait + Threads + Sync, L: Ledger>(
     rt: &R,
@@ -59,8 +77,7 @@ fn see_known<R: Abort + Wait + Threads + Sync, L: Ledger>(
     ensures pass_stays { IsDeskPassOf desk.now pass.new }
 {
     let less = reductions.saturating_sub(1);
-    let refused = eliminate(rt, alloc, desk, pass, proof, less, steps);
-    assert!(rt; told(&refused) == Err(true));
+    see_short(rt, alloc, desk, pass, proof, less, steps);
     let made = eliminate(rt, alloc, desk, pass, proof, reductions, steps)?;
     assert_eq!(rt; made.reductions, reductions);
     let counted = steps.count();
@@ -68,8 +85,7 @@ fn see_known<R: Abort + Wait + Threads + Sync, L: Ledger>(
     let again = eliminate(rt, alloc, desk, pass, proof, u64::MAX, steps)?;
     assert_eq!(rt; again.reductions, reductions);
     see_same(rt, desk, &made.proof, &again.proof);
-    let refused = eliminate(rt, alloc, desk, pass, proof, less, steps);
-    assert!(rt; told(&refused) == Err(true));
+    see_short(rt, alloc, desk, pass, proof, less, steps);
     assert_eq!(rt; steps.count(), counted);
     Ok(made.proof)
 }
