@@ -1,7 +1,6 @@
 -- The auxiliary formulas of a rule, by the key of its formula.
-use Rattle.std.proofs.Common.{◌≡◌, ℕ, List, Option, Some, None, option_to_list, refl, sym, ap, ◌∙◌}
-use Rattle.fol.specs.Syntax.{Term, Formula}
-use Rattle.finite.specs.Finite as set
+use Rattle.std.proofs.Common.{◌≡◌, ℕ, zero, suc, List, Some, None, refl, sym, ap, ◌∙◌}
+use Rattle.fol.specs.Syntax.{Term, pred, undefined, defined, Formula, atom}
 use Rattle.substitution.specs.Instance.{inst}
 use Rattle.substitution.specs.Unfolding.{unf}
 use Rattle.lk_rules.specs.declared.sequent.Sequent.{Sequent}
@@ -85,13 +84,27 @@ module _ (a : List Item) where
     keyed_is r e = refl
 
   module _ (s : Sequent) where
-    option_left : (o : Option Formula) → with_option s Left o ≡ record s { left = set.adds_each s.left (option_to_list o) }
-    option_left None = refl
-    option_left (Some f) = refl
+    -- a rule that unfolds an atom has the unfolding as its auxiliary formula in the first premise, and nothing in a second one
 
-    option_right : (o : Option Formula) → with_option s Right o ≡ record s { right = set.adds_each s.right (option_to_list o) }
-    option_right None = refl
-    option_right (Some f) = refl
+    unfolded_left : (g : Formula) → with_option s Left (unf g) ≡ extended s (aux (rule.DefL g) 0)
+    unfolded_left (atom (pred q undefined) ts) = refl
+    unfolded_left (atom (pred q (defined b)) ts) = refl
+    unfolded_left g = refl
+
+    unfolded_right : (g : Formula) → with_option s Right (unf g) ≡ extended s (aux (rule.DefR g) 0)
+    unfolded_right (atom (pred q undefined) ts) = refl
+    unfolded_right (atom (pred q (defined b)) ts) = refl
+    unfolded_right g = refl
+
+    one_premise_left : (g : Formula) → s ≡ extended s (aux (rule.DefL g) 1)
+    one_premise_left (atom (pred q undefined) ts) = refl
+    one_premise_left (atom (pred q (defined b)) ts) = refl
+    one_premise_left g = refl
+
+    one_premise_right : (g : Formula) → s ≡ extended s (aux (rule.DefR g) 1)
+    one_premise_right (atom (pred q undefined) ts) = refl
+    one_premise_right (atom (pred q (defined b)) ts) = refl
+    one_premise_right g = refl
 
     first_keyed : (r : RuleKey) (k : Key) → HasRuleParts a r → with_numbers a s (first_numbers r k) ≡ extended s (aux (keyed r k) 0)
     first_keyed (NegL f) (Not b) h = refl
@@ -106,8 +119,8 @@ module _ (a : List Item) where
     first_keyed (AllR f y) (All b) h = ap (λ t. adds_to s Right (inst (formula_at a b) t)) (is_term a y _ h.1)
     first_keyed (ExL f y) (Ex b) h = ap (λ t. adds_to s Left (inst (formula_at a b) t)) (is_term a y _ h.1)
     first_keyed (ExR f t) (Ex b) h = refl
-    first_keyed (DefL f) k h = option_left (unf (formula_at a f))
-    first_keyed (DefR f) k h = option_right (unf (formula_at a f))
+    first_keyed (DefL f) k h = unfolded_left (formula_at a f)
+    first_keyed (DefR f) k h = unfolded_right (formula_at a f)
     first_keyed (Cut f) k h = refl
     first_keyed r k h = refl
 
@@ -125,6 +138,8 @@ module _ (a : List Item) where
     second_keyed (AllR f y) (All b) = refl
     second_keyed (ExL f y) (Ex b) = refl
     second_keyed (ExR f t) (Ex b) = refl
+    second_keyed (DefL f) k = one_premise_left (formula_at a f)
+    second_keyed (DefR f) k = one_premise_right (formula_at a f)
     second_keyed r k = refl
 
     pub first_is : (r : RuleKey) (n : ℕ) (k : Key) → HasRuleParts a r → IsKeyAt a n k → formula_number r ≡ Some n → with_numbers a s (first_numbers r k) ≡ with_aux s (rule_at a r) 0
@@ -140,5 +155,6 @@ module _ (a : List Item) where
     unfolding with_aux
     none_is TopR i e = refl
     none_is BotL i e = refl
-    none_is Weak i e = refl
+    none_is Weak zero e = refl
+    none_is Weak (suc i) e = refl
     none_is r i e = cc

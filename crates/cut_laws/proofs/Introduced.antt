@@ -1,11 +1,11 @@
 -- The introductions of a formula on one side: the rule for its connective or quantifier, or the rule that unfolds it. Their auxiliary
 -- formulas are of lower grade.
-use Rattle.std.proofs.Common.{◌≡◌, ℕ, zero, suc, ◌+◌, ◌<◌, ◌≤◌, true, false, ◌||◌, List, [], ◌∷◌, Some, None, IfSome, option_to_list, is_some, refl, sym, ap, subst, arith}
+use Rattle.std.proofs.Common.{◌≡◌, ℕ, zero, suc, ◌+◌, ◌<◌, ◌≤◌, true, false, ◌||◌, List, [], ◌∷◌, Some, None, IfSome, option_to_list, is_some, refl, sym, ap, subst, ◌∙◌, arith}
 use Rattle.std.specs.List.{list_any}
 use Rattle.std.specs.Ordering.{eq_by_cmp}
 use Rattle.std.proofs.lemmas.Bool.{false_from_ne_true}
 use Rattle.fol.specs.declared.symbols.Var.{Var}
-use Rattle.fol.specs.Syntax.{Term, free, Terms, Pred, Formula, atom, top, bot, not, and, or, imp, all, ex}
+use Rattle.fol.specs.Syntax.{Term, free, Terms, Pred, pred, undefined, defined, Formula, atom, top, bot, not, and, or, imp, all, ex}
 use Rattle.fol.specs.Order.{formula_cmp}
 use Rattle.free_variables.specs.Grade.{grade_of}
 use Rattle.substitution.specs.Instance.{inst}
@@ -18,6 +18,7 @@ use Rattle.lk_rules.specs.declared.sequent.Side.TheVariants.{Left, Right}
 use Rattle.lk_rules.specs.declared.rule.Rule.{Rule}
 use Rattle.lk_rules.specs.declared.rule.Rule.TheVariants.{TopR, BotL, NegL, NegR, AndL, AndR, OrL, OrR, ImpL, ImpR, AllL, AllR, ExL, ExR, DefL, DefR}
 use Rattle.lk_rules.specs.Rules.{has_shape, main, aux}
+use Rattle.lk_rules.proofs.Rows.{shape_left, shape_right}
 use Rattle.proof_trees.specs.Substitution.{renamed}
 use Rattle.cut_laws.specs.Contraction.{moved_rule}
 use Rattle.cut_laws.proofs.Sides.{equal, alone, opposite}
@@ -62,7 +63,7 @@ is_introduction Right (OrR (or b c)) a shape m out = at_main (right_or b c) m
 is_introduction Right (ImpR (imp b c)) a shape m out = at_main (right_imp b c) m
 is_introduction Right (AllR (all b) y) a shape m out = at_main (right_all b y) m
 is_introduction Right (ExR (ex b) t) a shape m out = at_main (right_ex b t) m
-is_introduction Right (DefR (atom p ts)) a shape m out = unfolded (atom p ts) shape (λ b e. at_main (right_def p ts b e) m)
+is_introduction Right (DefR (atom p ts)) a shape m out = unfolded (atom p ts) (sym (shape_right (atom p ts)) ∙ shape) (λ b e. at_main (right_def p ts b e) m)
 is_introduction Left BotL a shape m out = at_main left_bot m
 is_introduction Left (NegL (not b)) a shape m out = at_main (left_not b) m
 is_introduction Left (AndL (and b c)) a shape m out = at_main (left_and b c) m
@@ -70,7 +71,7 @@ is_introduction Left (OrL (or b c)) a shape m out = at_main (left_or b c) m
 is_introduction Left (ImpL (imp b c)) a shape m out = at_main (left_imp b c) m
 is_introduction Left (AllL (all b) t) a shape m out = at_main (left_all b t) m
 is_introduction Left (ExL (ex b) y) a shape m out = at_main (left_ex b y) m
-is_introduction Left (DefL (atom p ts)) a shape m out = unfolded (atom p ts) shape (λ b e. at_main (left_def p ts b e) m)
+is_introduction Left (DefL (atom p ts)) a shape m out = unfolded (atom p ts) (sym (shape_left (atom p ts)) ∙ shape) (λ b e. at_main (left_def p ts b e) m)
 is_introduction side q a shape m out = cc
 
 -- its main formula is the one that it introduces
@@ -107,7 +108,8 @@ aux_lower side q a (right_or b c) zero = (omega arith, (omega arith, tt))
 aux_lower side q a (right_imp b c) zero = (omega arith, tt)
 aux_lower side q a (right_all b y) zero = (instance_lower b (free y), tt)
 aux_lower side q a (right_ex b t) zero = (instance_lower b t, tt)
-aux_lower side q a (right_def p ts b e) zero = lower_unfolding (atom p ts) b e
+aux_lower side q a (right_def (pred s undefined) ts b e) i = tt
+aux_lower side q a (right_def (pred s (defined c)) ts b e) zero = lower_unfolding (atom (pred s (defined c)) ts) b e
 aux_lower side q a (left_not b) zero = tt
 aux_lower side q a (left_and b c) zero = (omega arith, (omega arith, tt))
 aux_lower side q a (left_or b c) zero = (omega arith, tt)
@@ -115,7 +117,8 @@ aux_lower side q a (left_or b c) (suc zero) = (omega arith, tt)
 aux_lower side q a (left_imp b c) (suc zero) = (omega arith, tt)
 aux_lower side q a (left_all b t) zero = (instance_lower b t, tt)
 aux_lower side q a (left_ex b y) zero = (instance_lower b (free y), tt)
-aux_lower side q a (left_def p ts b e) zero = lower_unfolding (atom p ts) b e
+aux_lower side q a (left_def (pred s undefined) ts b e) i = tt
+aux_lower side q a (left_def (pred s (defined c)) ts b e) zero = lower_unfolding (atom (pred s (defined c)) ts) b e
 aux_lower side q a intro i = tt
 
 -- so the formula isn't among them

@@ -2,7 +2,7 @@
 use Rattle.std.proofs.Common.{◌≡◌, false, List, [], ◌∷◌, Some, IfSome, map, option_to_list, sym, subst, arith}
 use Rattle.std.specs.FinMap as fin
 use Rattle.fol.specs.declared.symbols.Var.{Var}
-use Rattle.fol.specs.Syntax.{Term, free, Formula, atom, not, and, or, imp, all, ex}
+use Rattle.fol.specs.Syntax.{Term, free, pred, defined, Formula, atom, not, and, or, imp, all, ex}
 use Rattle.fol.specs.Formed.{is_formed, IsFormed, IsFormedTerm}
 use Rattle.finite.specs.Finite as set
 use Rattle.free_variables.specs.Occurrence.{is_free_in}
@@ -141,7 +141,8 @@ existential s e e' b y t p p' h above x =
 -- an atom and what it unfolds to
 
 definition : (s : Sequent) (a b : Formula) (l r p p' : Tree) → unf a ≡ Some b → IsFormed a → Premises (DefR a) s (more p none) → Premises (DefL a) s (more p' none) → IsValid (cut_unfolded s a l r (unf a) p p')
-definition s a b l r p p' e formed x y =
+definition s (atom (pred q (defined c)) ts) b l r p p' e formed x y =
+    let a : Formula = atom (pred q (defined c)) ts in
     subst (λ o. IsValid (cut_unfolded s a l r o p p')) (sym e) (cut_valid Right s b p p' (record {
       formed = subst (λ o. IfSome o IsFormed) e (formed-unf a formed);
       within = record { left = x.within.0.left; right = subst (λ o. set.IsSubset (concl p).right (set.adds_each s.right (option_to_list o))) e x.within.0.right };
@@ -149,6 +150,7 @@ definition s a b l r p p' e formed x y =
       valid = x.valid.0;
       other_valid = y.valid.0;
     }))
+definition s a b l r p p' e formed x y = cc
 
 -- what stands in place of a cut whose formula both premises introduce, and above neither it stands again
 pub by_parts_valid : (s : Sequent) (a : Formula) (q q' : Rule) → IsIntroduction Right q a → IsIntroduction Left q' a → (e e' : Sequent) (ts ts' : Trees)

@@ -22,6 +22,7 @@ use Rattle.lk_rules.specs.declared.sequent.Side.{Side}
 use Rattle.lk_rules.specs.declared.sequent.Side.TheVariants.{Left, Right}
 use Rattle.lk_rules.specs.declared.rule.Rule.{Rule}
 use Rattle.lk_rules.specs.declared.rule.Rule.TheVariants.{AllL, AllR, ExL, ExR, DefL, DefR, Cut, Weak}
+use Rattle.lk_rules.specs.RuleOrder.{map_rule}
 use Rattle.lk_rules.specs.Sequents.{side_of, adds_to, extended, is_free_in_sequent, is_subsequent}
 use Rattle.lk_rules.specs.Rules.{needs, main, aux}
 use Rattle.proof_trees.specs.Trees.{Tree, node, Trees, none, more, concl, rule_of, below}
@@ -44,9 +45,7 @@ is_leaf t = eqb (needs (rule_of t)) 0
 
 -- a rule under a new conclusion: an eigenvariable that is free there becomes a fresh one
 abbrev pub moved_rule : Sequent → Rule → Rule
-moved_rule s (AllR a y) = AllR a (renamed y s)
-moved_rule s (ExL a y) = ExL a (renamed y s)
-moved_rule s r = r
+moved_rule s = map_rule (λ f. f) (λ t. t) (λ y. renamed y s)
 
 -- the trees above an eigenvariable y under a new conclusion
 abbrev pub renamed_trees : Sequent → Var → Trees → Trees

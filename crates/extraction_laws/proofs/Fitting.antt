@@ -19,7 +19,7 @@ use Rattle.lk_rules.specs.declared.sequent.Sequent.{Sequent}
 use Rattle.lk_rules.specs.declared.sequent.Side.{Side}
 use Rattle.lk_rules.specs.declared.sequent.Side.TheVariants.{Left, Right}
 use Rattle.lk_rules.specs.declared.rule.Rule.{Rule}
-use Rattle.lk_rules.specs.declared.rule.Rule.TheVariants.{NegL, NegR, AndL, AndR, OrL, OrR, ImpL, ImpR, AllL, AllR, ExL, ExR, DefL, DefR, Cut}
+use Rattle.lk_rules.specs.declared.rule.Rule.TheVariants.{NegL, NegR, AndL, AndR, OrL, OrR, ImpL, ImpR, AllL, AllR, ExL, ExR, DefL, DefR, Cut, Weak}
 use Rattle.lk_rules.specs.Sequents.{side_of, is_free_in_sequent}
 use Rattle.lk_rules.specs.Rules.{is_unfolding_rule, aux, main_stands, eigen_free, IsWithin}
 use Rattle.proof_trees.specs.Trees.{is_cut}
@@ -131,6 +131,7 @@ module _ (m : Map) (closed : IsClosedMap (fin.get m)) (c : Context) (s : Sequent
   placed_auxiliary (DefL f) i side h no_cut no_unfolding main out e = cc
   placed_auxiliary (DefR f) i side h no_cut no_unfolding main out e = cc
   placed_auxiliary (Cut f) i side h no_cut no_unfolding main out e = cc
+  placed_auxiliary Weak zero Left h no_cut no_unfolding main out e = cc
   placed_auxiliary r i side h no_cut no_unfolding main out e = cc
 
   -- formulas of the conclusion: the eigenvariable is free in none

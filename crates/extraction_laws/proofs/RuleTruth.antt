@@ -1,6 +1,6 @@
 -- Where for each premise some tree at the address of a formula of its conclusion makes the sequent true, some tree at that of a formula
 -- of the rule's conclusion does.
-use Rattle.std.proofs.Common.{◌≡◌, ◌⊎◌, inl, inr, ℕ, suc, Bool, true, false, ◌&&◌, ◌||◌, if◌then◌else◌, List, refl, sym, ap, ◌∙◌}
+use Rattle.std.proofs.Common.{◌≡◌, ◌⊎◌, inl, inr, ℕ, suc, Bool, true, false, ◌&&◌, ◌||◌, if◌then◌else◌, List, [], refl, sym, ap, ◌∙◌}
 use Rattle.std.specs.FinMap as fin
 use Rattle.std.specs.List.{list_any}
 use Rattle.std.specs.Ordering.{eq_by_cmp}
@@ -35,6 +35,11 @@ use Rattle.extraction_laws.proofs.Helping.{help, help-flat, help-not, help-and, 
 use Rattle.extraction_laws.proofs.Mains.{initial_left, initial_right}
 use Rattle.extraction_laws.proofs.Marks.{is_there, marked}
 use Rattle.extraction_laws.proofs.PairTruth.{pair_helps}
+
+-- weakening has no auxiliary formula
+weakening_adds : (side : Side) → aux Weak 0 side ≡ []
+weakening_adds Left = refl
+weakening_adds Right = refl
 
 module _ (vs : List Var) (st : State) (α : Assignment) where
   abbrev does : Address → Bool
@@ -215,7 +220,7 @@ module _ (vs : List Var) (st : State) (α : Assignment) where
         by_one (ExR (ex b) t) (inner_variable vs (ExR (ex b) t) m c x) ts number within helped (λ e.
         right_helper (ex b) main (help_ex_right vs st α (image (fin.get m) b) a u p.formula p.side (marks.used a (marked x.opened a)) (marks.instances (via a u) (marked x.instances (via a u))) e.helps))
     rule_helps Weak ts x no_cut no_unfolding shape main number within marks helped =
-        by_one Weak (inner_variable vs Weak m c x) ts number within helped (λ e. clash false e.among refl)
+        by_one Weak (inner_variable vs Weak m c x) ts number within helped (λ e. clash false (ap (list_any (eq_by_cmp formula_cmp e.formula)) (sym (weakening_adds e.side)) ∙ e.among) refl)
     rule_helps (DefL f) ts x no_cut no_unfolding shape main number within marks helped = cc
     rule_helps (DefR f) ts x no_cut no_unfolding shape main number within marks helped = cc
     rule_helps (Cut f) ts x no_cut no_unfolding shape main number within marks helped = cc

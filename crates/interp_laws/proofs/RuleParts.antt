@@ -4,7 +4,7 @@ use Rattle.std.specs.List.{All, list_all, list_any}
 use Rattle.std.specs.Ordering.{eq_by_cmp}
 use Rattle.std.proofs.lemmas.List.Sums.{AllPass-from_list_all, list_all-from_AllPass}
 use Rattle.fol.specs.declared.symbols.Var.{Var}
-use Rattle.fol.specs.Syntax.{Term, free, Formula, top, bot, not, and, or, imp, all, ex}
+use Rattle.fol.specs.Syntax.{Term, free, pred, defined, Formula, atom, top, bot, not, and, or, imp, all, ex}
 use Rattle.fol.specs.Order.{var_cmp}
 use Rattle.fol.specs.Formed.{is_formed, is_formed_term, IsFormed, IsFormedVar}
 use Rattle.fol.specs.OrderLaws.{formula_total}
@@ -136,10 +136,11 @@ aux_formed (AllL (all b) t) zero Left h = given_formed b t h
 aux_formed (AllR (all b) y) zero Right h = given_formed b (free y) h
 aux_formed (ExL (ex b) y) zero Left h = given_formed b (free y) h
 aux_formed (ExR (ex b) t) zero Right h = given_formed b t h
-aux_formed (DefL a) zero Left h = unfolding_formed (unf a) (formed-unf a h)
-aux_formed (DefR a) zero Right h = unfolding_formed (unf a) (formed-unf a h)
+aux_formed (DefL (atom (pred s (defined b)) ts)) zero Left h = unfolding_formed (unf (atom (pred s (defined b)) ts)) (formed-unf (atom (pred s (defined b)) ts) h)
+aux_formed (DefR (atom (pred s (defined b)) ts)) zero Right h = unfolding_formed (unf (atom (pred s (defined b)) ts)) (formed-unf (atom (pred s (defined b)) ts) h)
 aux_formed (Cut a) zero Right h = one_formed _ h
 aux_formed (Cut a) (suc zero) Left h = one_formed _ h
+aux_formed Weak zero Left h = refl
 aux_formed r i side h = refl
 
 all_added : (s : FormulaSet) (fs : List Formula) → list_all is_formed (set.listing s) ≡ true → list_all is_formed fs ≡ true → list_all is_formed (set.listing (set.adds_each s fs)) ≡ true

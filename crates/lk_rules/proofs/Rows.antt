@@ -1,22 +1,73 @@
 -- An inference has no fault exactly where it is right.
-use Rattle.std.proofs.Common.{◌≡◌, ◌↔◌, ℕ, Bool, true, false, ◌&&◌, if◌then◌else◌, eqb, List, Option, Some, None, IfSome, Result, Ok, Err, IsOk, refl, sym, subst, ◌∙◌}
+use Rattle.std.proofs.Common.{◌≡◌, ◌↔◌, ℕ, Bool, true, false, ◌&&◌, if◌then◌else◌, eqb, List, [], ◌∷◌, length, Option, Some, None, option_to_list, unwrap_or, is_some, IfSome, Result, Ok, Err, IsOk, refl, sym, ap, subst, ◌∙◌}
 use Rattle.std.specs.List.{All, list_all}
 use Rattle.std.proofs.lemmas.List.Sums.{AllPass-from_list_all, list_all-from_AllPass}
 use borrow.Author.Tests.{eqb-true, eq-eqb}
-use Rattle.fol.specs.Syntax.{Formula}
+use Rattle.fol.specs.Syntax.{pred, undefined, defined, Formula, atom, not, and, or, imp, all, ex}
 use Rattle.fol.specs.OrderLaws.{formula_total}
 use Rattle.finite.specs.Finite as set
 use Rattle.finite.proofs.Finite.{has-adds_each}
 use Rattle.lk_rules.specs.declared.sequent.Sequent.{Sequent}
 use Rattle.lk_rules.specs.declared.sequent.Side.{Side}
 use Rattle.lk_rules.specs.declared.sequent.Side.TheVariants.{Left, Right}
+use Rattle.substitution.specs.Unfolding.{unf}
 use Rattle.lk_rules.specs.declared.rule.Rule.{Rule}
+use Rattle.lk_rules.specs.declared.rule.Rule.TheVariants.{Ax, TopR, BotL, NegL, NegR, AndL, AndR, OrL, OrR, ImpL, ImpR, AllL, AllR, ExL, ExR, DefL, DefR, Cut, Weak}
 use Rattle.lk_rules.specs.declared.inference.RuleFault.{RuleFault}
 use Rattle.lk_rules.specs.declared.inference.RuleFault.TheVariants.{Premises, Shape, MainMissing, EigenFree, Premise}
 use Rattle.lk_rules.specs.Formulas.{FormulaSet}
 use Rattle.lk_rules.specs.Sequents.{side_of, extended, is_subsequent}
-use Rattle.lk_rules.specs.Rules.{needs, has_shape, main, eigen_free, aux, main_stands, fits_side, fits, verdict_of, IsWithin, Row}
+use Rattle.lk_rules.specs.Rules.{Extra, premises, needs, has_shape, main, eigen_free, aux, main_stands, fits_side, fits, verdict_of, IsWithin, Row}
 use Rattle.lk_rules.proofs.Subsequents.{and_left, and_right, and_both, subsequent_of, is_subsequent_of}
+
+-- a row has as many premises as the rule needs
+
+needs_of_row : (r : Rule) → has_shape r ≡ true → length (unwrap_or (premises r) []) ≡ needs r
+needs_of_row (Ax a) h = refl
+needs_of_row TopR h = refl
+needs_of_row BotL h = refl
+needs_of_row (NegL (not a)) h = refl
+needs_of_row (NegR (not a)) h = refl
+needs_of_row (AndL (and a b)) h = refl
+needs_of_row (AndR (and a b)) h = refl
+needs_of_row (OrL (or a b)) h = refl
+needs_of_row (OrR (or a b)) h = refl
+needs_of_row (ImpL (imp a b)) h = refl
+needs_of_row (ImpR (imp a b)) h = refl
+needs_of_row (AllL (all b) t) h = refl
+needs_of_row (AllR (all b) y) h = refl
+needs_of_row (ExL (ex b) y) h = refl
+needs_of_row (ExR (ex b) t) h = refl
+needs_of_row (DefL (atom (pred s (defined b)) ts)) h = refl
+needs_of_row (DefR (atom (pred s (defined b)) ts)) h = refl
+needs_of_row (Cut a) h = refl
+needs_of_row Weak h = refl
+needs_of_row r h = cc
+
+pub row_length : (r : Rule) (row : List Extra) → premises r ≡ Some row → length row ≡ needs r
+row_length r row h = ap (λ o. length (unwrap_or o [])) (sym h) ∙ needs_of_row r (ap is_some h)
+
+-- a rule that unfolds an atom has a row exactly where there is an unfolding, which is the auxiliary formula
+
+pub shape_left : (a : Formula) → has_shape (DefL a) ≡ is_some (unf a)
+shape_left (atom (pred s undefined) ts) = refl
+shape_left (atom (pred s (defined b)) ts) = refl
+shape_left a = refl
+
+pub shape_right : (a : Formula) → has_shape (DefR a) ≡ is_some (unf a)
+shape_right (atom (pred s undefined) ts) = refl
+shape_right (atom (pred s (defined b)) ts) = refl
+shape_right a = refl
+
+pub unfolded_left : (a : Formula) → aux (DefL a) 0 Left ≡ option_to_list (unf a)
+unfolded_left (atom (pred s undefined) ts) = refl
+unfolded_left (atom (pred s (defined b)) ts) = refl
+unfolded_left a = refl
+
+pub unfolded_right : (a : Formula) → aux (DefR a) 0 Right ≡ option_to_list (unf a)
+unfolded_right (atom (pred s undefined) ts) = refl
+unfolded_right (atom (pred s (defined b)) ts) = refl
+unfolded_right a = refl
 
 -- a side fits exactly where it is a subset of the conclusion's with the auxiliary formulas
 pub fits_side-subset : (formulas end : FormulaSet) (extra : List Formula) → fits_side formulas end extra ≡ set.subset formulas (set.adds_each end extra)

@@ -1,5 +1,6 @@
 -- What a rule names, and the order of rules. It is total, and only equal rules tie.
 --     formula_of, term_of, variable_of      the formula, the term and the eigenvariable that a rule names
+--     map_rule      a rule with these changed
 --     rule_cmp      the order
 use Rattle.std.specs.Prelude.{ℕ, Option, Some, None}
 use Rattle.std.specs.declared.cmp.Ordering.{Ordering}
@@ -70,6 +71,28 @@ abbrev pub variable_of : Rule → Option Var
 variable_of (AllR a y) = Some y
 variable_of (ExL a y) = Some y
 variable_of r = None
+
+-- the rule with what it names changed: its formula, its term and its eigenvariable
+abbrev pub map_rule : (Formula → Formula) → (Term → Term) → (Var → Var) → Rule → Rule
+map_rule f g h (Ax a) = Ax (f a)
+map_rule f g h TopR = TopR
+map_rule f g h BotL = BotL
+map_rule f g h (NegL a) = NegL (f a)
+map_rule f g h (NegR a) = NegR (f a)
+map_rule f g h (AndL a) = AndL (f a)
+map_rule f g h (AndR a) = AndR (f a)
+map_rule f g h (OrL a) = OrL (f a)
+map_rule f g h (OrR a) = OrR (f a)
+map_rule f g h (ImpL a) = ImpL (f a)
+map_rule f g h (ImpR a) = ImpR (f a)
+map_rule f g h (AllL a t) = AllL (f a) (g t)
+map_rule f g h (AllR a y) = AllR (f a) (h y)
+map_rule f g h (ExL a y) = ExL (f a) (h y)
+map_rule f g h (ExR a t) = ExR (f a) (g t)
+map_rule f g h (DefL a) = DefL (f a)
+map_rule f g h (DefR a) = DefR (f a)
+map_rule f g h (Cut a) = Cut (f a)
+map_rule f g h Weak = Weak
 
 -- rules are ordered by kind, then by the formula, then by the term or the eigenvariable
 abbrev pub rule_cmp : Rule → Rule → Ordering

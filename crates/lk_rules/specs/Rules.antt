@@ -3,19 +3,20 @@
 -- the conclusion with the premise's auxiliary formulas added. Two rules unfold an atom: its auxiliary formula is what it stands for.
 --     is_formed_rule      what a rule names is well formed
 --     is_unfolding_rule      the two rules that unfold an atom whose predicate symbol has a body
---     needs, has_shape, main, aux, eigen_free      the table of rules: for each rule its premises, the connective of its main
---         formula, the sides on which that stands, its auxiliary formulas by premise and side, and its side condition
+--     premises      the table of rules, a row for each: its premises by their auxiliary formulas
+--     needs, has_shape, aux      how many premises it has, whether its main formula is one that it has a row for, and what the row says of a premise
+--     main, eigen_free      the sides on which the main formula stands, and the side condition
 --     verdict_of      the first fault of an inference
 --     Row      an inference is right
-use Rattle.std.specs.Prelude.{◌≡◌, ℕ, zero, suc, Bool, true, false, if◌then◌else◌, ◌&&◌, ◌||◌, eqb, List, [], ◌∷◌, Option, Some, None, option_to_list, is_some, Result, Ok, Err, IfSome}
+use Rattle.std.specs.Prelude.{◌≡◌, ℕ, zero, suc, Bool, true, false, if◌then◌else◌, ◌&&◌, ◌||◌, eqb, List, [], ◌∷◌, Option, Some, None, unwrap_or, is_some, Result, Ok, Err, IfSome}
 use Rattle.std.specs.List.{All, list_all, list_any}
 use Rattle.std.specs.Ordering.{eq_by_cmp}
-use Rattle.fol.specs.Syntax.{free, Formula, top, bot, not, and, or, imp, all, ex}
+use Rattle.fol.specs.Syntax.{free, Terms, pred, defined, Formula, atom, top, bot, not, and, or, imp, all, ex}
 use Rattle.fol.specs.Order.{formula_cmp}
 use Rattle.finite.specs.Finite as set
-use Rattle.fol.specs.Formed.{is_formed, is_formed_term, is_formed_var}
+use Rattle.fol.specs.Formed.{count_terms, is_formed, is_formed_term, is_formed_var}
 use Rattle.substitution.specs.Instance.{inst}
-use Rattle.substitution.specs.Unfolding.{unf}
+use Rattle.substitution.specs.Unfolding.{put_at, matrix_under}
 use Rattle.lk_rules.specs.declared.sequent.Sequent.{Sequent}
 use Rattle.lk_rules.specs.declared.sequent.Side.{Side}
 use Rattle.lk_rules.specs.declared.sequent.Side.TheVariants.{Left, Right}
@@ -79,36 +80,49 @@ needs (DefR a) = 1
 needs (Cut a) = 2
 needs Weak = 1
 
+-- what a premise has besides formulas of the conclusion: its auxiliary formulas, on each side
+pub record Extra : Type 0 where
+  pub left : List Formula
+  pub right : List Formula
+
+abbrev pub on_left : List Formula → Extra
+on_left fs = record { left = fs; right = [] }
+
+abbrev pub on_right : List Formula → Extra
+on_right fs = record { left = []; right = fs }
+
+-- the body of an atom's predicate symbol, with the atom's arguments
+abbrev pub unfolded : Formula → Terms → Formula
+unfolded b ts = put_at ts (count_terms ts) (matrix_under ts b)
+
+-- the rows of the table: for each rule its premises, from the first one on, by their auxiliary formulas. None where the main formula
+-- hasn't the connective or the quantifier that the rule introduces, or the unfolding of an atom that it takes
+abbrev pub premises : Rule → Option (List Extra)
+premises (Ax a) = Some []
+premises TopR = Some []
+premises BotL = Some []
+premises (NegL (not a)) = Some (on_right (a ∷ []) ∷ [])
+premises (NegR (not a)) = Some (on_left (a ∷ []) ∷ [])
+premises (AndL (and a b)) = Some (on_left (a ∷ b ∷ []) ∷ [])
+premises (AndR (and a b)) = Some (on_right (a ∷ []) ∷ on_right (b ∷ []) ∷ [])
+premises (OrL (or a b)) = Some (on_left (a ∷ []) ∷ on_left (b ∷ []) ∷ [])
+premises (OrR (or a b)) = Some (on_right (a ∷ b ∷ []) ∷ [])
+premises (ImpL (imp a b)) = Some (on_right (a ∷ []) ∷ on_left (b ∷ []) ∷ [])
+premises (ImpR (imp a b)) = Some (record { left = a ∷ []; right = b ∷ [] } ∷ [])
+premises (AllL (all b) t) = Some (on_left (inst b t ∷ []) ∷ [])
+premises (AllR (all b) y) = Some (on_right (inst b (free y) ∷ []) ∷ [])
+premises (ExL (ex b) y) = Some (on_left (inst b (free y) ∷ []) ∷ [])
+premises (ExR (ex b) t) = Some (on_right (inst b t ∷ []) ∷ [])
+premises (DefL (atom (pred s (defined b)) ts)) = Some (on_left (unfolded b ts ∷ []) ∷ [])
+premises (DefR (atom (pred s (defined b)) ts)) = Some (on_right (unfolded b ts ∷ []) ∷ [])
+premises (Cut a) = Some (on_right (a ∷ []) ∷ on_left (a ∷ []) ∷ [])
+premises Weak = Some (on_left [] ∷ [])
+premises r = None
+
 -- whether the main formula has the connective or the quantifier that the rule introduces, or is an atom with an unfolding where the rule
--- unfolds it. Other rules' formulas have any shape
+-- unfolds it: whether the rule has a row. Other rules' formulas have any shape
 abbrev pub has_shape : Rule → Bool
-has_shape (NegL (not a)) = true
-has_shape (NegL a) = false
-has_shape (NegR (not a)) = true
-has_shape (NegR a) = false
-has_shape (AndL (and a b)) = true
-has_shape (AndL a) = false
-has_shape (AndR (and a b)) = true
-has_shape (AndR a) = false
-has_shape (OrL (or a b)) = true
-has_shape (OrL a) = false
-has_shape (OrR (or a b)) = true
-has_shape (OrR a) = false
-has_shape (ImpL (imp a b)) = true
-has_shape (ImpL a) = false
-has_shape (ImpR (imp a b)) = true
-has_shape (ImpR a) = false
-has_shape (AllL (all b) t) = true
-has_shape (AllL a t) = false
-has_shape (AllR (all b) y) = true
-has_shape (AllR a y) = false
-has_shape (ExL (ex b) y) = true
-has_shape (ExL a y) = false
-has_shape (ExR (ex b) t) = true
-has_shape (ExR a t) = false
-has_shape (DefL a) = is_some (unf a)
-has_shape (DefR a) = is_some (unf a)
-has_shape r = true
+has_shape r = is_some (premises r)
 
 -- the main formula, on each side of the conclusion on which it must stand. Cut and weakening have none
 abbrev pub main : Rule → Side → List Formula
@@ -131,29 +145,16 @@ main (DefL a) Left = a ∷ []
 main (DefR a) Right = a ∷ []
 main r side = []
 
+-- what the premise at a place has, counted from 0. There is nothing at other places
+abbrev pub extra_at : List Extra → ℕ → Side → List Formula
+extra_at [] i side = []
+extra_at (e ∷ es) zero Left = e.left
+extra_at (e ∷ es) zero Right = e.right
+extra_at (e ∷ es) (suc i) side = extra_at es i side
+
 -- the auxiliary formulas of a premise, counted from 0, on each side
 abbrev pub aux : Rule → ℕ → Side → List Formula
-aux (NegL (not a)) zero Right = a ∷ []
-aux (NegR (not a)) zero Left = a ∷ []
-aux (AndL (and a b)) zero Left = a ∷ b ∷ []
-aux (AndR (and a b)) zero Right = a ∷ []
-aux (AndR (and a b)) (suc zero) Right = b ∷ []
-aux (OrL (or a b)) zero Left = a ∷ []
-aux (OrL (or a b)) (suc zero) Left = b ∷ []
-aux (OrR (or a b)) zero Right = a ∷ b ∷ []
-aux (ImpL (imp a b)) zero Right = a ∷ []
-aux (ImpL (imp a b)) (suc zero) Left = b ∷ []
-aux (ImpR (imp a b)) zero Left = a ∷ []
-aux (ImpR (imp a b)) zero Right = b ∷ []
-aux (AllL (all b) t) zero Left = inst b t ∷ []
-aux (AllR (all b) y) zero Right = inst b (free y) ∷ []
-aux (ExL (ex b) y) zero Left = inst b (free y) ∷ []
-aux (ExR (ex b) t) zero Right = inst b t ∷ []
-aux (DefL a) zero Left = option_to_list (unf a)
-aux (DefR a) zero Right = option_to_list (unf a)
-aux (Cut a) zero Right = a ∷ []
-aux (Cut a) (suc zero) Left = a ∷ []
-aux r premise side = []
+aux r i side = extra_at (unwrap_or (premises r) []) i side
 
 -- the side condition: whether the rule has an eigenvariable that is free in the conclusion
 abbrev pub eigen_free : Rule → Sequent → Bool

@@ -89,6 +89,7 @@ fn premises_of(rule: &Rule) -> u64
 }
 
 // Whether the main formula has the connective or the quantifier that the rule introduces, or an unfolding where the rule unfolds it.
+#[tactic(auto, using(crate::proofs::Rows::shape_left, crate::proofs::Rows::shape_right))]
 fn is_shaped(rule: &Rule) -> bool
     ensures { result ≡ has_shape rule.now }
 {

@@ -7,6 +7,7 @@ mod auxiliary;
 mod formulas;
 mod inference;
 mod items;
+pub mod laws;
 mod numbers;
 mod rule;
 mod rule_order;

@@ -3,7 +3,7 @@ use Rattle.std.proofs.Common.{◌≡◌, ℕ, zero, suc, ◌≤◌, true, ◌||�
 use Rattle.std.specs.List.{list_all, list_any}
 use Rattle.std.specs.Ordering.{eq_by_cmp}
 use Rattle.std.proofs.lemmas.List.Folds.{list_all-append, list_any-append}
-use Rattle.fol.specs.Syntax.{Formula, free, not, and, or, imp, all, ex}
+use Rattle.fol.specs.Syntax.{pred, defined, Formula, atom, free, not, and, or, imp, all, ex}
 use Rattle.fol.specs.Order.{formula_cmp}
 use Rattle.fol.specs.OrderLaws.{formula_total}
 use Rattle.fol.specs.Formed.{is_formed, IsFormed}
@@ -18,7 +18,7 @@ use Rattle.lk_rules.specs.declared.sequent.Sequent.{Sequent}
 use Rattle.lk_rules.specs.declared.sequent.Side.{Side}
 use Rattle.lk_rules.specs.declared.sequent.Side.TheVariants.{Left, Right}
 use Rattle.lk_rules.specs.declared.rule.Rule.{Rule}
-use Rattle.lk_rules.specs.declared.rule.Rule.TheVariants.{NegL, NegR, AndL, AndR, OrL, OrR, ImpL, ImpR, AllL, AllR, ExL, ExR, DefL, DefR, Cut}
+use Rattle.lk_rules.specs.declared.rule.Rule.TheVariants.{NegL, NegR, AndL, AndR, OrL, OrR, ImpL, ImpR, AllL, AllR, ExL, ExR, DefL, DefR, Cut, Weak}
 use Rattle.lk_rules.specs.Formulas.{FormulaSet}
 use Rattle.lk_rules.specs.Rules.{IsFormedRule, aux, IsWithin}
 use Rattle.lk_rules.proofs.Listings.{alike}
@@ -56,10 +56,11 @@ formed_aux (AllL (all b) t) zero Left h = alone (inst b t) (formed-inst b t (and
 formed_aux (AllR (all b) y) zero Right h = alone (inst b (free y)) (formed-inst b (free y) (and_left _ _ h) (and_right (is_formed (all b)) _ h))
 formed_aux (ExL (ex b) y) zero Left h = alone (inst b (free y)) (formed-inst b (free y) (and_left _ _ h) (and_right (is_formed (ex b)) _ h))
 formed_aux (ExR (ex b) t) zero Right h = alone (inst b t) (formed-inst b t (and_left _ _ h) (and_right (is_formed (ex b)) _ h))
-formed_aux (DefL a) zero Left h = unfolded (unf a) (formed-unf a h)
-formed_aux (DefR a) zero Right h = unfolded (unf a) (formed-unf a h)
+formed_aux (DefL (atom (pred s (defined b)) ts)) zero Left h = unfolded (unf (atom (pred s (defined b)) ts)) (formed-unf (atom (pred s (defined b)) ts) h)
+formed_aux (DefR (atom (pred s (defined b)) ts)) zero Right h = unfolded (unf (atom (pred s (defined b)) ts)) (formed-unf (atom (pred s (defined b)) ts) h)
 formed_aux (Cut a) zero Right h = alone a h
 formed_aux (Cut a) (suc zero) Left h = alone a h
+formed_aux Weak zero Left h = refl
 formed_aux q i side h = refl
 
 -- a premise's side, within the conclusion's and the auxiliary formulas

@@ -1,6 +1,6 @@
 -- What stands in a premise: formulas of the conclusion and auxiliary ones, and so only variables and predicate symbols of the conclusion
 -- and of what the rule names.
-use Rattle.std.proofs.Common.{◌≡◌, ℕ, zero, suc, Bool, true, false, ◌||◌, List, [], ◌∷◌, Option, Some, None, IfSome, is_some, option_to_list, refl, sym, ap, ◌∙◌}
+use Rattle.std.proofs.Common.{◌≡◌, ℕ, zero, suc, Bool, true, false, ◌||◌, List, [], ◌∷◌, Option, Some, None, IfSome, option_to_list, refl, sym, ap, ◌∙◌}
 use Rattle.std.specs.List.{All, list_all, list_any}
 use Rattle.std.specs.Ordering.{eq_by_cmp}
 use Rattle.std.proofs.lemmas.List.Sums.{list_all-from_AllPass}
@@ -103,10 +103,11 @@ free_in_auxiliary v (AllL (all b) t) zero Left h = chosen_term v b t false
 free_in_auxiliary v (AllR (all b) y) zero Right h = by_variable v b y
 free_in_auxiliary v (ExL (ex b) y) zero Left h = by_variable v b y
 free_in_auxiliary v (ExR (ex b) t) zero Right h = chosen_term v b t false
-free_in_auxiliary v (DefL a) zero Left h = λ e. or_first (is_free_in v a) false (unfolding_passes (is_free_in v) (unf a) (is_free_in v a) (free-unf v a 0 h) e)
-free_in_auxiliary v (DefR a) zero Right h = λ e. or_first (is_free_in v a) false (unfolding_passes (is_free_in v) (unf a) (is_free_in v a) (free-unf v a 0 h) e)
+free_in_auxiliary v (DefL (atom (pred s (defined b)) ts)) zero Left h = λ e. or_first _ false (unfolding_passes (is_free_in v) (unf (atom (pred s (defined b)) ts)) _ (free-unf v (atom (pred s (defined b)) ts) 0 h) e)
+free_in_auxiliary v (DefR (atom (pred s (defined b)) ts)) zero Right h = λ e. or_first _ false (unfolding_passes (is_free_in v) (unf (atom (pred s (defined b)) ts)) _ (free-unf v (atom (pred s (defined b)) ts) 0 h) e)
 free_in_auxiliary v (Cut a) zero Right h = same (is_free_in v a) _
 free_in_auxiliary v (Cut a) (suc zero) Left h = same (is_free_in v a) _
+free_in_auxiliary v Weak zero Left h = λ e. cc
 free_in_auxiliary v r i side h = λ e. cc
 
 pred-inst : (q : Pred) (b : Formula) (t : Term) → is_pred_in q (inst b t) ≡ is_pred_in q b
@@ -161,10 +162,11 @@ passes_auxiliary p h (AllL (all b) t) zero Left u = part_alone _ _ (h.universal 
 passes_auxiliary p h (AllR (all b) y) zero Right u = part_alone _ _ (h.universal b (free y))
 passes_auxiliary p h (ExL (ex b) y) zero Left u = part_alone _ _ (h.existential b (free y))
 passes_auxiliary p h (ExR (ex b) t) zero Right u = part_alone _ _ (h.existential b t)
-passes_auxiliary p h (DefL a) zero Left u = unfolding_passes p (unf a) (p a) u
-passes_auxiliary p h (DefR a) zero Right u = unfolding_passes p (unf a) (p a) u
+passes_auxiliary p h (DefL (atom (pred s (defined b)) ts)) zero Left u = unfolding_passes p (unf (atom (pred s (defined b)) ts)) _ u
+passes_auxiliary p h (DefR (atom (pred s (defined b)) ts)) zero Right u = unfolding_passes p (unf (atom (pred s (defined b)) ts)) _ u
 passes_auxiliary p h (Cut a) zero Right u = alone (p a)
 passes_auxiliary p h (Cut a) (suc zero) Left u = alone (p a)
+passes_auxiliary p h Weak zero Left u = λ e. cc
 passes_auxiliary p h r i side u = λ e. cc
 
 pred_of_parts : (q : Pred) → IsOfParts (is_pred_in q)
@@ -291,14 +293,9 @@ body_without_cut r s i x n stands w h =
     or_same (has_body_in_sequent s) (passes has_body (formula_of r)) (main_stands_in has_body r s n stands) (body_in_premise r s i x w h)
 
 -- the formula of a rule that unfolds it has a symbol with a body
-unfolded_body : (a : Formula) → is_some (unf a) ≡ true → has_body a ≡ true
-unfolded_body (atom (pred s undefined) ts) h = cc
-unfolded_body (atom (pred s (defined b)) ts) h = refl
-unfolded_body a h = cc
-
 pub body_of_rule : (r : Rule) → has_shape r ≡ true → is_unfolding_rule r ≡ true → passes has_body (formula_of r) ≡ true
-body_of_rule (DefL a) shape u = unfolded_body a shape
-body_of_rule (DefR a) shape u = unfolded_body a shape
+body_of_rule (DefL (atom (pred s (defined b)) ts)) shape u = refl
+body_of_rule (DefR (atom (pred s (defined b)) ts)) shape u = refl
 body_of_rule r shape u = cc
 
 -- what follows of a premise within the rule holds of both premises of a row

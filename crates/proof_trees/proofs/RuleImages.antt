@@ -1,5 +1,5 @@
 -- The parts of a rule under a map: premises, shape, main and auxiliary formulas, eigenvariable.
-use Rattle.std.proofs.Common.{◌≡◌, ℕ, zero, suc, Bool, true, false, ◌||◌, if◌then◌else◌, List, [], ◌∷◌, map, Option, Some, None, option_map, option_to_list, unwrap_or, is_some, refl, sym, ap, ◌∙◌}
+use Rattle.std.proofs.Common.{◌≡◌, ℕ, zero, suc, Bool, true, false, ◌||◌, if◌then◌else◌, List, [], ◌∷◌, map, Option, Some, None, option_map, option_to_list, unwrap_or, refl, sym, ap, ◌∙◌}
 use Rattle.std.specs.FinMap as fin
 use Rattle.std.specs.List.{list_any}
 use Rattle.fol.specs.declared.symbols.Var.{Var}
@@ -33,12 +33,6 @@ pub needs-image : (m : Map) (r : Rule) (e : Sequent) → needs (image_rule m r e
 needs-image m (Ax a) e = refl
 needs-image m r e = refl
 
--- an image has an unfolding exactly where the atom has one
-unfolds-image : (m : Map) (a : Formula) → is_some (unf (image (fin.get m) a)) ≡ is_some (unf a)
-unfolds-image m (atom (pred s undefined) ts) = refl
-unfolds-image m (atom (pred s (defined b)) ts) = refl
-unfolds-image m a = refl
-
 pub shape-image : (m : Map) (r : Rule) (e : Sequent) → has_shape (image_rule m r e) ≡ has_shape r
 shape-image m (NegL (not a)) e = refl
 shape-image m (NegR (not a)) e = refl
@@ -52,8 +46,10 @@ shape-image m (AllL (all b) t) e = refl
 shape-image m (AllR (all b) y) e = refl
 shape-image m (ExL (ex b) y) e = refl
 shape-image m (ExR (ex b) t) e = refl
-shape-image m (DefL a) e = unfolds-image m a
-shape-image m (DefR a) e = unfolds-image m a
+shape-image m (DefL (atom (pred s undefined) ts)) e = refl
+shape-image m (DefL (atom (pred s (defined b)) ts)) e = refl
+shape-image m (DefR (atom (pred s undefined) ts)) e = refl
+shape-image m (DefR (atom (pred s (defined b)) ts)) e = refl
 shape-image m r e = refl
 
 pub main-image : (m : Map) (r : Rule) (e : Sequent) (side : Side) → main (image_rule m r e) side ≡ map (image (fin.get m)) (main r side)
@@ -157,10 +153,13 @@ aux-image m (AllL (all b) t) e zero Left c h out = instance-image m c b t
 aux-image m (AllR (all b) y) e zero Right c h out = renamed_instance m c b y (renamed y e) out
 aux-image m (ExL (ex b) y) e zero Left c h out = renamed_instance m c b y (renamed y e) out
 aux-image m (ExR (ex b) t) e zero Right c h out = instance-image m c b t
-aux-image m (DefL a) e zero Left c h out = unfolding-image m a h
-aux-image m (DefR a) e zero Right c h out = unfolding-image m a h
+aux-image m (DefL (atom (pred s undefined) ts)) e i side c h out = refl
+aux-image m (DefL (atom (pred s (defined b)) ts)) e zero Left c h out = unfolding-image m (atom (pred s (defined b)) ts) h
+aux-image m (DefR (atom (pred s undefined) ts)) e i side c h out = refl
+aux-image m (DefR (atom (pred s (defined b)) ts)) e zero Right c h out = unfolding-image m (atom (pred s (defined b)) ts) h
 aux-image m (Cut a) e zero Right c h out = refl
 aux-image m (Cut a) e (suc zero) Left c h out = refl
+aux-image m Weak e zero Left c h out = refl
 aux-image m r e i side c h out = refl
 
 -- a conclusion in which the eigenvariable isn't free has one image under both maps

@@ -1,10 +1,9 @@
 -- A valid tree without cuts has no predicate symbol with a body, and no rule that unfolds one, where its end sequent has none.
-use Rattle.std.proofs.Common.{◌≡◌, ℕ, ◌≤◌, Bool, true, false, ◌&&◌, not, refl, sym, ◌∙◌, arith}
+use Rattle.std.proofs.Common.{◌≡◌, ◌≤◌, Bool, true, false, not, refl, sym, ◌∙◌, arith}
 use Rattle.substitution.proofs.Booleans.{and_left, and_right}
 use Rattle.lk_rules.specs.declared.sequent.Sequent.{Sequent}
-use Rattle.lk_rules.specs.declared.rule.Rule.{Rule}
 use Rattle.lk_rules.specs.Rules.{is_unfolding_rule, Row}
-use Rattle.proof_trees.specs.Trees.{Tree, node, Trees, none, more, concl, below, count, first_end, second_end, ArePremises, IsValid, AllValid, is_cut, cut_free, cut_free_all}
+use Rattle.proof_trees.specs.Trees.{Tree, node, Trees, none, more, concl, count, first_end, second_end, ArePremises, IsValid, AllValid, is_cut, cut_free, cut_free_all}
 use Rattle.proof_trees.specs.Conclusions.{EachNode, EachNodeOf}
 use Rattle.proof_trees.specs.Occurrence.{has_body_in_sequent, IsPlainNode}
 use Rattle.proof_trees.proofs.Premises.{bodies_in_premises_without_cut, unfolded_in_conclusion}

@@ -13,7 +13,8 @@ use Rattle.substitution.specs.Image.{image, image_term}
 use Rattle.substitution.specs.Maps.{Map}
 use Rattle.lk_rules.specs.declared.sequent.Sequent.{Sequent}
 use Rattle.lk_rules.specs.declared.rule.Rule.{Rule}
-use Rattle.lk_rules.specs.declared.rule.Rule.TheVariants.{Ax, TopR, BotL, NegL, NegR, AndL, AndR, OrL, OrR, ImpL, ImpR, AllL, AllR, ExL, ExR, DefL, DefR, Cut, Weak}
+use Rattle.lk_rules.specs.declared.rule.Rule.TheVariants.{AllR, ExL}
+use Rattle.lk_rules.specs.RuleOrder.{map_rule}
 use Rattle.lk_rules.specs.Sequents.{is_free_in_sequent, vars_sequent, image_sequent}
 use Rattle.proof_trees.specs.Trees.{Tree, node, Trees, none, more}
 
@@ -23,25 +24,7 @@ renamed y e = if is_free_in_sequent y e then least_outside (set.listing (vars_se
 
 -- a rule under a map; e is the image of its conclusion
 abbrev pub image_rule : Map → Rule → Sequent → Rule
-image_rule m (Ax a) e = Ax (image (fin.get m) a)
-image_rule m TopR e = TopR
-image_rule m BotL e = BotL
-image_rule m (NegL a) e = NegL (image (fin.get m) a)
-image_rule m (NegR a) e = NegR (image (fin.get m) a)
-image_rule m (AndL a) e = AndL (image (fin.get m) a)
-image_rule m (AndR a) e = AndR (image (fin.get m) a)
-image_rule m (OrL a) e = OrL (image (fin.get m) a)
-image_rule m (OrR a) e = OrR (image (fin.get m) a)
-image_rule m (ImpL a) e = ImpL (image (fin.get m) a)
-image_rule m (ImpR a) e = ImpR (image (fin.get m) a)
-image_rule m (AllL a t) e = AllL (image (fin.get m) a) (image_term (fin.get m) t)
-image_rule m (AllR a y) e = AllR (image (fin.get m) a) (renamed y e)
-image_rule m (ExL a y) e = ExL (image (fin.get m) a) (renamed y e)
-image_rule m (ExR a t) e = ExR (image (fin.get m) a) (image_term (fin.get m) t)
-image_rule m (DefL a) e = DefL (image (fin.get m) a)
-image_rule m (DefR a) e = DefR (image (fin.get m) a)
-image_rule m (Cut a) e = Cut (image (fin.get m) a)
-image_rule m Weak e = Weak
+image_rule m r e = map_rule (image (fin.get m)) (image_term (fin.get m)) (λ y. renamed y e) r
 
 -- the map for the premises, in which the eigenvariable has its new name
 abbrev pub premise_map : Map → Rule → Sequent → Map

@@ -2,7 +2,6 @@
 use Rattle.std.proofs.lemmas.List.Sums.{list_all-from_AllPass}
 use Rattle.fol.specs.Order.{formula_cmp}
 use Rattle.fol.specs.Formed.{is_formed}
-use Rattle.finite.specs.Finite as set
 use Rattle.finite.proofs.Finite.{listing-of_rising}
 use Rattle.lk_rules.proofs.formulas.Formulas.from_rising.Goals as goal
 
