@@ -1,26 +1,17 @@
 -- Tokens that are added one after another.
 use Rattle.std.proofs.Common.{◌≡◌, ℕ, zero, suc, arith, add-zero, add-one, ◌+◌, ◌≤◌, List, [], ◌∷◌, ◌++◌, length, take, map, refl, sym, ap, ◌∙◌, subst, append_assoc, append-nil}
-use Rattle.std.specs.Prelude.{Some, None}
 use Rattle.std.specs.List.{flat_map, range_with_len}
 use Rattle.std.proofs.lemmas.List.{take_all}
 use Rattle.std.proofs.lemmas.List.Concat.{flat_map-append}
 use Rattle.std.proofs.lemmas.List.FromFn.{map-range_with_len_more}
-use Rattle.json.specs.Token.{Token, begin_array, end_array}
+use Rattle.json.specs.Token.{begin_array, end_array}
 use Rattle.json.specs.Tree.{items_tokens}
 use Rattle.serde_json.specs.Data.{Data, array}
 use Rattle.serde_json.specs.View.{items_of}
 use Rattle.serde_json.specs.Written.{items_outline}
-use Rattle.job_gen.specs.Tokens.{data_tokens, all_tokens, Written, AddsTokens, Adds}
-
-adds_both : (old mid new : Written) (s t : List Token) → AddsTokens old mid s → AddsTokens mid new t → AddsTokens old new (s ++ t)
-adds_both old mid None s t first rest = tt
-adds_both old None (Some n) s t first rest = absurd rest
-adds_both None (Some m) (Some n) s t first rest = absurd first
-adds_both (Some o) (Some m) (Some n) s t first rest = rest ∙ ap (λ ts. ts ++ t) first ∙ append_assoc o s t
-
--- these tokens, and then those
-pub adds_then : {old mid new : Written} {s t : List Token} → Adds old mid s → Adds mid new t → Adds old new (s ++ t)
-adds_then {old = old} {mid = mid} {new = new} {s = s} {t = t} first rest = record { added = adds_both old mid new s t first.added rest.added }
+use Rattle.json_text.specs.Tokens.{data_tokens, Written, Adds}
+use Rattle.json_text.proofs.Adding.{adds_then}
+use Rattle.job_gen.specs.Tokens.{all_tokens}
 
 -- the tokens of the elements of an array, and its end
 items_tokens-items_of : (ds : List Data) → items_tokens (items_outline (items_of ds)) ≡ all_tokens ds ++ end_array ∷ []

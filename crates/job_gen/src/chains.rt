@@ -3,10 +3,11 @@ ghost use Rattle.std.specs.Prelude.{◌<◌, map};
 ghost use Rattle.std.specs.List.{range_with_len, flat_map};
 ghost use Rattle.job_gen.specs.Values.{list_data};
 ghost use Rattle.job_gen.specs.Chains.{leaf_data, imp_data, implication_nodes, instance_data, weak_data, chain_nodes};
-ghost use Rattle.job_gen.specs.Tokens.{data_tokens, all_tokens, Adds};
+ghost use Rattle.json_text.specs.Tokens.{data_tokens, Adds};
+ghost use Rattle.job_gen.specs.Tokens.{all_tokens};
 
-use crate::json_text::JsonText;
 use crate::members::{put_atom, put_iterate, put_numbers, put_text};
+use json_text::JsonText;
 use std::alloc::Global;
 
 /// The formula whose instances are the implications of a chain.

@@ -2,10 +2,11 @@
 ghost use Rattle.std.specs.Prelude.{◌≡◌, ◌<◌, ◌∷◌, [], map};
 ghost use Rattle.job_gen.specs.Derivations.{step_data, axiom_data, cut_data, first_steps, further_cuts, derivation_steps};
 ghost use Rattle.job_gen.specs.Values.{list_data};
-ghost use Rattle.job_gen.specs.Tokens.{data_tokens, all_tokens, Adds};
+ghost use Rattle.json_text.specs.Tokens.{data_tokens, Adds};
+ghost use Rattle.job_gen.specs.Tokens.{all_tokens};
 
-use crate::json_text::JsonText;
 use crate::members::{put_numbers, put_text, put_texts};
+use json_text::JsonText;
 
 fn put_step(
     out: &mut JsonText,

@@ -1,12 +1,12 @@
 //! Generated jobs.
 ghost use Rattle.std.specs.Prelude.{◌≡◌, ◌<◌};
 ghost use Rattle.job_gen.specs.Generated.{derivation_job, chain_job, proof_job, building_job, job_data};
-ghost use Rattle.job_gen.specs.Tokens.{data_tokens, Adds};
+ghost use Rattle.json_text.specs.Tokens.{data_tokens, Adds};
 
 use crate::chains::put_nodes;
 use crate::derivations::put_steps;
-use crate::json_text::JsonText;
 use crate::members::{put_name, put_numbers, put_text};
+use json_text::JsonText;
 use std::alloc::Global;
 
 fn put_derivation_job(out: &mut JsonText, alloc: Global, i: u64, cuts: u64)

@@ -4,7 +4,6 @@
 mod chains;
 mod derivations;
 mod jobs;
-mod json_text;
 pub mod laws;
 mod lines;
 mod members;

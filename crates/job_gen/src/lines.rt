@@ -4,7 +4,7 @@ ghost use Rattle.serde_json.specs.Written.{compact_text};
 ghost use Rattle.job_gen.specs.Generated.{job_data, generated_line, generated};
 
 use crate::jobs::put_job;
-use crate::json_text::JsonText;
+use json_text::JsonText;
 use std::alloc::{AllocError, Global};
 
 fn job_text(alloc: Global, i: u64) -> Result<Vec<u8>, AllocError>

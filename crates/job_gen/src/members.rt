@@ -3,10 +3,10 @@ ghost use Rattle.std.specs.Prelude.{◌≡◌, ◌∷◌, [], None, MatchResult,
 ghost use Rattle.json.specs.Token.{key as key_token, string as string_token};
 ghost use Rattle.serde_json.specs.Data.{string};
 ghost use Rattle.job_gen.specs.Values.{numbers_data, texts_data, name_text, iterate_text, atom_text};
-ghost use Rattle.job_gen.specs.Tokens.{data_tokens, Adds};
+ghost use Rattle.json_text.specs.Tokens.{data_tokens, Adds};
 
-use crate::json_text::JsonText;
 use crate::texts::{atom, iterate, name};
+use json_text::JsonText;
 use std::alloc::{AllocError, Global};
 
 // A text, unless there was no memory for it.

@@ -7,15 +7,8 @@ use Rattle.serde_json.specs.Written.{compact_text}
 use Rattle.serde_json.proofs.Texts.{print-outline}
 use Rattle.reply_lines.specs.declared.replies.Reply.{Reply}
 use Rattle.reply_lines.specs.Replies.{ok_data, error_data, reply_by, reply_data, line_of}
-use Rattle.reply_lines.specs.Tokens.{data_tokens, Written, AddsTokens, Adds, IsTextOf, said}
-
-text_by : (w : Written) (d : Data) (bytes : List ℕ) → AddsTokens (Some []) w (data_tokens d) → IsTextOf w bytes → bytes ≡ compact_text d
-text_by None d bytes added is = absurd is
-text_by (Some tokens) d bytes added is = is ∙ ap (λ ts. print ts) added ∙ print-outline d
-
--- a text with the tokens of a value is the value's text
-pub text_of : (w : Written) (d : Data) (bytes : List ℕ) → Adds (Some []) w (data_tokens d) → IsTextOf w bytes → bytes ≡ compact_text d
-text_of w d bytes added is = text_by w d bytes added.added is
+use Rattle.json_text.specs.Tokens.{data_tokens, Written, AddsTokens, Adds, IsTextOf}
+use Rattle.reply_lines.specs.Tokens.{said}
 
 -- a reply with an answer, and one with an error
 pub reply_ok : (answer : Result Data Data) (name : Data) (n : ℕ) → is_ok answer ≡ true → ok_data (said answer) name n ≡ reply_by answer name n

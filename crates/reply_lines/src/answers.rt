@@ -2,11 +2,11 @@
 ghost use Rattle.std.specs.Prelude.{◌≡◌, [], ◌∷◌};
 ghost use Rattle.fol.specs.Formed.{IsFormed};
 ghost use Rattle.reply_lines.specs.Replies.{summary_data, reduced_data, interpolant_data, herbrand_data, introduced_data, cut_data, too_many_data, entries_data, proves_data, measure_data, named as named_data, plain as plain_data, field_data, text_kind as kind_text, problem_kind as problem_kind_text, formula_data, tptp_data, reading_data, premise_fault as premise_fault_data, step_data, refutation_cause as refutation_cause_text, refutation_data, answer_data};
-ghost use Rattle.reply_lines.specs.Tokens.{data_tokens, Adds, said, fault_data};
+ghost use Rattle.json_text.specs.Tokens.{data_tokens, Adds};
+ghost use Rattle.reply_lines.specs.Tokens.{said, fault_data};
 ghost use Rattle.reply_lines.specs.declared.replies.StepShown.TheVariants.{Rule};
 
 use crate::expansions::{put_expansion, put_nodes};
-use crate::json_text::JsonText;
 use crate::members::{put_formula, put_number, put_side, put_text};
 use crate::replies::{Outcome, RefutationShown, StepShown, Summary};
 use crate::steps::put_steps;
@@ -15,6 +15,7 @@ use crate::tree_faults::{
 };
 use fol::Formula;
 use job_words::JobCause;
+use json_text::JsonText;
 use lk_rules::{RuleFault, Sequent};
 use std::alloc::Global;
 use text_tables::CanonicalTexts;

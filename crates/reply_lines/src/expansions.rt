@@ -6,15 +6,15 @@ ghost use Rattle.json.specs.Token.{key as key_token, string as string_token};
 ghost use Rattle.job_words.specs.NodeKinds.{node_name};
 ghost use Rattle.exp_tree.specs.FlatLists.{is_formed_node};
 ghost use Rattle.reply_lines.specs.Replies.{expansion_data, formula_node, not_node, pair_node, instance_data, instances_data, weak_node, strong_node, node_data, node_list, nodes_data};
-ghost use Rattle.reply_lines.specs.Tokens.{data_tokens, Adds};
+ghost use Rattle.json_text.specs.Tokens.{data_tokens, Adds};
 
-use crate::json_text::JsonText;
 use crate::members::{put_formula, put_number, put_numbers, put_side, put_text};
 use crate::replies::ExpSummary;
 use crate::terms::{put_term, put_variable};
 use exp_tree::{ExpNode, FlatExp};
 use fol::{Formula, Term, Var};
 use job_words::NodeKind;
+use json_text::JsonText;
 use std::alloc::Global;
 use text_tables::CanonicalTexts;
 

@@ -3,7 +3,6 @@
 
 mod answers;
 mod expansions;
-mod json_text;
 pub mod laws;
 mod lines;
 mod members;

@@ -2,13 +2,14 @@
 ghost use Rattle.std.specs.Prelude.{◌≡◌, ◌++◌, [], ◌∷◌, IfOk, option_copied, true, false, is_ok};
 ghost use Rattle.serde_json.specs.Written.{compact_text};
 ghost use Rattle.reply_lines.specs.Replies.{name_data, ok_data, error_data, answer_data, reply_data, line_of as line_of_reply};
-ghost use Rattle.reply_lines.specs.Tokens.{data_tokens, Adds, said};
+ghost use Rattle.json_text.specs.Tokens.{data_tokens, Adds};
+ghost use Rattle.reply_lines.specs.Tokens.{said};
 
 use crate::answers::put_answer;
-use crate::json_text::JsonText;
 use crate::members::put_number;
 use crate::replies::{Outcome, Reply};
 use job_words::Name;
+use json_text::JsonText;
 use std::alloc::{AllocError, Global};
 use text_tables::CanonicalTexts;
 

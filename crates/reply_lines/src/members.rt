@@ -6,10 +6,10 @@ ghost use Rattle.json.specs.Token.{key as key_token, string as string_token, num
 ghost use Rattle.serde_json.specs.Data.{string};
 ghost use Rattle.tptp_print.specs.Canonical.{canonical};
 ghost use Rattle.reply_lines.specs.Replies.{formulas_data, side_data, numbers_data};
-ghost use Rattle.reply_lines.specs.Tokens.{data_tokens, Adds};
+ghost use Rattle.json_text.specs.Tokens.{data_tokens, Adds};
 
-use crate::json_text::JsonText;
 use fol::Formula;
+use json_text::JsonText;
 use lk_rules::Formulas;
 use std::alloc::Global;
 use text_tables::CanonicalTexts;

@@ -8,13 +8,13 @@ ghost use Rattle.serde_json.specs.Data.{array};
 ghost use Rattle.serde_json.specs.View.{items_of};
 ghost use Rattle.tptp_print.specs.Canonical.{canonical};
 ghost use Rattle.reply_lines.specs.Replies.{bare_step, main_step, term_step, variable_step, proof_step, steps_data};
-ghost use Rattle.reply_lines.specs.Tokens.{data_tokens, Adds};
+ghost use Rattle.json_text.specs.Tokens.{data_tokens, Adds};
 
-use crate::json_text::JsonText;
 use crate::members::{put_formula, put_numbers, put_side, put_text};
 use crate::terms::{put_term, put_variable};
 use fol::{Formula, Term, Var};
 use job_words::RuleKind;
+use json_text::JsonText;
 use lk_rules::{Rule, Sequent, Step};
 use std::alloc::Global;
 use text_tables::CanonicalTexts;

@@ -3,11 +3,11 @@ ghost use Rattle.std.specs.Prelude.{◌≡◌, IfOk};
 ghost use Rattle.fol.specs.Formed.{IsFormedTerm, IsFormedVar};
 ghost use Rattle.fol.specs.Syntax.{free};
 ghost use Rattle.reply_lines.specs.Replies.{term_data, variable_data};
-ghost use Rattle.reply_lines.specs.Tokens.{data_tokens, Adds};
+ghost use Rattle.json_text.specs.Tokens.{data_tokens, Adds};
 
-use crate::json_text::JsonText;
 use crate::members::printable;
 use fol::{Term, Var};
+use json_text::JsonText;
 use std::alloc::{AllocError, Global};
 use tptp_print::print_term;
 

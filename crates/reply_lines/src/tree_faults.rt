@@ -4,14 +4,14 @@ ghost use Rattle.std.specs.List.{All};
 ghost use Rattle.fol.specs.Formed.{IsFormed, IsFormedVar};
 ghost use Rattle.json.specs.Token.{key as key_token, string as string_token};
 ghost use Rattle.reply_lines.specs.Replies.{side_name as side_text, side_fault, falsified_data, place_fault, node_cause as node_cause_text, root_cause as root_cause_text, variable_fault, variables_data, cycle_data};
-ghost use Rattle.reply_lines.specs.Tokens.{data_tokens, Adds};
+ghost use Rattle.json_text.specs.Tokens.{data_tokens, Adds};
 
-use crate::json_text::JsonText;
 use crate::members::{put_formula, put_number, put_side, put_text};
 use crate::terms::put_variable;
 use exp_tree::{NodeCause, RootCause};
 use fol::{Formula, Var};
 use job_words::FormedVar;
+use json_text::JsonText;
 use lk_rules::{Formulas, Side};
 use std::alloc::Global;
 use text_tables::CanonicalTexts;

@@ -1,7 +1,8 @@
 use Rattle.std.proofs.Common.{◌≡◌, ℕ, map, subst, arith}
 use Rattle.std.specs.List.{range_with_len}
 use Rattle.job_gen.specs.Chains.{instance_data}
-use Rattle.job_gen.specs.Tokens.{all_tokens, Adds}
+use Rattle.json_text.specs.Tokens.{Adds}
+use Rattle.job_gen.specs.Tokens.{all_tokens}
 use Rattle.job_gen.proofs.Adding.{adds_number, adds_array}
 use Rattle.job_gen.proofs.chains.put_instances.Goals as goal
 

@@ -1,7 +1,8 @@
 use Rattle.std.proofs.Common.{[], ◌∷◌}
 use Rattle.std.specs.List.{range_with_len, flat_map}
 use Rattle.job_gen.specs.Chains.{implication_nodes, weak_data, leaf_data, chain_nodes}
-use Rattle.job_gen.proofs.Adding.{adds_then, adds_more, adds_array}
+use Rattle.json_text.proofs.Adding.{adds_then}
+use Rattle.job_gen.proofs.Adding.{adds_more, adds_array}
 use Rattle.job_gen.proofs.chains.put_nodes.Goals as goal
 
 pub returns : goal.returns

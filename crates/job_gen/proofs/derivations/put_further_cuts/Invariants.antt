@@ -1,7 +1,8 @@
 use Rattle.std.proofs.Common.{◌+◌, map, codes}
 use Rattle.std.specs.List.{range_with_len}
 use Rattle.job_gen.specs.Derivations.{cut_data}
-use Rattle.job_gen.specs.Tokens.{all_tokens, Adds}
+use Rattle.json_text.specs.Tokens.{Adds}
+use Rattle.job_gen.specs.Tokens.{all_tokens}
 use Rattle.job_gen.proofs.derivations.put_further_cuts.Given as goal
 
 abbrev pub invariant-loop-j : goal.invariant-loop-j

@@ -1,4 +1,4 @@
-use Rattle.job_gen.proofs.Adding.{adds_then}
+use Rattle.json_text.proofs.Adding.{adds_then}
 use Rattle.job_gen.proofs.jobs.put_derivation_job.Goals as goal
 
 pub returns : goal.returns

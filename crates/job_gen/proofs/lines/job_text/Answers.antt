@@ -1,9 +1,9 @@
 use Rattle.std.proofs.Common.{◌≡◌, subst}
 use Rattle.std.proofs.lemmas.Result.{IfOk-weaker}
 use Rattle.serde_json.specs.Written.{compact_text}
-use Rattle.job_gen.specs.Tokens.{data_tokens, Written, Adds, IsTextOf}
+use Rattle.json_text.specs.Tokens.{data_tokens, Written, Adds, IsTextOf}
 use Rattle.job_gen.specs.Generated.{job_data}
-use Rattle.job_gen.proofs.JobTexts.{text_of}
+use Rattle.json_text.proofs.Texts.{text_of}
 use Rattle.job_gen.proofs.lines.job_text.Goals as goal
 
 pub returns : goal.returns

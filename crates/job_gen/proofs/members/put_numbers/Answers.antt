@@ -1,6 +1,7 @@
 use Rattle.std.proofs.Common.{map}
 use Rattle.job_gen.specs.Values.{count_data}
-use Rattle.job_gen.proofs.Adding.{adds_then, adds_array, adds_elements}
+use Rattle.json_text.proofs.Adding.{adds_then}
+use Rattle.job_gen.proofs.Adding.{adds_array, adds_elements}
 use Rattle.job_gen.proofs.members.put_numbers.Goals as goal
 
 pub returns : goal.returns

@@ -1,6 +1,7 @@
 use Rattle.std.proofs.Common.{map, take}
 use Rattle.job_gen.specs.Values.{count_data}
-use Rattle.job_gen.specs.Tokens.{all_tokens, Adds}
+use Rattle.json_text.specs.Tokens.{Adds}
+use Rattle.job_gen.specs.Tokens.{all_tokens}
 use Rattle.job_gen.proofs.members.put_numbers.Given as goal
 
 abbrev pub invariant-loop-n : goal.invariant-loop-n

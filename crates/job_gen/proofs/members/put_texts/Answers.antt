@@ -2,8 +2,9 @@ use Rattle.std.proofs.Common.{List, map, sym, subst}
 use Rattle.std.proofs.lemmas.Simd.{map-map}
 use Rattle.serde_json.specs.Data.{Data, string, array}
 use Rattle.serde_json.specs.View.{items_of}
-use Rattle.job_gen.specs.Tokens.{data_tokens, Adds}
-use Rattle.job_gen.proofs.Adding.{adds_then, adds_array, adds_elements}
+use Rattle.json_text.specs.Tokens.{data_tokens, Adds}
+use Rattle.json_text.proofs.Adding.{adds_then}
+use Rattle.job_gen.proofs.Adding.{adds_array, adds_elements}
 use Rattle.job_gen.proofs.members.put_texts.Goals as goal
 
 pub returns : goal.returns

@@ -2,7 +2,8 @@ use Rattle.std.proofs.Common.{codes, sym, subst}
 use Rattle.fol.specs.Syntax.{Formula}
 use Rattle.reply_lines.specs.declared.replies.Outcome.{Outcome}
 use Rattle.reply_lines.specs.Replies.{side_fault, answer_data}
-use Rattle.reply_lines.specs.Tokens.{data_tokens, Adds, said}
+use Rattle.json_text.specs.Tokens.{data_tokens, Adds}
+use Rattle.reply_lines.specs.Tokens.{said}
 use Rattle.reply_lines.proofs.answers.put_answer.Goals as goal
 
 pub returns-in-LineTooLong : goal.returns-in-LineTooLong

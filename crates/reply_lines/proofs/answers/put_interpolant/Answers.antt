@@ -1,4 +1,4 @@
-use Rattle.reply_lines.proofs.Adding.{adds_then}
+use Rattle.json_text.proofs.Adding.{adds_then}
 use Rattle.reply_lines.proofs.answers.put_interpolant.Goals as goal
 
 pub returns : goal.returns

@@ -1,5 +1,6 @@
 use Rattle.std.proofs.Common.{List, ℕ, subst, codes}
-use Rattle.reply_lines.specs.Tokens.{data_tokens, fault_data, Adds}
+use Rattle.json_text.specs.Tokens.{data_tokens, Adds}
+use Rattle.reply_lines.specs.Tokens.{fault_data}
 use Rattle.reply_lines.proofs.answers.put_refutation_fault.Goals as goal
 
 pub returns : goal.returns

@@ -2,7 +2,7 @@ use Rattle.std.proofs.Common.{sym, subst}
 use Rattle.lk_rules.specs.declared.inference.RuleFault.{RuleFault}
 use Rattle.reply_lines.specs.declared.replies.StepShown.TheVariants.{Rule}
 use Rattle.reply_lines.specs.Replies.{step_data}
-use Rattle.reply_lines.specs.Tokens.{data_tokens, Adds}
+use Rattle.json_text.specs.Tokens.{data_tokens, Adds}
 use Rattle.reply_lines.proofs.answers.put_rule_fault.Goals as goal
 
 pub returns-in-Premises : goal.returns-in-Premises

@@ -1,7 +1,7 @@
 use Rattle.std.proofs.Common.{sym, subst}
 use Rattle.reply_lines.specs.declared.replies.StepShown.{StepShown}
 use Rattle.reply_lines.specs.Replies.{step_data}
-use Rattle.reply_lines.specs.Tokens.{data_tokens, Adds}
+use Rattle.json_text.specs.Tokens.{data_tokens, Adds}
 use Rattle.reply_lines.proofs.answers.put_step_fault.Goals as goal
 
 pub returns-in-Reference : goal.returns-in-Reference

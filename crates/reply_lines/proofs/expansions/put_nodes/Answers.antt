@@ -2,8 +2,8 @@ use Rattle.std.proofs.Common.{ℕ, List, ◌∷◌, codes, subst}
 use Rattle.json.specs.Token.{key}
 use Rattle.exp_tree.specs.declared.flat.ExpNode.{ExpNode}
 use Rattle.reply_lines.specs.Replies.{numbers_data, node_list}
-use Rattle.reply_lines.specs.Tokens.{data_tokens, Adds}
-use Rattle.reply_lines.proofs.Adding.{adds_then}
+use Rattle.json_text.specs.Tokens.{data_tokens, Adds}
+use Rattle.json_text.proofs.Adding.{adds_then}
 use Rattle.reply_lines.proofs.expansions.put_nodes.Goals as goal
 
 pub returns : goal.returns

@@ -2,7 +2,8 @@ use Rattle.std.proofs.Common.{List, ℕ, sym, ap, ◌∙◌, subst}
 use Rattle.std.specs.Prelude.{Option}
 use Rattle.serde_json.specs.Data.{Data}
 use Rattle.reply_lines.specs.Replies.{name_data, ok_data, error_data, answer_data}
-use Rattle.reply_lines.specs.Tokens.{data_tokens, Adds, said}
+use Rattle.json_text.specs.Tokens.{data_tokens, Adds}
+use Rattle.reply_lines.specs.Tokens.{said}
 use Rattle.reply_lines.proofs.ReplyTexts.{reply_ok, reply_error}
 use Rattle.reply_lines.proofs.lines.put_reply.Goals as goal
 

@@ -2,8 +2,8 @@ use Rattle.std.proofs.Common.{◌≡◌, subst}
 use Rattle.std.proofs.lemmas.Result.{IfOk-weaker}
 use Rattle.serde_json.specs.Written.{compact_text}
 use Rattle.reply_lines.specs.Replies.{reply_data}
-use Rattle.reply_lines.specs.Tokens.{data_tokens, Written, Adds, IsTextOf}
-use Rattle.reply_lines.proofs.ReplyTexts.{text_of}
+use Rattle.json_text.specs.Tokens.{data_tokens, Written, Adds, IsTextOf}
+use Rattle.json_text.proofs.Texts.{text_of}
 use Rattle.reply_lines.proofs.lines.reply_text.Goals as goal
 
 pub returns : goal.returns

@@ -1,7 +1,8 @@
 use Rattle.serde_json.specs.Data.{Data, string}
 use Rattle.fol.specs.Syntax.{Formula}
 use Rattle.tptp_print.specs.Canonical.{canonical}
-use Rattle.reply_lines.proofs.Adding.{adds_then, joins_start, joins_more, joins_end}
+use Rattle.json_text.proofs.Adding.{adds_then}
+use Rattle.reply_lines.proofs.Adding.{joins_start, joins_more, joins_end}
 use Rattle.reply_lines.proofs.members.put_formulas.Goals as goal
 
 abbrev shown : Formula → Data

@@ -1,7 +1,8 @@
 use Rattle.std.proofs.Common.{get_or}
 use Rattle.std.proofs.lemmas.List.{get_or_default}
 use Rattle.reply_lines.specs.Replies.{count_data}
-use Rattle.reply_lines.proofs.Adding.{adds_then, joins_start, joins_more, joins_end}
+use Rattle.json_text.proofs.Adding.{adds_then}
+use Rattle.reply_lines.proofs.Adding.{joins_start, joins_more, joins_end}
 use Rattle.reply_lines.proofs.members.put_list.Goals as goal
 
 pub loop-n-init : goal.loop-n-init

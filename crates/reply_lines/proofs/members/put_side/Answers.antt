@@ -1,8 +1,8 @@
 use Rattle.std.proofs.Common.{List, subst}
 use Rattle.fol.specs.Syntax.{Formula}
 use Rattle.reply_lines.specs.Replies.{formulas_data}
-use Rattle.reply_lines.specs.Tokens.{data_tokens, Adds}
-use Rattle.reply_lines.proofs.Adding.{adds_then}
+use Rattle.json_text.specs.Tokens.{data_tokens, Adds}
+use Rattle.json_text.proofs.Adding.{adds_then}
 use Rattle.reply_lines.proofs.members.put_side.Goals as goal
 
 pub returns : goal.returns

@@ -1,5 +1,6 @@
 use Rattle.reply_lines.specs.Replies.{proof_step}
-use Rattle.reply_lines.proofs.Adding.{adds_then, joins_start, joins_more, joins_end}
+use Rattle.json_text.proofs.Adding.{adds_then}
+use Rattle.reply_lines.proofs.Adding.{joins_start, joins_more, joins_end}
 use Rattle.reply_lines.proofs.steps.put_list.Goals as goal
 
 pub loop-step-init : goal.loop-step-init

@@ -1,4 +1,4 @@
-use Rattle.reply_lines.proofs.Adding.{adds_then}
+use Rattle.json_text.proofs.Adding.{adds_then}
 use Rattle.reply_lines.proofs.steps.put_steps.Goals as goal
 
 pub returns : goal.returns

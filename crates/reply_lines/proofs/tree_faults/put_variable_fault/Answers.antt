@@ -1,8 +1,8 @@
 use Rattle.std.proofs.Common.{subst}
 use Rattle.fol.specs.declared.symbols.Var.{Var}
 use Rattle.reply_lines.specs.Replies.{variable_data}
-use Rattle.reply_lines.specs.Tokens.{data_tokens, Adds}
-use Rattle.reply_lines.proofs.Adding.{adds_then}
+use Rattle.json_text.specs.Tokens.{data_tokens, Adds}
+use Rattle.json_text.proofs.Adding.{adds_then}
 use Rattle.reply_lines.proofs.tree_faults.put_variable_fault.Goals as goal
 
 pub returns : goal.returns

@@ -1,5 +1,6 @@
 use Rattle.reply_lines.specs.Replies.{variable_data}
-use Rattle.reply_lines.proofs.Adding.{adds_then, joins_start, joins_more, joins_end}
+use Rattle.json_text.proofs.Adding.{adds_then}
+use Rattle.reply_lines.proofs.Adding.{joins_start, joins_more, joins_end}
 use Rattle.reply_lines.proofs.tree_faults.put_variables.Goals as goal
 
 pub loop-var-init : goal.loop-var-init

@@ -1,0 +1,6 @@
+//! JSON texts that are written token by token.
+#![tactic(auto)]
+
+mod text;
+
+pub use text::JsonText;
