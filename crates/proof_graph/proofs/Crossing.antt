@@ -5,9 +5,9 @@ use Rattle.std.proofs.MapsCrossing as maps
 use Rattle.boxcar.proofs.table.Placed.TheSendSync as placed
 use Rattle.boxcar.proofs.vec.Vec.TheSendSync as boxcar
 use Rattle.lk_rules.proofs.Crossing as rules
+use Rattle.proof_graph.proofs.Sent.{tree_send, tree_sync}
 use Rattle.proof_graph.proofs.counts.Counts.TheSendSync as counts
 use Rattle.proof_graph.proofs.reference.ProofRef.TheLaws.TheKnot as proof_knot
-use Rattle.proof_graph.proofs.tree.ProofTree.TheLaws.TheKnot as tree_knot
 use Rattle.proof_graph.specs.contracts.graph.Graph as graph
 use Rattle.proof_graph.specs.contracts.graph.GraphPass as pass
 use Rattle.proof_graph.specs.contracts.index.Index as index
@@ -31,16 +31,16 @@ pub key_sync : IsSync key.the_row
 key_sync = search (sendable, std.crosses, node_send, node_sync) depth 10
 
 pub stamp_send : IsSend stamp.the_row
-stamp_send = search (sendable, std.crosses, key_send) depth 10
+stamp_send = search (sendable, std.crosses, key_send, tree_send) depth 10
 
 pub stamp_sync : IsSync stamp.the_row
-stamp_sync = search (sendable, std.crosses, key_sync) depth 10
+stamp_sync = search (sendable, std.crosses, key_sync, tree_sync) depth 10
 
 pub proof_send : IsSend proof.the_row
-proof_send = search (sendable, std.crosses, proof_knot.crosses, tree_knot.crosses, placed.the_send, placed.the_sync, counts.the_send, counts.the_sync) depth 20
+proof_send = search (sendable, std.crosses, proof_knot.crosses, placed.the_send, placed.the_sync, counts.the_send, counts.the_sync) depth 20
 
 pub proof_sync : IsSync proof.the_row
-proof_sync = search (sendable, std.crosses, proof_knot.crosses, tree_knot.crosses, placed.the_send, placed.the_sync, counts.the_send, counts.the_sync) depth 20
+proof_sync = search (sendable, std.crosses, proof_knot.crosses, placed.the_send, placed.the_sync, counts.the_send, counts.the_sync) depth 20
 
 pub index_send : IsSend index.the_row
 index_send = search (sendable, std.crosses, maps.crosses, key_send, proof_send) depth 20

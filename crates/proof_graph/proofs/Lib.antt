@@ -6,3 +6,4 @@ pub mod Growth
 pub mod Standing
 pub mod Premises
 pub mod Crossing
+pub mod Sent

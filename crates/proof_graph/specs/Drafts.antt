@@ -8,13 +8,13 @@ use Rattle.proof_graph.specs.declared.reference.Draft.{Draft}
 use Rattle.proof_graph.specs.References.{trees_of, numbers_of}
 use Rattle.proof_graph.specs.Counts.{AreCountsOf}
 
--- a stamp with the key and a tree, the references of the premises, of one graph and with the numbers that the key says, and the counts of
--- the tree, which is valid, with the key's rule and end sequent over the premises' trees
+-- a stamp with the key and a tree, which is valid, with the key's rule and end sequent over the premises' trees; and the graph, the
+-- references of the premises, of this graph and with the numbers that the key says, and the counts of the tree
 pub record IsDraftOf (nodes : Shelves) (root : Node) (d : Draft) : Type 0 where
   pub key : d.stamp.key ≡ root
-  pub stamped : d.stamp.tree.value ≡ d.tree
-  pub tree : d.tree ≡ node root.rule root.end (trees_of d.premises.items)
-  pub home : All (λ p. p.home ≡ nodes) d.premises.items
-  pub numbers : root.premises ≡ numbers_of d.premises.items
-  pub valid : IsValid d.tree
-  pub counts : AreCountsOf d.counts d.tree
+  pub tree : d.stamp.tree.tree ≡ node root.rule root.end (trees_of d.link.value.premises.items)
+  pub graph : d.link.value.home.value ≡ nodes
+  pub home : All (λ p. p.home ≡ nodes) d.link.value.premises.items
+  pub numbers : root.premises ≡ numbers_of d.link.value.premises.items
+  pub valid : IsValid d.stamp.tree.tree
+  pub counts : AreCountsOf d.link.value.counts d.stamp.tree.tree

@@ -29,6 +29,9 @@ use turn_log::{Pass, TurnLog};
 /// each puts nodes in by a pass of its own. It can't be dropped, and is ended by `close`.
 pub struct Graph {
     nodes: Nodes,
+    // Threads that wait for a turn read what stands behind, and each turn writes the counters of the nodes: so they lie in other lines of
+    // a cache.
+    apart: [u64; 8],
     index: TurnLog<BoxedIndex>,
     // The references of the index are of this graph.
     ghost home: { (opening index).index.value.home ≡ nodes } by { Coded-set shelves_coded _ _ },
@@ -62,7 +65,13 @@ impl Graph {
         let index = BoxedIndex::new(alloc, &nodes)?;
         index.index.known();
         let (index, pass) = TurnLog::new(alloc, index)?;
-        Ok((Graph { nodes, index }, GraphPass { pass }))
+        let apart = [0; 8];
+        let graph = Graph {
+            nodes,
+            apart,
+            index,
+        };
+        Ok((graph, GraphPass { pass }))
     }
 
     /// The reference of the tree whose last inference has this rule and this end sequent over the trees of the premises. Its key is the
@@ -94,17 +103,16 @@ impl Graph {
             premises: numbers_of_all(alloc, premises)?,
         };
         let key = Key::new(alloc, root)?;
-        let draft = Draft::new(alloc, &key, premises)?;
-        let made = self.add(rt, alloc, pass, key, draft)?;
+        let draft = Draft::new(alloc, &self.nodes, &key, premises)?;
+        let made = self.add(rt, pass, key, draft)?;
         see_trees(&self.nodes, &made, premises);
         Ok(made)
     }
 
-    // The reference of a key, which is added in a turn where it isn't there.
+    // The reference of a key, which is added in a turn where it isn't there. What is then left over is dropped after the turn.
     fn add<R: Wait>(
         &self,
         rt: &R,
-        alloc: Global,
         pass: &mut GraphPass,
         key: Key,
         draft: Draft,
@@ -118,12 +126,11 @@ impl Graph {
         ensures pass_stays { IsPassOf self.now pass.new }
     {
         let mut turn = self.index.take(rt, &mut pass.pass);
-        let made = turn
-            .value_mut()
-            .index
-            .intern(rt, alloc, &self.nodes, key, draft);
+        let made = turn.value_mut().index.intern(rt, &self.nodes, key, draft);
         self.index.give(&mut pass.pass, turn);
-        made
+        let (made, left) = made?;
+        drop(left);
+        Ok(made)
     }
 
     /// Another pass of the graph, as for another thread. Both have seen the same.
@@ -156,7 +163,11 @@ impl Graph {
     pub fn close<R: Wait>(self, rt: &R, pass: GraphPass)
         requires { IsPassOf self pass }
     {
-        let Graph { nodes, index } = self;
+        let Graph {
+            nodes,
+            apart: _,
+            index,
+        } = self;
         let GraphPass { pass } = pass;
         drop(index.close(rt, pass));
         drop(nodes);

@@ -94,38 +94,36 @@ impl Index {
         }
     }
 
-    /// The reference of a key, which is added with its node at the end where it isn't there.
+    /// The reference of a key, which is added with its node at the end where it isn't there. Else the key and the draft come back.
     pub fn intern<R: Wait>(
         &mut self,
         rt: &R,
-        alloc: Global,
         nodes: &Nodes,
         key: Key,
         draft: Draft,
-    ) -> Result<ProofRef, AllocError>
+    ) -> Result<(ProofRef, Option<(Key, Draft)>), AllocError>
         requires home { self.old.home ≡ nodes.now }
         requires draft { IsDraftOf nodes.now key draft }
-        ensures of { IfOk result (λ r. r.home ≡ nodes.now) }
-        ensures key { IfOk result (λ r. key_of r ≡ key) }
-        ensures adds { IfOk result (λ r. Adds self.old.history key r self.new.history) }
+        ensures of { IfOk result (λ r. r.0.home ≡ nodes.now) }
+        ensures key { IfOk result (λ r. key_of r.0 ≡ key) }
+        ensures adds { IfOk result (λ r. Adds self.old.history key r.0 self.new.history) }
         ensures err { OnErr result (self.new.history ≡ self.old.history) }
         ensures grown { IsPrefix self.old.history self.new.history }
         ensures legal { IsLegal self.new.history }
         ensures home { self.new.home ≡ self.old.home }
     {
         if let Some(found) = self.look_up(&key)? {
-            return Ok(found);
+            return Ok((found, Some((key, draft))));
         }
-        let added = self.add(rt, alloc, nodes, key, draft);
+        let added = self.add(rt, nodes, key, draft);
         self.known();
-        added
+        Ok((added?, None))
     }
 
     // The reference of a node whose key isn't there, which is added at the end. Memory for it is taken before the node is put in.
     fn add<R: Wait>(
         &mut self,
         rt: &R,
-        alloc: Global,
         nodes: &Nodes,
         key: Key,
         draft: Draft,
@@ -140,7 +138,7 @@ impl Index {
         ensures home { self.new.home ≡ self.old.home }
     {
         self.make_room()?;
-        let made = draft.enter(rt, alloc, nodes, &key)?;
+        let made = draft.enter(rt, nodes, &key)?;
         self.see_new(nodes, &made);
         let kept = made.keep()?;
         self.put(key, made)?;

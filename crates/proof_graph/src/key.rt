@@ -98,6 +98,13 @@ fn is_same(one: &Node, other: &Node) -> bool
         && one.end == other.end
 }
 
+// Whether the keys are equal. Unequal ones mostly differ in their fingerprints, so that their nodes are left alone.
+fn is_same_key(one: &Key, other: &Key) -> bool
+    ensures { IsTrue result ↔ (one.now ≡ other.now) }
+{
+    one.fingerprint() == other.fingerprint() && is_same(one.node(), other.node())
+}
+
 impl PartialEq for Key {
     ghost eq = { same_node };
 
@@ -107,7 +114,7 @@ impl PartialEq for Key {
         ensures value { result ≡ same_node self.now other.now }
         ensures same { IsTrue result ↔ (self.now ≡ other.now) }
     {
-        is_same(self.node(), other.node())
+        is_same_key(self, other)
     }
 }
 

@@ -1,14 +1,14 @@
 //! References to proofs.
-ghost use Rattle.std.specs.Prelude.{◌≡◌, ◌↔◌, IsTrue, IfOk, length, map};
+ghost use Rattle.std.specs.Prelude.{◌≡◌, ◌↔◌, IsTrue, IfOk, length};
 ghost use Rattle.std.specs.List.{All};
-ghost use Rattle.proof_trees.specs.Trees.{below, count, IsValid, IsInference};
+ghost use Rattle.proof_trees.specs.Trees.{node, below, count, IsValid, IsInference};
 ghost use Rattle.proof_graph.specs.References.{key_of, trees_of, numbers_of};
 ghost use Rattle.proof_graph.specs.Counts.{AreCountsOf};
 
 use crate::counts::{Counts, counts_over};
 use crate::key::Key;
 use crate::node::Node;
-use crate::tree::{Nodes, ProofTree, Stamp};
+use crate::tree::{Means, Nodes, ProofTree, Stamp};
 use boxcar::Pushed;
 use std::alloc::{AllocError, Global};
 use std::marker::Model;
@@ -19,6 +19,7 @@ use std::sync::{Arc, Wait};
 #[cycle(reference)]
 #[derive(Drop)]
 pub struct ProofRef {
+    token: Pushed<Stamp>,
     link: Arc<RefLink>,
 }
 
@@ -26,8 +27,6 @@ pub struct ProofRef {
 #[derive(Drop)]
 pub(crate) struct RefLink {
     home: Snapshot<Nodes>,
-    token: Pushed<Stamp>,
-    tree: ProofTree,
     counts: Counts,
     premises: Vec<ProofRef>,
 }
@@ -43,13 +42,13 @@ impl Model for ProofRef {
     ghost use Rattle.proof_graph.specs.Shown.{nodes};
     ghost use Rattle.proof_graph.specs.Kept.{reference_of, IsKept, falls};
 
-    ghost view = { λ r. reference_of r.link.value };
+    ghost view = { λ r. reference_of r.token r.link.value };
 
-    ghost invariant = { λ r. IsKept r.link.value };
+    ghost invariant = { λ r. IsKept r.token r.link.value };
 
     ghost size = { λ v. nodes v.tree };
 
-    ghost size_decreases = { λ a h. omega (arith, falls a.link.value h) };
+    ghost size_decreases = { λ a h. omega (arith, falls a.token a.link.value h) };
 }
 
 impl ProofRef {
@@ -57,7 +56,7 @@ impl ProofRef {
     pub fn number(&self) -> u64
         ensures { result ≡ self.now.number }
     {
-        self.link.token.index() as u64
+        self.token.index() as u64
     }
 
     /// The references of the premises.
@@ -89,14 +88,8 @@ impl ProofRef {
         ensures { IfOk result (λ kept. kept ≡ self.now) }
     {
         let link = Arc::try_clone(&self.link)?;
-        Ok(ProofRef { link })
-    }
-
-    // The tree.
-    pub(crate) fn tree(&self) -> Result<ProofTree, AllocError>
-        ensures { IfOk result (λ tree. tree ≡ self.now.tree) }
-    {
-        self.link.tree.keep()
+        let token = self.token.again();
+        Ok(ProofRef { token, link })
     }
 
     // The node at its number.
@@ -104,7 +97,7 @@ impl ProofRef {
         requires { self.now.home ≡ nodes.now }
         ensures { result.now ≡ key_of self.now }
     {
-        nodes.value(&self.link.token).key.node()
+        nodes.value(&self.token).key.node()
     }
 
     // Whether the numbers are equal. References of one graph with one number are one reference.
@@ -117,102 +110,96 @@ impl ProofRef {
         if self.number() != other.number() {
             return false;
         }
-        nodes.agrees(&self.link.token, &other.link.token);
+        nodes.agrees(&self.token, &other.token);
         true
     }
 }
 
-// The references of a list, once more.
+// The references of a list, once more. Their trees are valid.
 fn keep_all(alloc: Global, proofs: &[ProofRef]) -> Result<Vec<ProofRef>, AllocError>
-    ensures { IfOk result (λ kept. kept.items ≡ proofs.now) }
+    ensures kept { IfOk result (λ kept. kept.items ≡ proofs.now) }
+    ensures valid { IfOk result (λ kept. All (λ r. IsValid r.tree) kept.items) }
 {
     let mut kept = Vec::with_capacity(alloc, proofs.len())?;
     for proof in proofs {
+        proof.known();
         kept.push(proof.keep()?)?;
     }
     Ok(kept)
 }
 
-// The trees of a list, which are valid.
-fn keep_trees(alloc: Global, proofs: &[ProofRef]) -> Result<Vec<ProofTree>, AllocError>
-    ensures trees { IfOk result (λ kept. kept.items ≡ map (λ r. r.tree) proofs.now) }
-    ensures valid { IfOk result (λ kept. All IsValid kept.items) }
-{
-    let mut kept = Vec::with_capacity(alloc, proofs.len())?;
-    for proof in proofs {
-        proof.known();
-        kept.push(proof.tree()?)?;
-    }
-    Ok(kept)
+// An inference over the trees that references mean, as contracts see it.
+#[derive(Drop)]
+struct Inference {
+    root: Snapshot<Node>,
+    premises: Snapshot<Vec<ProofRef>>,
 }
 
-/// What a reference is made of but for its place in the graph: all that is needed of memory but that of the link, so that a node is put
-/// in soon.
+struct Over;
+
+impl Means<Inference> for Over {
+    ghost tree = { λ i. node i.root.value.rule i.root.value.end (trees_of i.premises.value.items) };
+}
+
+// The tree of a node over the trees that the references of its premises mean.
+fn tree_over(root: &Node, premises: &Vec<ProofRef>) -> ProofTree
+    ensures { result.tree ≡ node root.now.rule root.now.end (trees_of premises.now.items) }
+{
+    let inference = Inference {
+        root: Snapshot::of(root),
+        premises: Snapshot::of(premises),
+    };
+    ProofTree::of::<Inference, Over>(&inference)
+}
+
+/// What a reference is made of but for its place in the graph: all that is needed of memory, so that a node is put in soon.
 #[derive(Drop)]
 pub(crate) struct Draft {
     stamp: Stamp,
-    tree: ProofTree,
-    counts: Counts,
-    premises: Vec<ProofRef>,
+    link: Arc<RefLink>,
 }
 
 impl Draft {
-    ghost use Rattle.boxcar.specs.Table.{Shelves};
     ghost use Rattle.proof_graph.specs.Drafts.{IsDraftOf};
 
     /// The draft of the reference of a node whose premises are these.
-    pub fn new(alloc: Global, key: &Key, premises: &[ProofRef]) -> Result<Draft, AllocError>
-        requires numbers { key.now.premises ≡ numbers_of premises.now }
-        requires inference { IsInference key.now.rule key.now.end (trees_of premises.now) }
-        ensures { (home : Shelves) → All (λ p. p.home ≡ home) premises.now → IfOk result (IsDraftOf home key.now) }
-    {
-        let trees = keep_trees(alloc, premises)?;
-        let root = key.node();
-        let tree = ProofTree::new(alloc, &root.rule, &root.end, trees)?;
-        let counts = counts_over(&root.rule, premises);
-        let premises = keep_all(alloc, premises)?;
-        let stamp = Stamp {
-            key: key.keep()?,
-            tree: Snapshot::of(&tree),
-        };
-        Ok(Draft {
-            stamp,
-            tree,
-            counts,
-            premises,
-        })
-    }
-
-    /// Puts the node into the graph, and answers its reference. The caller sees to it that the key isn't there yet.
-    pub fn enter<R: Wait>(
-        self,
-        rt: &R,
+    pub fn new(
         alloc: Global,
         nodes: &Nodes,
         key: &Key,
-    ) -> Result<ProofRef, AllocError>
+        premises: &[ProofRef],
+    ) -> Result<Draft, AllocError>
+        requires of { All (λ p. p.home ≡ nodes.now) premises.now }
+        requires numbers { key.now.premises ≡ numbers_of premises.now }
+        requires inference { IsInference key.now.rule key.now.end (trees_of premises.now) }
+        ensures { IfOk result (IsDraftOf nodes.now key.now) }
+    {
+        let root = key.node();
+        let counts = counts_over(&root.rule, premises);
+        let premises = keep_all(alloc, premises)?;
+        let tree = tree_over(root, &premises);
+        let key = key.keep()?;
+        let stamp = Stamp { key, tree };
+        let link = RefLink {
+            home: Snapshot::of(nodes),
+            counts,
+            premises,
+        };
+        let link = Arc::new(alloc, link)?;
+        Ok(Draft { stamp, link })
+    }
+
+    /// Puts the node into the graph, and answers its reference. The caller sees to it that the key isn't there yet.
+    pub fn enter<R: Wait>(self, rt: &R, nodes: &Nodes, key: &Key) -> Result<ProofRef, AllocError>
         requires { IsDraftOf nodes.now key.now self }
         ensures home { IfOk result (λ r. r.home ≡ nodes.now) }
         ensures key { IfOk result (λ r. key_of r ≡ key.now) }
     {
         let _key = key;
-        let Draft {
-            stamp,
-            tree,
-            counts,
-            premises,
-        } = self;
+        let Draft { stamp, link } = self;
         let Ok(token) = nodes.push_shown(rt, stamp) else {
             return Err(AllocError);
         };
-        let link = RefLink {
-            home: Snapshot::of(nodes),
-            token,
-            tree,
-            counts,
-            premises,
-        };
-        let link = Arc::new(alloc, link)?;
-        Ok(ProofRef { link })
+        Ok(ProofRef { token, link })
     }
 }

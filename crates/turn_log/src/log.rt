@@ -14,12 +14,19 @@ use std::sync::Wait;
 use std::thread::yield_now;
 
 // How often a pass that waits for its turn looks again before it lets another thread run. Most turns take less time than that.
-const MOST_LOOKS: u64 = 100;
+const MOST_LOOKS: u64 = 20;
 
 /// A value that threads change in turns. It can't be dropped: it is ended by `close`.
 pub struct TurnLog<T: Grows> {
     table: Table<Option<T>, View<T::Entry, Snapshot<T>>, Snapshot<T>, Ruled<T>, Global>,
     ghost sized: { (table.shared.table_id.words ≡ 1) × (table.shared.table_id.slots ≡ 1) },
+}
+
+// Waits for that many moments.
+fn pause(moments: u64) {
+    for _ in 0..moments {
+        spin_loop();
+    }
 }
 
 /// The right of one thread to take turns, with the entries that it has seen. It has no bytes. Where it is dropped with no turn out, the
@@ -76,7 +83,12 @@ impl<T: Grows> TurnLog<T> {
         }
     }
 
-    /// A turn: the value, with all entries that there are. Waits for as long as another turn is out.
+    // Whether no turn seems to be out. A look writes nothing, so that it holds up the thread that has the turn less than an attempt to take it.
+    fn seems_free(&self) -> bool {
+        self.table.shared.peek(0) % 2 == 0
+    }
+
+    /// A turn: the value, with all entries that there are. Waits for as long as another turn is out, after each look a little longer.
     pub fn take<R: Wait>(&self, rt: &R, pass: &mut Pass<T>) -> Turn<T>
         requires of { IsOf self.now pass.old }
         requires rest { is_out pass.old ≡ false }
@@ -88,12 +100,14 @@ impl<T: Grows> TurnLog<T> {
     {
         let mut looks = 0u64;
         for _ in rt.forever() {
-            if let Some(turn) = self.try_take(pass) {
+            if self.seems_free()
+                && let Some(turn) = self.try_take(pass)
+            {
                 return turn;
             }
             if looks < MOST_LOOKS {
                 looks += 1;
-                spin_loop();
+                pause(looks);
             } else {
                 looks = 0;
                 yield_now();
