@@ -1,8 +1,9 @@
 -- The results that are kept, in a larger arena and with one more.
 use Rattle.std.proofs.Common.{◌≡◌, ℕ, nat_eq, Bool, true, false, cond, List, get_or, refl, sym, ap, ◌∙◌, subst}
-use Rattle.std.specs.Prelude.{Option, Some, None, Result, Ok, Err, IfOk, IfErr}
+use Rattle.std.specs.Prelude.{Option, Some, None, Result, Ok, Err, IfOk, IfErr, IfSome}
 use Rattle.std.specs.Cmp.{unsigned_Decides}
 use Rattle.std.specs.FinMap as fin
+use Rattle.finite.specs.Finite as set
 use Rattle.std.specs.HashMap as hash
 use Rattle.std.specs.HashMap.{HashMap, Updates}
 use Rattle.std.specs.Map.{lookup}
@@ -15,7 +16,7 @@ use Rattle.arena.specs.declared.arena.Imported.{Imported}
 use Rattle.arena.specs.TaskKeys.{coded_task, same_task}
 use Rattle.number_hash.specs.Codes.{same_by_decides}
 use Rattle.arena_cells.specs.Items.{Item, variables, substitution, side, tree}
-use Rattle.arena_cells.specs.Standing.{Stands, Extends, HasFormula, item_at, map_at, IsMapAt, IsThere}
+use Rattle.arena_cells.specs.Standing.{Stands, Extends, HasFormula, HasVariables, item_at, map_at, IsMapAt, IsThere}
 use Rattle.arena.specs.Changes.{instance, image, binding, changed, operation_at, HasChange}
 use Rattle.proof_trees.specs.Substitution.{sub}
 use Rattle.arena.specs.Tasks.{vars_any, result_of, HasTask, IsResult, AreResults, AreVariablesOf, AreVariables, AreImported}
@@ -89,6 +90,10 @@ results_stay a b kept right grown q n there =
 
 pub imported_stay : {S : Type 0} (a b : List Item) (kept : HashMap ℕ Imported S) → AreImported a kept → Extends a b → AreImported b kept
 imported_stay a b kept right grown fingerprint f there = grown f.number _ (right fingerprint f there)
+
+pub none_stays : (a b : List Item) → Extends a b → (o : Option ℕ) → IfSome o (λ n. HasVariables a n set.empty) → IfSome o (λ n. HasVariables b n set.empty)
+none_stays a b grown None h = tt
+none_stays a b grown (Some n) h = grown n _ h
 
 -- one more set of variables
 vars_more : (a : List Item) (kept grown : List (Option ℕ)) (place number : ℕ) → AreVariables a kept

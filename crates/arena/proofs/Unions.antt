@@ -8,15 +8,10 @@ use Rattle.finite.specs.Finite as set
 use Rattle.finite.proofs.Finite.{has-empty, same_members, members_of_subset}
 use Rattle.free_variables.specs.Sets.{VarSet}
 use Rattle.free_variables.specs.Union.{union_of}
-use Rattle.free_variables.specs.Occurrence.{vars_formula}
 use Rattle.arena_cells.specs.Items.{Item, variables}
-use Rattle.arena_cells.specs.ItemFacts.{is_open_item}
-use Rattle.arena_cells.specs.Standing.{Extends, HasVariables, item_at, formula_at, variables_at, IsFormulaAt, AreVariablesAt}
-use Rattle.arena_cells.proofs.Facts.{formula_item}
+use Rattle.arena_cells.specs.Standing.{Extends, HasVariables, variables_at, AreVariablesAt}
 use Rattle.arena_cells.proofs.Staying.{are_variables}
-use Rattle.arena.specs.Tasks.{vars_item}
 use Rattle.arena.proofs.Members.{has-union}
-use Rattle.arena.proofs.Untouched.{shut_vars}
 
 or_same : (b : Bool) → (b || b) ≡ b
 or_same true = refl
@@ -60,13 +55,13 @@ module _ (a : List Item) where
   pub kept_second : (m n : ℕ) (b : Bool) → AreVariablesAt a n → b ≡ set.subset (variables_at a m) (variables_at a n) → b ≡ true → HasVariables a n (union_of (variables_at a m) (variables_at a n))
   kept_second m n b h is holds = h ∙ ap (λ s. Some (variables s)) (sym (within_union _ _ (sym is ∙ holds)))
 
-  -- a formula in which no variable is free adds none
-  pub kept_shut : (m n : ℕ) → AreVariablesAt a m → IsFormulaAt a n → is_open_item (item_at a n) ≡ false → HasVariables a m (union_of (variables_at a m) (vars_formula (formula_at a n) set.empty))
-  kept_shut m n h there closed =
-      let none : vars_formula (formula_at a n) set.empty ≡ set.empty = ap vars_item (sym (formula_item a n there)) ∙ shut_vars (item_at a n) closed in
-      h ∙ ap (λ s. Some (variables s)) (sym (union_none _ _ none))
-
 -- the union, where the second set was found later
 pub with_more : (a b c : List Item) (m k n : ℕ) (t : VarSet) → Extends a b → AreVariablesAt a m → HasVariables b k t → HasVariables c n (union_of (variables_at b m) (variables_at b k)) → HasVariables c n (union_of (variables_at a m) t)
 with_more a b c m k n t grown h more both =
     both ∙ λ i. Some (variables (union_of (are_variables b m _ (grown m _ h) i) (are_variables b k t more i)))
+
+-- the union, where the second set was found later and has nothing
+pub with_none : (a b : List Item) (m k : ℕ) (t : VarSet) → Extends a b → AreVariablesAt a m → HasVariables b k t → HasVariables b k set.empty → HasVariables b m (union_of (variables_at a m) t)
+with_none a b m k t grown h more nothing =
+    let none : t ≡ set.empty = sym (are_variables b k t more) ∙ are_variables b k set.empty nothing in
+    grown m _ h ∙ ap (λ s. Some (variables s)) (sym (union_none (variables_at a m) t none))

@@ -4,16 +4,16 @@ use Rattle.std.specs.Prelude.{Some}
 use Rattle.fol.specs.OrderLaws.{var_total}
 use Rattle.fol.proofs.OrderTies.{var_ties}
 use Rattle.finite.specs.Finite as set
-use Rattle.free_variables.specs.Occurrence.{var_list_term, var_list_terms, var_list}
+use Rattle.free_variables.specs.Occurrence.{var_list_term, var_list_terms, var_list, vars_formula}
 use Rattle.free_variables.specs.Union.{union_of}
 use Rattle.arena_cells.specs.declared.key.Parts.TheVariants.{Zero, One, Two}
 use Rattle.arena_cells.specs.declared.key.Key.{Key}
 use Rattle.arena_cells.specs.declared.key.Key.TheVariants.{Symbol, Free, Bound, App, Nil, Cons, Atom, Defined, Top, Bot, Not, And, Or, Imp, All as Forall, Ex, Variables, Map, Side, Sequent, Tree}
 use Rattle.arena_cells.specs.Items.{Item, variables}
-use Rattle.arena_cells.specs.Standing.{Stands, Extends, item_at, term_at, terms_at, formula_at, variables_at, IsThere}
+use Rattle.arena_cells.specs.Standing.{Stands, Extends, HasVariables, IsFormulaAt, item_at, term_at, terms_at, formula_at, variables_at, IsThere}
 use Rattle.arena_cells.specs.Meaning.{meaning, HasParts}
 use Rattle.arena.specs.Changes.{parts_of, IsNoVariable}
-use Rattle.arena.specs.Tasks.{vars_item}
+use Rattle.arena.specs.Tasks.{vars_item, vars_any}
 use Rattle.arena_cells.proofs.Staying.{item_is, are_variables}
 use Rattle.arena_cells.proofs.Facts.{variables_there}
 use Rattle.arena.proofs.Changing.{one_same, first_same, second_same}
@@ -75,5 +75,12 @@ vars_joined a b c d k p q x y n grown more h e there s r u =
     let first = are_variables c x _ (more x _ s) in
     let second = are_variables c y _ r ∙ ap vars_item (item_stays a b grown q there) in
     u ∙ (λ i. Some (variables (union_of (first i) (second i)))) ∙ ap (λ v. Some (variables v)) (sym (vars_two a k p q h e))
+
+-- the variables of a formula, as they are kept
+pub formula_known : (a : List Item) (f n : ℕ) → IsFormulaAt a f → HasVariables a n (vars_any (item_at a f)) → HasVariables a n (vars_formula (formula_at a f) set.empty)
+formula_known a f n there h = h ∙ ap (λ i. Some (variables (vars_any i))) (item_is a f _ there)
+
+pub formula_noted : (a b : List Item) (f n : ℕ) → Extends a b → IsFormulaAt a f → HasVariables b n (vars_formula (formula_at a f) set.empty) → HasVariables b n (vars_any (item_at b f))
+formula_noted a b f n grown there h = h ∙ ap (λ i. Some (variables (vars_any i))) (sym (item_is b f _ (grown f _ there)))
 
 pub ruleset places = (are_variables, variables_there)

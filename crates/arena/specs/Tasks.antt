@@ -1,5 +1,5 @@
 -- What the tasks ask for whose results an arena keeps, and what it keeps.
-use Rattle.std.specs.Prelude.{◌≡◌, ℕ, nat_eq, List, get_or, Option, Some, None}
+use Rattle.std.specs.Prelude.{◌≡◌, ℕ, nat_eq, List, get_or, Option, Some, None, IfSome}
 use Rattle.std.specs.FinMap as fin
 use Rattle.std.specs.HashMap as hash
 use Rattle.std.specs.HashMap.{HashMap}
@@ -75,4 +75,5 @@ AreImported a kept = (fingerprint : ℕ) (f : Imported) → hash.get nat_eq kept
 pub record IsArena (i : Inside) : Type 0 where
   pub results : AreResults i.cells i.results
   pub variables : AreVariables i.cells i.variables.items
+  pub no_variables : IfSome i.no_variables (λ n. HasVariables i.cells n set.empty)
   pub imported : AreImported i.cells i.imported

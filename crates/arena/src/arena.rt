@@ -1,5 +1,6 @@
 //! Arenas.
 ghost use Rattle.std.specs.Prelude.{◌≡◌, ◌↔◌, ◌<◌, ℕ, [], length, IsTrue, IfOk, IfSome, IsNone};
+ghost use Rattle.finite.specs.Finite as set;
 ghost use Rattle.arena_cells.specs.Standing.{Stands, Extends, IsDistinct, HasFormula, HasVariables, item_at, symbol_at, term_at, terms_at, formula_at, IsSymbolAt, IsTermAt, IsTermsAt, IsFormulaAt, IsThere};
 ghost use Rattle.arena_cells.specs.ItemFacts.{is_open_item, item_dangling};
 ghost use Rattle.arena_cells.specs.Meaning.{meaning, HasParts, IsKeyAt};
@@ -28,6 +29,8 @@ pub struct Arena {
     results: HashMap<Task, u32, ByNumber>,
     // By the number of what they are free in.
     variables: Vec<Option<u32>>,
+    // The number of the set of no variable, once that was asked for.
+    no_variables: Option<u32>,
     // By fingerprint. Of two formulas with one fingerprint the later one is kept.
     imported: HashMap<u64, Imported, ByNumber>,
 }
@@ -57,6 +60,7 @@ impl Arena {
             cells: Cells::new(alloc),
             results: HashMap::with_hasher(alloc, ByNumber),
             variables: Vec::new(alloc),
+            no_variables: None,
             imported: HashMap::with_hasher(alloc, ByNumber),
         }
     }
@@ -191,6 +195,21 @@ impl Arena {
         ensures { self.new ≡ self.old }
     {
         set_entry(&mut self.variables, number, variables)
+    }
+
+    // The number of the set of no variable, if that is kept.
+    pub(crate) fn known_no_variable(&self) -> Option<u32>
+        ensures { IfSome result (λ n. HasVariables self.now n set.empty) }
+    {
+        self.no_variables
+    }
+
+    // Keeps the number of the set of no variable.
+    pub(crate) fn note_no_variable(&mut self, number: u32)
+        requires { HasVariables self.old number set.empty }
+        ensures { self.new ≡ self.old }
+    {
+        self.no_variables = Some(number);
     }
 
     // The number of a formula, where it was imported and is still kept.

@@ -203,7 +203,7 @@ impl Arena {
         ensures others { IfOk result (λ pair. pair.1.items ≡ filter (is_open_at self.now) numbers.now) }
     {
         let mut closed = Vec::with_capacity(alloc, numbers.len())?;
-        let mut others = Vec::new(alloc);
+        let mut others = Vec::with_capacity(alloc, numbers.len())?;
         let mut start = 0;
         for (place, number) in numbers.iter().enumerate() {
             if self.has_free(*number) {
@@ -230,17 +230,17 @@ impl Arena {
     }
 
     // The variables of a set, and those that are free in a formula.
-    #[tactic(auto, using(arena_cells::proofs::Facts::items, crate::proofs::Unions::kept_shut, crate::proofs::Unions::with_more))]
+    #[tactic(auto, using(arena_cells::proofs::Facts::items, crate::proofs::Unions::with_none, crate::proofs::Unions::with_more))]
     fn with_free_vars(&mut self, alloc: Global, vars: u32, formula: u32) -> Result<u32, AllocError>
         requires vars { AreVariablesAt self.old vars }
         requires formula { IsFormulaAt self.old formula }
         ensures union { IfOk result (λ n. HasVariables self.new n (union_of (variables_at self.old vars) (vars_formula (formula_at self.old formula) set.empty))) }
         ensures grown { Extends self.old self.new }
     {
-        if !self.has_free(formula) {
+        let more = self.free_vars(alloc, formula)?;
+        if self.is_no_variable(more) {
             return Ok(vars);
         }
-        let more = self.free_vars(alloc, formula)?;
         self.union_variables(alloc, vars, more)
     }
 

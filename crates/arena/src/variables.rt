@@ -107,13 +107,28 @@ impl Arena {
         self.put(alloc, Key::Variables(numbers))
     }
 
-    /// The set of no variable.
+    /// The set of no variable. After the first time it takes one look.
     pub fn no_variable(&mut self, alloc: Global) -> Result<u32, AllocError>
         ensures set { IfOk result (λ n. HasVariables self.new n set.empty) }
         ensures grown { Extends self.old self.new }
     {
+        if let Some(number) = self.known_no_variable() {
+            return Ok(number);
+        }
         let numbers = Numbers::from_vec(alloc, Vec::new(alloc))?;
-        self.put(alloc, Key::Variables(numbers))
+        let number = self.put(alloc, Key::Variables(numbers))?;
+        self.note_no_variable(number);
+        Ok(number)
+    }
+
+    // Whether it is the set of no variable, where that is known.
+    pub(crate) fn is_no_variable(&self, number: u32) -> bool
+        ensures { IsTrue result → HasVariables self.now number set.empty }
+    {
+        match self.known_no_variable() {
+            Some(none) => none == number,
+            None => false,
+        }
     }
 
     // The set of one variable.
@@ -177,14 +192,19 @@ impl Arena {
         }
     }
 
-    /// The free variables of a formula. Each part is looked at once.
-    #[tactic(auto, using(arena_cells::proofs::Facts::items))]
+    /// The free variables of a formula. Each part is looked at once, and where they are kept it takes one look.
+    #[tactic(auto, using(arena_cells::proofs::Facts::items, crate::proofs::VariableLaws::formula_known, crate::proofs::VariableLaws::formula_noted))]
     pub fn free_vars(&mut self, alloc: Global, formula: u32) -> Result<u32, AllocError>
         requires { IsFormulaAt self.old formula }
         ensures set { IfOk result (λ n. HasVariables self.new n (vars_formula (formula_at self.old formula) set.empty)) }
         ensures grown { Extends self.old self.new }
     {
-        self.vars(alloc, formula)
+        if let Some(number) = self.known_vars(formula) {
+            return Ok(number);
+        }
+        let number = self.vars(alloc, formula)?;
+        self.note_vars(formula, number)?;
+        Ok(number)
     }
 
     /// Whether the variable is free in the formula.

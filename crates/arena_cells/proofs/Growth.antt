@@ -1,6 +1,7 @@
 -- Cells with one more, whose item stands nowhere yet.
-use Rattle.std.proofs.Common.{◌≡◌, ℕ, zero, suc, ◌+◌, ◌<◌, ◌≤◌, ◌^◌, ◌⊎◌, Bool, true, false, cond, List, [], ◌∷◌, ◌++◌, length, get_or, is_some, refl, sym, ap, ◌∙◌, subst, arith, inl, inr, length-append}
-use Rattle.std.specs.Prelude.{Some, slice_get, position, if◌then◌else◌}
+use Rattle.std.proofs.Common.{◌≡◌, ℕ, zero, suc, ◌+◌, ◌<◌, ◌≤◌, ◌^◌, ◌⊎◌, Bool, true, false, not, cond, List, [], ◌∷◌, ◌++◌, length, get_or, is_some, refl, sym, ap, ◌∙◌, subst, arith, inl, inr, length-append}
+use Rattle.std.specs.Prelude.{Option, Some, None, slice_get, position, if◌then◌else◌}
+use Rattle.std.specs.List.{position_or_len}
 use Rattle.std.specs.Map.{keys_of, lookup}
 use Rattle.std.proofs.lemmas.List.{length_push, length-map, get_or-map}
 use Rattle.std.proofs.lemmas.List.Quantifiers.{position-Some}
@@ -71,6 +72,52 @@ cell_found cs k n is =
     let within : n < length cs = omega (arith, found.0, length-map cs (λ (c : Cell). c.0)) in
     let here : get_or (keys_of cs) n k ≡ (get_or cs n none).0 = get_or-map (λ (c : Cell). c.0) cs n none k within in
     (get_or cs n none, slice_get-get_or cs n none within, sym here ∙ sym ((same_by_decides coded_key k _).0 found.1))
+
+one_and : (n : ℕ) → 1 + n ≡ suc n
+one_and n = omega arith
+
+none_some : {X : Type 0} {x : X} → None ≡ Some x → ⊥
+none_some e = cc
+
+-- the cell of a key that is looked up stands at its place
+abbrev IsKept : List Cell → Key → Stored → ℕ → Type 0
+IsKept cs k s n = (c : Cell) × (slice_get cs n ≡ Some c) × (c.0 ≡ k) × (c.1 ≡ s)
+
+cell_kept : (cs : List Cell) (k : Key) (s : Stored) → lookup (same_key k) cs ≡ Some s → IsKept cs k s (position_or_len (same_key k) (keys_of cs))
+cell_kept [] k s is = cc
+cell_kept (d ∷ cs) k s is = by (same_key k d.0) refl (λ found. cell_kept cs k s found)
+  where
+    by : (b : Bool) → same_key k d.0 ≡ b → (lookup (same_key k) cs ≡ Some s → IsKept cs k s (position_or_len (same_key k) (keys_of cs))) → IsKept (d ∷ cs) k s (position_or_len (same_key k) (keys_of (d ∷ cs)))
+    by true e rest =
+        subst (IsKept (d ∷ cs) k s) (sym (ap (λ b. cond (not b) (1 + position_or_len (same_key k) (keys_of cs)) 0) e))
+        (d, refl, sym ((same_by_decides coded_key k d.0).0 e), some_same d.1 s (sym (ap (λ b. cond b (Some d.1) (lookup (same_key k) cs)) e) ∙ is))
+    by false e rest =
+        subst (IsKept (d ∷ cs) k s) (sym (ap (λ b. cond (not b) (1 + position_or_len (same_key k) (keys_of cs)) 0) e ∙ one_and _))
+        (rest (sym (ap (λ b. cond b (Some d.1) (lookup (same_key k) cs)) e) ∙ is))
+
+-- the place of a key that no cell has
+place_new : (cs : List Cell) (k : Key) → lookup (same_key k) cs ≡ None → position_or_len (same_key k) (keys_of cs) ≡ length cs
+place_new [] k is = refl
+place_new (d ∷ cs) k is = by (same_key k d.0) refl (λ missing. place_new cs k missing)
+  where
+    by : (b : Bool) → same_key k d.0 ≡ b → (lookup (same_key k) cs ≡ None → position_or_len (same_key k) (keys_of cs) ≡ length cs) → position_or_len (same_key k) (keys_of (d ∷ cs)) ≡ length (d ∷ cs)
+    by true e rest = absurd (none_some (sym is ∙ ap (λ b. cond b (Some d.1) (lookup (same_key k) cs)) e))
+    by false e rest =
+        ap (λ b. cond (not b) (1 + position_or_len (same_key k) (keys_of cs)) 0) e ∙ one_and _
+        ∙ ap suc (rest (sym (ap (λ b. cond b (Some d.1) (lookup (same_key k) cs)) e) ∙ is))
+
+-- where the same is stored again, the cells stay
+insert_same : (cs : List Cell) (k : Key) (s : Stored) → lookup (same_key k) cs ≡ Some s → insert_entry same_key cs k s ≡ cs
+insert_same [] k s is = cc
+insert_same (d ∷ cs) k s is = by (same_key k d.0) refl (λ found. insert_same cs k s found)
+  where
+    by : (b : Bool) → same_key k d.0 ≡ b → (lookup (same_key k) cs ≡ Some s → insert_entry same_key cs k s ≡ cs) → insert_entry same_key (d ∷ cs) k s ≡ d ∷ cs
+    by true e rest =
+        ap (λ b. if b then (d.0, s) ∷ cs else d ∷ insert_entry same_key cs k s) e
+        ∙ ap (λ t. (d.0, t) ∷ cs) (sym (some_same d.1 s (sym (ap (λ b. cond b (Some d.1) (lookup (same_key k) cs)) e) ∙ is)))
+    by false e rest =
+        ap (λ b. if b then (d.0, s) ∷ cs else d ∷ insert_entry same_key cs k s) e
+        ∙ ap (λ ds. d ∷ ds) (rest (sym (ap (λ b. cond b (Some d.1) (lookup (same_key k) cs)) e) ∙ is))
 
 -- a key that a cell has is found
 key_found : (cs : List Cell) (k : Key) (n : ℕ) (c : Cell) → slice_get cs n ≡ Some c → c.0 ≡ k → is_some (lookup (same_key k) cs) ≡ true
@@ -179,3 +226,45 @@ absent_item i h k parts missing n stands =
     let same : cell.0.0 ≡ k = one_key (items_of i) h.distinct cell.0.0 k (h.cells n cell.0 cell.1).key.parts parts cell.2 in
     let there : is_some (lookup (same_key k) i.cells.entries) ≡ true = key_found i.cells.entries k n cell.0 cell.1 same in
     absurd (cc)
+
+-- what comes of a key of whose item nothing is stored: its item stands at the place, and nothing else has changed
+pub record IsPut (i j : Inside) (k : Key) (n : ℕ) : Type 0 where
+  pub indexed : IsIndexed j
+  pub stands : Stands (items_of j) n (meaning (items_of i) k)
+  pub grown : Extends (items_of i) (items_of j)
+
+put_old : (i j : Inside) (k : Key) (s : Stored) → IsIndexed i → ((a : List Item) → stored_of (meaning a k) ≡ Nothing) → lookup (same_key k) i.cells.entries ≡ Some s
+    → j.cells.entries ≡ insert_entry same_key i.cells.entries k Nothing → IsPut i j k (position_or_len (same_key k) (keys_of i.cells.entries))
+put_old i j k s h plain found inserted =
+    let cell = cell_kept i.cells.entries k s found in
+    let place : ℕ = position_or_len (same_key k) (keys_of i.cells.entries) in
+    let at : IsCellAt (items_of i) place cell.0 = h.cells place cell.0 cell.1 in
+    let nothing : s ≡ Nothing = sym cell.3 ∙ at.stored ∙ ap (λ l. stored_of (meaning (items_of i) l)) cell.2 ∙ plain (items_of i) in
+    let same : j.cells.entries ≡ i.cells.entries = inserted ∙ insert_same i.cells.entries k Nothing (found ∙ ap Some nothing) in
+    let items : items_of j ≡ items_of i = ap (items_from []) same in
+    let stands : Stands (items_of i) place (meaning (items_of i) k) = subst (λ (l : Key). Stands (items_of i) place (meaning (items_of i) l)) cell.2 at.key.stands in
+    record {
+      indexed = indexed_same i j h same;
+      stands = ap (λ (xs : List Item). slice_get xs place) items ∙ stands;
+      grown = λ n u there. ap (λ (xs : List Item). slice_get xs n) items ∙ there;
+    }
+
+put_new : (i j : Inside) (k : Key) → IsIndexed i → HasParts (items_of i) k → ((a : List Item) → stored_of (meaning a k) ≡ Nothing) → length i.cells.entries < 2 ^ 32
+    → lookup (same_key k) i.cells.entries ≡ None → j.cells.entries ≡ insert_entry same_key i.cells.entries k Nothing → IsPut i j k (position_or_len (same_key k) (keys_of i.cells.entries))
+put_new i j k h parts plain room missing inserted =
+    let absent = absent_item i h k parts (ap is_some missing) in
+    let cell : Cell = (k, Nothing) in
+    let more = one_more i j.cells.entries k Nothing h absent inserted in
+    record {
+      indexed = indexed_more i j cell h more parts (sym (plain (items_of i))) absent room;
+      stands = subst (λ (n : ℕ). Stands (items_of j) n (meaning (items_of i) k)) (sym (place_new i.cells.entries k missing)) (stands_more i j cell h more);
+      grown = grown_more i j cell h more;
+    }
+
+pub put_plain : (i j : Inside) (k : Key) → IsIndexed i → HasParts (items_of i) k → ((a : List Item) → stored_of (meaning a k) ≡ Nothing) → length i.cells.entries < 2 ^ 32
+    → j.cells.entries ≡ insert_entry same_key i.cells.entries k Nothing → IsPut i j k (position_or_len (same_key k) (keys_of i.cells.entries))
+put_plain i j k h parts plain room inserted = by (lookup (same_key k) i.cells.entries) refl
+  where
+    by : (o : Option Stored) → lookup (same_key k) i.cells.entries ≡ o → IsPut i j k (position_or_len (same_key k) (keys_of i.cells.entries))
+    by None missing = put_new i j k h parts plain room missing inserted
+    by (Some s) found = put_old i j k s h plain found inserted

@@ -8,3 +8,4 @@ pub mod OneKey
 pub mod Growth
 pub mod StoredFacts
 pub mod Crossing
+mod Pairs

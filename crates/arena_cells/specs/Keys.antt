@@ -1,7 +1,7 @@
 -- Keys of a table.
 --     same_key      whether two keys are equal
 --     key_fingerprint      a number in which unequal keys mostly differ
-use Rattle.std.specs.Prelude.{ℕ, Bool, fold}
+use Rattle.std.specs.Prelude.{ℕ, ◌+◌, ◌*◌, ◌^◌, Bool, List, [], ◌∷◌}
 use Rattle.std.specs.Coded.{Coded}
 use Rattle.fol.specs.Mixing.{mixed}
 use Rattle.fol.specs.Facts.{sym_fingerprint, var_fingerprint}
@@ -23,6 +23,16 @@ same_key = same_by coded_key
 -- the fingerprint of a kind and at most two numbers
 unfoldable pub short_fingerprint : ℕ → ℕ → ℕ → ℕ
 short_fingerprint kind m n = mixed (mixed (mixed 0 kind) m) n
+
+-- two numbers of 32 bits as one of 64
+unfoldable pub paired : ℕ → ℕ → ℕ
+paired high low = high * 2 ^ 32 + low
+
+-- a fingerprint with the numbers of a list in it, two at a time
+abbrev pub mixed_pairs : ℕ → List ℕ → ℕ
+mixed_pairs p [] = p
+mixed_pairs p (m ∷ []) = mixed p m
+mixed_pairs p (m ∷ n ∷ ns) = mixed_pairs (mixed p (paired m n)) ns
 
 unfoldable pub rule_fingerprint : RuleKey → ℕ
 rule_fingerprint (Ax f) = short_fingerprint 0 f 0
@@ -67,8 +77,8 @@ key_fingerprint (Or f g) = short_fingerprint 11 f g
 key_fingerprint (Imp f g) = short_fingerprint 12 f g
 key_fingerprint (All f) = short_fingerprint 13 f 0
 key_fingerprint (Ex f) = short_fingerprint 14 f 0
-key_fingerprint (Variables ns) = fold mixed (mixed 0 15) ns
-key_fingerprint (Map vs ts) = fold mixed (fold mixed (mixed 0 16) vs) ts
-key_fingerprint (Side ns) = fold mixed (mixed 0 17) ns
+key_fingerprint (Variables ns) = mixed_pairs (mixed 0 15) ns
+key_fingerprint (Map vs ts) = mixed_pairs (mixed_pairs (mixed 0 16) vs) ts
+key_fingerprint (Side ns) = mixed_pairs (mixed 0 17) ns
 key_fingerprint (Sequent l r) = short_fingerprint 18 l r
 key_fingerprint (Tree r e ps) = mixed (mixed (rule_fingerprint r) e) (parts_fingerprint ps)

@@ -1,5 +1,6 @@
 //! Cells: what stands at the numbers, in a table in which a key is found by its hash.
-ghost use Rattle.std.specs.Prelude.{◌≡◌, ◌<◌, ℕ, [], length, IfOk, IfSome, IsNone};
+ghost use Rattle.std.specs.Prelude.{◌≡◌, ◌<◌, ℕ, List, [], length, IsTrue, IfOk, IfSome, IsNone};
+ghost use Rattle.arena_cells.specs.Items.{Item};
 ghost use Rattle.arena_cells.specs.Standing.{Stands, Extends, IsDistinct, item_at, symbol_at, term_at, terms_at, formula_at, IsSymbolAt, IsTermAt, IsTermsAt, IsFormulaAt, IsThere};
 ghost use Rattle.arena_cells.specs.ItemFacts.{is_open_item, item_dangling};
 ghost use Rattle.arena_cells.specs.Meaning.{meaning, HasParts, IsKeyAt};
@@ -33,6 +34,16 @@ impl Drop for Stored {
             Stored::Nothing => {}
         }
     }
+}
+
+// Whether nothing is stored of the key's item.
+fn is_plain(key: &Key) -> bool
+    ensures { IsTrue result → (a : List Item) → stored_of (meaning a key.now) ≡ Stored.Nothing }
+{
+    matches!(
+        key,
+        Key::Variables(_) | Key::Map(..) | Key::Side(_) | Key::Sequent(..) | Key::Tree(..)
+    )
 }
 
 /// What stands at the numbers, each thing once.
@@ -211,10 +222,27 @@ impl Cells {
         ensures stands { IfOk result (λ n. Stands self.new n (meaning self.old key)) }
         ensures grown { Extends self.old self.new }
     {
+        if is_plain(&key) {
+            return self.put_plain(key);
+        }
         if let Some(number) = self.find(&key) {
             return Ok(number);
         }
         let stored = stored_for(self, alloc, &key)?;
         self.add(key, stored)
+    }
+
+    // The number of a key of whose item nothing is stored: one look finds it, or the place for it.
+    fn put_plain(&mut self, key: Key) -> Result<u32, AllocError>
+        requires parts { HasParts self.old key }
+        requires plain { (a : List Item) → stored_of (meaning a key) ≡ Stored.Nothing }
+        ensures stands { IfOk result (λ n. Stands self.new n (meaning self.old key)) }
+        ensures grown { Extends self.old self.new }
+    {
+        let Ok(_) = u32::try_from(self.cells.len()) else {
+            return Err(AllocError);
+        };
+        let (number, _) = self.cells.insert_full(key, Stored::Nothing)?;
+        Ok(number as u32)
     }
 }

@@ -1,10 +1,9 @@
 //! Keys of a table: keys are compared by their parts, and hashed by a few multiplications.
-ghost use Rattle.std.specs.Prelude.{◌≡◌, ◌↔◌, IsTrue, fold};
+ghost use Rattle.std.specs.Prelude.{◌≡◌, ◌↔◌, IsTrue};
 ghost use Rattle.std.specs.Hash as fed;
 ghost use Rattle.std.specs.Cmp.{partial_equiv_from_equiv};
-ghost use Rattle.fol.specs.Mixing.{mixed};
 ghost use Rattle.number_hash.specs.Codes.{same_by_equiv, fingerprints_agree};
-ghost use Rattle.arena_cells.specs.Keys.{coded_key, same_key, short_fingerprint, rule_fingerprint, parts_fingerprint, key_fingerprint};
+ghost use Rattle.arena_cells.specs.Keys.{coded_key, same_key, short_fingerprint, paired, mixed_pairs, rule_fingerprint, parts_fingerprint, key_fingerprint};
 
 use crate::key::{Key, Parts, RuleKey};
 use crate::numbers::Numbers;
@@ -94,15 +93,28 @@ fn short(kind: u64, first: u32, second: u32) -> u64
     mix(mix(mix(0, kind), u64::from(first)), u64::from(second))
 }
 
+// Two numbers as one.
+#[tactic(auto, unfolding(crate::specs::Keys::paired))]
+fn pair(high: u32, low: u32) -> u64
+    ensures { result ≡ paired high low }
+{
+    u64::from(high) * 0x1_0000_0000 + u64::from(low)
+}
+
 // The fingerprint with the numbers of a list in it.
 fn with_numbers(fingerprint: u64, numbers: &[u32]) -> u64
-    ensures { result ≡ fold mixed fingerprint numbers.now }
+    ensures { result ≡ mixed_pairs fingerprint numbers.now }
 {
     let mut mixed = fingerprint;
-    for number in numbers {
-        mixed = mix(mixed, u64::from(*number));
+    let mut rest = numbers;
+    while let [first, second, more @ ..] = rest {
+        mixed = mix(mixed, pair(*first, *second));
+        rest = more;
     }
-    mixed
+    match rest {
+        [last, ..] => mix(mixed, u64::from(*last)),
+        [] => mixed,
+    }
 }
 
 impl RuleKey {

@@ -1,7 +1,10 @@
 -- What is mixed so far, with the numbers that are left, gives the whole.
-use Rattle.std.proofs.Common.{◌≡◌, drop, fold}
-use Rattle.fol.specs.Mixing.{mixed}
+use Rattle.std.proofs.Common.{◌≡◌, length}
+use Rattle.arena_cells.specs.Keys.{mixed_pairs}
 use Rattle.arena_cells.proofs.same_keys.with_numbers.Given as goal
 
-abbrev pub invariant-loop-number : goal.invariant-loop-number
-invariant-loop-number l = fold mixed l.mixed (drop l.number-index l.numbers) ≡ fold mixed l.fingerprint l.numbers
+abbrev pub invariant-loop-rest : goal.invariant-loop-rest
+invariant-loop-rest l = mixed_pairs l.mixed l.rest ≡ mixed_pairs l.fingerprint l.numbers
+
+abbrev pub decreases-loop-rest : goal.decreases-loop-rest
+decreases-loop-rest l = length l.rest

@@ -10,6 +10,7 @@ pub invariant_of-self : goal.invariant_of-self
 invariant_of-self c = record {
   results = results_same c.self.inside.cells c.self.inside.results c.insert.new.self c.self.invariant.results c.in_err-insert.ensures.err;
   variables = c.self.invariant.variables;
+  no_variables = c.self.invariant.no_variables;
   imported = c.self.invariant.imported;
 }
 
@@ -20,5 +21,6 @@ invariant_of-self-2 c = record {
       (subst (λ (a : List Item). HasTask a c.args.task) (sym c.self.view_is) c.requires.task)
       (subst (λ (a : List Item). Stands a c.args.number (result_of a c.args.task)) (sym c.self.view_is) c.requires.result);
   variables = c.self.invariant.variables;
+  no_variables = c.self.invariant.no_variables;
   imported = c.self.invariant.imported;
 }

@@ -15,5 +15,6 @@ invariant_of-self c = record {
         there = subst (λ (a : List Item). IsThere a c.args.number) (sym c.self.view_is) c.requires.there;
         stands = subst (λ (a : List Item). HasVariables a c.args.variables (vars_any (item_at a c.args.number))) (sym c.self.view_is) c.requires.variables;
       });
+  no_variables = c.self.invariant.no_variables;
   imported = c.self.invariant.imported;
 }

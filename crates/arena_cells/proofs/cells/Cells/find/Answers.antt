@@ -1,5 +1,5 @@
 -- A key is found where its item stands.
-use Rattle.std.proofs.Common.{◌≡◌, ℕ, List, sym, ◌∙◌, subst}
+use Rattle.std.proofs.Common.{ℕ, List, sym, subst}
 use Rattle.arena_cells.specs.Items.{Item}
 use Rattle.arena_cells.specs.Standing.{Stands}
 use Rattle.arena_cells.specs.Meaning.{meaning, HasParts}
