@@ -1,6 +1,11 @@
--- A desk may be shared by threads, and its passes may cross to another, as a set for `search`.
+-- A desk may be shared by threads, its passes may cross to another, and so may what a branch of an elimination comes to, as a set for
+-- `search`.
 use denote.Param.Send.{IsSend, IsSync, sendable}
 use Rattle.std.proofs.Crossing as std
+use Rattle.arena.proofs.Crossing as arena
+use Rattle.arena_cuts.proofs.fault.ElimFault.TheSendSync as fault
+use Rattle.arena_cuts.proofs.steps.Steps.TheSendSync as steps
+use Rattle.arena_cuts.proofs.table.Reduced.TheSendSync as reduced
 use Rattle.cut_elim.specs.contracts.desk.Desk as desk
 use Rattle.cut_elim.specs.contracts.desk.DeskPass as pass
 use Rattle.cut_elim.specs.contracts.known.Elimination as elimination
@@ -20,4 +25,4 @@ desk_sync = search (sendable, std.crosses, bench.crosses, memo.the_field_sync, l
 pub pass_send : IsSend (pass.the_field).row
 pass_send = search (sendable, std.crosses, bench.crosses, pass_of.the_field_send, pairs.crosses, elimination_send) depth 20
 
-pub ruleset crosses = (desk_sync, pass_send, std.crosses)
+pub ruleset crosses = (desk_sync, pass_send, std.crosses, arena.crosses, fault.the_field_send, steps.the_send, reduced.the_field_send)

@@ -1,1 +1,2 @@
+pub mod BothPremises
 pub mod Crossing

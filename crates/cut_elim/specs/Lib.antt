@@ -1,3 +1,4 @@
 pub mod Eliminations
 pub mod Desks
 pub mod Lending
+pub mod Branches

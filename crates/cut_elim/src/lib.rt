@@ -4,7 +4,9 @@
 
 mod desk;
 mod eliminating;
+mod forking;
 mod known;
+mod weighing;
 
 pub use arena_cuts::ElimFault;
 pub use desk::{Desk, DeskPass};

@@ -1,0 +1,102 @@
+//! Copies of formulas.
+ghost use Rattle.std.specs.Prelude.{◌<◌, IfOk};
+ghost use Rattle.arena_cells.specs.Standing.{Extends, HasFormula, formula_at, IsFormulaAt};
+ghost use Rattle.arena_copy.specs.Copied.{AreCopied};
+
+use crate::copied::Copied;
+use crate::terms::{copy_symbol, copy_terms};
+use arena::{Arena, Key};
+use std::alloc::{AllocError, Global};
+
+/// The number of a formula's copy. Each distinct part of it is copied once; an atom whose symbol has a body comes in as a value.
+#[cycle(copy_formula)]
+pub(crate) fn copy_formula(
+    alloc: Global,
+    from: &Arena,
+    to: &mut Arena,
+    copied: &mut Copied,
+    formula: u32,
+) -> Result<u32, AllocError>
+    requires there { IsFormulaAt from.now formula }
+    requires copied { AreCopied from.now to.old copied.old }
+    ensures formula { IfOk result (λ n. HasFormula to.new n (formula_at from.now formula)) }
+    ensures grown { Extends to.old to.new }
+    ensures copied { IfOk result (λ _. AreCopied from.now to.new copied.new) }
+{
+    if let Some(copy) = copied.copy(from, to, formula) {
+        return Ok(copy);
+    }
+    let copy = copy_new_formula(alloc, from, to, copied, formula)?;
+    copied.note(from, to, formula, copy)?;
+    Ok(copy)
+}
+
+// The numbers of the copies of two formulas, whose numbers are below the number `above`.
+#[cycle(copy_formula)]
+fn copy_two(
+    alloc: Global,
+    from: &Arena,
+    to: &mut Arena,
+    copied: &mut Copied,
+    above: u32,
+    first: u32,
+    second: u32,
+) -> Result<(u32, u32), AllocError>
+    requires first { IsFormulaAt from.now first }
+    requires second { IsFormulaAt from.now second }
+    requires first_smaller { first < above }
+    requires second_smaller { second < above }
+    requires copied { AreCopied from.now to.old copied.old }
+    ensures first { IfOk result (λ two. HasFormula to.new two.0 (formula_at from.now first)) }
+    ensures second { IfOk result (λ two. HasFormula to.new two.1 (formula_at from.now second)) }
+    ensures grown { Extends to.old to.new }
+    ensures copied { IfOk result (λ _. AreCopied from.now to.new copied.new) }
+{
+    let _above = above;
+    let first = copy_formula(alloc, from, to, copied, first)?;
+    let second = copy_formula(alloc, from, to, copied, second)?;
+    Ok((first, second))
+}
+
+// The number of the copy of a formula that wasn't copied before.
+#[cycle(copy_formula)]
+fn copy_new_formula(
+    alloc: Global,
+    from: &Arena,
+    to: &mut Arena,
+    copied: &mut Copied,
+    formula: u32,
+) -> Result<u32, AllocError>
+    requires there { IsFormulaAt from.now formula }
+    requires copied { AreCopied from.now to.old copied.old }
+    ensures formula { IfOk result (λ n. HasFormula to.new n (formula_at from.now formula)) }
+    ensures grown { Extends to.old to.new }
+    ensures copied { IfOk result (λ _. AreCopied from.now to.new copied.new) }
+{
+    let key = match from.key(formula) {
+        Key::Atom(symbol, terms) => {
+            let symbol = copy_symbol(alloc, from, to, *symbol)?;
+            Key::Atom(symbol, copy_terms(alloc, from, to, copied, *terms)?)
+        }
+        Key::Defined(..) => return to.import_formula(alloc, from.formula(formula)),
+        Key::Top => Key::Top,
+        Key::Bot => Key::Bot,
+        Key::Not(body) => Key::Not(copy_formula(alloc, from, to, copied, *body)?),
+        Key::And(first, second) => {
+            let (first, second) = copy_two(alloc, from, to, copied, formula, *first, *second)?;
+            Key::And(first, second)
+        }
+        Key::Or(first, second) => {
+            let (first, second) = copy_two(alloc, from, to, copied, formula, *first, *second)?;
+            Key::Or(first, second)
+        }
+        Key::Imp(first, second) => {
+            let (first, second) = copy_two(alloc, from, to, copied, formula, *first, *second)?;
+            Key::Imp(first, second)
+        }
+        Key::All(body) => Key::All(copy_formula(alloc, from, to, copied, *body)?),
+        Key::Ex(body) => Key::Ex(copy_formula(alloc, from, to, copied, *body)?),
+        _ => unreachable!(),
+    };
+    to.put(alloc, key)
+}
