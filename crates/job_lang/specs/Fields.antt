@@ -32,6 +32,10 @@ elements (item d ds) = d ∷ elements ds
 abbrev pub text_at : Place → List ℕ → Data → Reading (List ℕ)
 text_at place key d = or_fault (Field (path place key None)) (option_and_then as_str (get key d))
 
+-- the items of a member that is a list
+abbrev pub items_at : List ℕ → Data → Option (List Data)
+items_at key d = option_map elements (option_and_then as_array (get key d))
+
 -- a member that is a list
 abbrev pub list_at : Place → List ℕ → Data → Reading (List Data)
 list_at place key d = or_fault (Field (path place key None)) (option_map elements (option_and_then as_array (get key d)))

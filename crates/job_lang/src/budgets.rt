@@ -1,12 +1,12 @@
 //! Reading budgets.
 ghost use Rattle.std.specs.Prelude.{◌≡◌, true};
-ghost use Rattle.serde_json.specs.View.{view};
+ghost use Rattle.line_values.specs.View.{view};
 ghost use Rattle.job_lang.specs.Fields.{Gives};
 ghost use Rattle.job_lang.specs.Budgets.{is_budget, budget_at as budget_member};
 
 use crate::numbers::limited_at;
 use crate::reading::ReadError;
-use serde_json::Value;
+use line_values::Value;
 use std::alloc::Global;
 use std::marker::Model;
 
@@ -39,7 +39,7 @@ impl Budget {
 }
 
 /// The member `budget`, a whole number from 1 to 1,000,000,000; 100,000 where the job has none.
-pub fn budget_at(alloc: Global, value: &Value) -> Result<Budget, ReadError>
+pub fn budget_at(alloc: Global, value: &Value<'_>) -> Result<Budget, ReadError>
     ensures { Gives (λ b. b) result (budget_member (view value.now)) }
 {
     let amount = limited_at(alloc, value, "budget", 1, 1_000_000_000, 100_000)?;

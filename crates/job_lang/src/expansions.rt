@@ -3,22 +3,26 @@ ghost use Rattle.std.specs.Prelude.{◌≡◌, true, map, IfOk};
 ghost use Rattle.std.specs.List.{list_all};
 ghost use Rattle.fol.specs.Formed.{IsFormedTerm, is_formed_term};
 ghost use Rattle.exp_tree.specs.FlatLists.{is_formed_node};
-ghost use Rattle.serde_json.specs.View.{view};
+ghost use Rattle.line_values.specs.View.{view};
 ghost use Rattle.job_lang.specs.Fields.{Gives};
 ghost use Rattle.job_lang.specs.Expansions.{members_of_instance as instance_members, instance_at as instance_element, instances_of as instances_data, instances_at as instances_member, weak_at as weak_members, strong_at as strong_members, node_of_kind as node_with, node_of as node_data, node_at as node_element, nodes_of as nodes_data, nodes_at as nodes_member, flat_at as flat_members};
 
 use crate::formulas::{formula_at, term_at, variable_at};
 use crate::numbers::{number_at, numbers_at, pair_at};
 use crate::places::Place;
-use crate::reading::{ReadError, field_fault, list_at, text_at};
+use crate::reading::{ReadError, field_fault, items_at, text_at};
 use exp_tree::{ExpNode, ExpNodes, FlatExp, FlatInsts};
 use fol::Term;
 use job_words::NodeKind;
-use serde_json::Value;
+use line_values::Value;
 use std::alloc::Global;
 use text_tables::FormulaTexts;
 
-fn members_of_instance(alloc: Global, value: &Value, place: Place) -> Result<(Term, u64), ReadError>
+fn members_of_instance(
+    alloc: Global,
+    value: &Value<'_>,
+    place: Place,
+) -> Result<(Term, u64), ReadError>
     ensures value { Gives (λ i. i) result (instance_members place (view value.now)) }
     ensures formed { IfOk result (λ i. IsFormedTerm i.0) }
 {
@@ -30,7 +34,7 @@ fn members_of_instance(alloc: Global, value: &Value, place: Place) -> Result<(Te
 #[tactic(auto, using(crate::proofs::Given::cause_given))]
 fn instance_at(
     alloc: Global,
-    value: &Value,
+    value: &Value<'_>,
     node: usize,
     index: usize,
 ) -> Result<(Term, u64), ReadError>
@@ -52,7 +56,7 @@ fn instance_at(
     }
 }
 
-fn instances_of(alloc: Global, values: &[Value], node: usize) -> Result<FlatInsts, ReadError>
+fn instances_of(alloc: Global, values: &[Value<'_>], node: usize) -> Result<FlatInsts, ReadError>
     ensures value { Gives (λ is. is) result (instances_data node (map view values.now)) }
     ensures formed { IfOk result (λ is. list_all (λ i. is_formed_term i.0) is ≡ true) }
 {
@@ -64,18 +68,21 @@ fn instances_of(alloc: Global, values: &[Value], node: usize) -> Result<FlatInst
     Ok(FlatInsts::from_vec(items))
 }
 
-fn instances_at(alloc: Global, value: &Value, node: usize) -> Result<FlatInsts, ReadError>
+#[tactic(auto, using(crate::proofs::Given::cause_given))]
+fn instances_at(alloc: Global, value: &Value<'_>, node: usize) -> Result<FlatInsts, ReadError>
     ensures value { Gives (λ is. is) result (instances_member node (view value.now)) }
     ensures formed { IfOk result (λ is. list_all (λ i. is_formed_term i.0) is ≡ true) }
 {
-    let values = list_at(alloc, value, Place::Node(node), "instances")?;
+    let Some(values) = items_at(value, "instances") else {
+        return Err(field_fault(alloc, Place::Node(node), "instances", None));
+    };
     instances_of(alloc, values, node)
 }
 
 fn weak_at(
     alloc: Global,
     texts: &mut FormulaTexts,
-    value: &Value,
+    value: &Value<'_>,
     index: usize,
 ) -> Result<ExpNode, ReadError>
     ensures value { Gives (λ n. n) result (weak_members index (view value.now)) }
@@ -89,7 +96,7 @@ fn weak_at(
 fn strong_at(
     alloc: Global,
     texts: &mut FormulaTexts,
-    value: &Value,
+    value: &Value<'_>,
     index: usize,
 ) -> Result<ExpNode, ReadError>
     ensures value { Gives (λ n. n) result (strong_members index (view value.now)) }
@@ -107,7 +114,7 @@ fn node_of_kind(
     alloc: Global,
     texts: &mut FormulaTexts,
     kind: NodeKind,
-    value: &Value,
+    value: &Value<'_>,
     index: usize,
 ) -> Result<ExpNode, ReadError>
     ensures value { Gives (λ n. n) result (node_with index kind (view value.now)) }
@@ -148,7 +155,7 @@ fn node_of_kind(
 fn node_of(
     alloc: Global,
     texts: &mut FormulaTexts,
-    value: &Value,
+    value: &Value<'_>,
     index: usize,
 ) -> Result<ExpNode, ReadError>
     ensures value { Gives (λ n. n) result (node_data index (view value.now)) }
@@ -165,7 +172,7 @@ fn node_of(
 fn node_at(
     alloc: Global,
     texts: &mut FormulaTexts,
-    value: &Value,
+    value: &Value<'_>,
     index: usize,
 ) -> Result<ExpNode, ReadError>
     ensures value { Gives (λ n. n) result (node_element index (view value.now)) }
@@ -180,7 +187,7 @@ fn node_at(
 fn nodes_of(
     alloc: Global,
     texts: &mut FormulaTexts,
-    values: &[Value],
+    values: &[Value<'_>],
 ) -> Result<ExpNodes, ReadError>
     ensures { Gives (λ ns. ns) result (nodes_data (map view values.now)) }
 {
@@ -192,15 +199,26 @@ fn nodes_of(
     Ok(ExpNodes::from_vec(items))
 }
 
-fn nodes_at(alloc: Global, texts: &mut FormulaTexts, value: &Value) -> Result<ExpNodes, ReadError>
+#[tactic(auto, using(crate::proofs::Given::cause_given))]
+fn nodes_at(
+    alloc: Global,
+    texts: &mut FormulaTexts,
+    value: &Value<'_>,
+) -> Result<ExpNodes, ReadError>
     ensures { Gives (λ ns. ns) result (nodes_member (view value.now)) }
 {
-    let values = list_at(alloc, value, Place::Top, "nodes")?;
+    let Some(values) = items_at(value, "nodes") else {
+        return Err(field_fault(alloc, Place::Top, "nodes", None));
+    };
     nodes_of(alloc, texts, values)
 }
 
 /// The members that are a flat list: its nodes, and the places of the roots on the left and on the right.
-pub fn flat_at(alloc: Global, texts: &mut FormulaTexts, value: &Value) -> Result<FlatExp, ReadError>
+pub fn flat_at(
+    alloc: Global,
+    texts: &mut FormulaTexts,
+    value: &Value<'_>,
+) -> Result<FlatExp, ReadError>
     ensures { Gives (λ flat. flat) result (flat_members (view value.now)) }
 {
     let nodes = nodes_at(alloc, texts, value)?;

@@ -2,15 +2,15 @@
 ghost use Rattle.std.specs.Prelude.{◌≡◌, map, IfOk, Some, None};
 ghost use Rattle.std.specs.List.{All};
 ghost use Rattle.fol.specs.Formed.{IsFormed, IsFormedTerm, IsFormedVar};
-ghost use Rattle.serde_json.specs.View.{view};
+ghost use Rattle.line_values.specs.View.{view};
 ghost use Rattle.job_lang.specs.Fields.{Gives, each};
 ghost use Rattle.job_lang.specs.Formulas.{formula_text, formula_at as formula_member, formula_of as formula_element, side_of, side_at as side_member, term_at as term_member, variable_at as variable_member};
 
 use crate::places::Place;
-use crate::reading::{ReadError, field_fault, list_at, text_at, text_fault};
+use crate::reading::{ReadError, field_fault, items_at, text_at, text_fault};
 use fol::{Formula, Term, Var};
+use line_values::Value;
 use lk_rules::Formulas;
-use serde_json::Value;
 use std::alloc::Global;
 use text_tables::FormulaTexts;
 use tptp_read::{TextError, read_term};
@@ -43,7 +43,7 @@ pub fn read_text(
 pub fn formula_at(
     alloc: Global,
     texts: &mut FormulaTexts,
-    value: &Value,
+    value: &Value<'_>,
     place: Place,
     key: &str,
 ) -> Result<Formula, ReadError>
@@ -56,7 +56,7 @@ pub fn formula_at(
 
 /// The member that is a term.
 #[tactic(auto, using(crate::proofs::Given::cause_given))]
-pub fn term_at(alloc: Global, value: &Value, place: Place, key: &str) -> Result<Term, ReadError>
+pub fn term_at(alloc: Global, value: &Value<'_>, place: Place, key: &str) -> Result<Term, ReadError>
     ensures value { Gives (λ t. t) result (term_member place key.now (view value.now)) }
     ensures formed { IfOk result IsFormedTerm }
 {
@@ -73,7 +73,12 @@ pub fn term_at(alloc: Global, value: &Value, place: Place, key: &str) -> Result<
 
 /// The member that is a variable: one token with nothing before or behind it.
 #[tactic(auto, using(crate::proofs::Given::cause_given))]
-pub fn variable_at(alloc: Global, value: &Value, place: Place, key: &str) -> Result<Var, ReadError>
+pub fn variable_at(
+    alloc: Global,
+    value: &Value<'_>,
+    place: Place,
+    key: &str,
+) -> Result<Var, ReadError>
     ensures value { Gives (λ v. v) result (variable_member place key.now (view value.now)) }
     ensures formed { IfOk result IsFormedVar }
 {
@@ -89,7 +94,7 @@ pub fn variable_at(alloc: Global, value: &Value, place: Place, key: &str) -> Res
 fn formula_of(
     alloc: Global,
     texts: &mut FormulaTexts,
-    value: &Value,
+    value: &Value<'_>,
     place: Place,
     key: &str,
     index: usize,
@@ -107,7 +112,7 @@ fn formula_of(
 fn each_formula(
     alloc: Global,
     texts: &mut FormulaTexts,
-    values: &[Value],
+    values: &[Value<'_>],
     place: Place,
     key: &str,
 ) -> Result<Vec<Formula>, ReadError>
@@ -125,7 +130,7 @@ fn each_formula(
 fn formulas_of(
     alloc: Global,
     texts: &mut FormulaTexts,
-    values: &[Value],
+    values: &[Value<'_>],
     place: Place,
     key: &str,
 ) -> Result<Formulas, ReadError>
@@ -136,15 +141,18 @@ fn formulas_of(
 }
 
 /// The member that is a side of a sequent: a list of formulas. One that is written twice is in it once.
+#[tactic(auto, using(crate::proofs::Given::cause_given))]
 pub fn side_at(
     alloc: Global,
     texts: &mut FormulaTexts,
-    value: &Value,
+    value: &Value<'_>,
     place: Place,
     key: &str,
 ) -> Result<Formulas, ReadError>
     ensures { Gives (λ s. s) result (side_member place key.now (view value.now)) }
 {
-    let values = list_at(alloc, value, place, key)?;
+    let Some(values) = items_at(value, key) else {
+        return Err(field_fault(alloc, place, key, None));
+    };
     formulas_of(alloc, texts, values, place, key)
 }

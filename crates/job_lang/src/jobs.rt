@@ -1,6 +1,6 @@
 //! Reading a job.
 ghost use Rattle.std.specs.Prelude.{◌≡◌, IfOk};
-ghost use Rattle.serde_json.specs.View.{view};
+ghost use Rattle.line_values.specs.View.{view};
 ghost use Rattle.job_lang.specs.Fields.{Gives};
 ghost use Rattle.job_lang.specs.Jobs.{error_with, value_of as line_value, name_of as name_data, subst_of as subst_data, cutelim_of as cutelim_data, resolution_of as resolution_data, tautology_of as tautology_data, expansion_of as expansion_data, expand_of as expand_data, fromexp_of as fromexp_data, interpolate_of as interpolate_data, herbrand_of as herbrand_data, cutintro_of as cutintro_data, budgeted_op_named as named_budgeted_op, op_named as named_op, op_of as op_data, reads_job, GivesJob};
 
@@ -16,11 +16,15 @@ use crate::steps::steps_at;
 use crate::widths::{Width, width_at};
 use exp_tree::FlatExp;
 use job_words::{JobCause, Name, Steps, Utf8Text, is_name};
+use json::Scratch;
+use line_values::{Value, ValueError, read_value};
 use lk_rules::Sequent;
-use serde_json::Value;
 use std::alloc::Global;
 use text_tables::FormulaTexts;
 use tptp_problem::Problem;
+
+/// The memory in which a line was read is kept for the next one, unless the line had more bytes than this.
+const LONGEST_KEPT: usize = 1 << 20;
 
 /// What a job asks for.
 #[derive(Drop)]
@@ -122,7 +126,7 @@ pub enum JobError {
 }
 
 #[tactic(auto, using(crate::proofs::Given::cause_given))]
-fn name_of(alloc: Global, value: &Value) -> Result<Name, ReadError>
+fn name_of(alloc: Global, value: &Value<'_>) -> Result<Name, ReadError>
     ensures { Gives (λ n. n) result (name_data (view value.now)) }
 {
     let text = text_at(alloc, value, Place::Top, "job")?;
@@ -132,7 +136,7 @@ fn name_of(alloc: Global, value: &Value) -> Result<Name, ReadError>
     Ok(Name::from_string(String::from_str(alloc, text)?))
 }
 
-fn subst_of(alloc: Global, value: &Value) -> Result<Op, ReadError>
+fn subst_of(alloc: Global, value: &Value<'_>) -> Result<Op, ReadError>
     ensures { Gives (λ op. op) result (subst_data (view value.now)) }
 {
     let proof = written_at(alloc, value, Place::Top, "proof")?;
@@ -140,7 +144,7 @@ fn subst_of(alloc: Global, value: &Value) -> Result<Op, ReadError>
     Ok(Op::Subst { proof, map })
 }
 
-fn cutelim_of(alloc: Global, value: &Value) -> Result<Op, ReadError>
+fn cutelim_of(alloc: Global, value: &Value<'_>) -> Result<Op, ReadError>
     ensures { Gives (λ op. op) result (cutelim_data (view value.now)) }
 {
     let proof = written_at(alloc, value, Place::Top, "proof")?;
@@ -148,7 +152,11 @@ fn cutelim_of(alloc: Global, value: &Value) -> Result<Op, ReadError>
     Ok(Op::Cutelim { proof, budget })
 }
 
-fn resolution_of(alloc: Global, texts: &mut FormulaTexts, value: &Value) -> Result<Op, ReadError>
+fn resolution_of(
+    alloc: Global,
+    texts: &mut FormulaTexts,
+    value: &Value<'_>,
+) -> Result<Op, ReadError>
     ensures { Gives (λ op. op) result (resolution_data (view value.now)) }
 {
     let problem = written_at(alloc, value, Place::Top, "problem")?;
@@ -156,7 +164,7 @@ fn resolution_of(alloc: Global, texts: &mut FormulaTexts, value: &Value) -> Resu
     Ok(Op::Resolution { problem, steps })
 }
 
-fn tautology_of(alloc: Global, texts: &mut FormulaTexts, value: &Value) -> Result<Op, ReadError>
+fn tautology_of(alloc: Global, texts: &mut FormulaTexts, value: &Value<'_>) -> Result<Op, ReadError>
     ensures { Gives (λ op. op) result (tautology_data (view value.now)) }
 {
     let sequent = sequent_at(alloc, texts, value, Place::Top)?;
@@ -164,7 +172,7 @@ fn tautology_of(alloc: Global, texts: &mut FormulaTexts, value: &Value) -> Resul
     Ok(Op::Tautology { sequent, budget })
 }
 
-fn expansion_of(alloc: Global, texts: &mut FormulaTexts, value: &Value) -> Result<Op, ReadError>
+fn expansion_of(alloc: Global, texts: &mut FormulaTexts, value: &Value<'_>) -> Result<Op, ReadError>
     ensures { Gives (λ op. op) result (expansion_data (view value.now)) }
 {
     let flat = flat_at(alloc, texts, value)?;
@@ -172,7 +180,7 @@ fn expansion_of(alloc: Global, texts: &mut FormulaTexts, value: &Value) -> Resul
     Ok(Op::Expansion { flat, budget })
 }
 
-fn expand_of(alloc: Global, value: &Value) -> Result<Op, ReadError>
+fn expand_of(alloc: Global, value: &Value<'_>) -> Result<Op, ReadError>
     ensures { Gives (λ op. op) result (expand_data (view value.now)) }
 {
     let proof = written_at(alloc, value, Place::Top, "proof")?;
@@ -180,7 +188,7 @@ fn expand_of(alloc: Global, value: &Value) -> Result<Op, ReadError>
     Ok(Op::Expand { proof, budget })
 }
 
-fn fromexp_of(alloc: Global, value: &Value) -> Result<Op, ReadError>
+fn fromexp_of(alloc: Global, value: &Value<'_>) -> Result<Op, ReadError>
     ensures { Gives (λ op. op) result (fromexp_data (view value.now)) }
 {
     let expansion = written_at(alloc, value, Place::Top, "expansion")?;
@@ -188,7 +196,11 @@ fn fromexp_of(alloc: Global, value: &Value) -> Result<Op, ReadError>
     Ok(Op::Fromexp { expansion, budget })
 }
 
-fn interpolate_of(alloc: Global, texts: &mut FormulaTexts, value: &Value) -> Result<Op, ReadError>
+fn interpolate_of(
+    alloc: Global,
+    texts: &mut FormulaTexts,
+    value: &Value<'_>,
+) -> Result<Op, ReadError>
     ensures { Gives (λ op. op) result (interpolate_data (view value.now)) }
 {
     let proof = written_at(alloc, value, Place::Top, "proof")?;
@@ -203,7 +215,7 @@ fn interpolate_of(alloc: Global, texts: &mut FormulaTexts, value: &Value) -> Res
     })
 }
 
-fn herbrand_of(alloc: Global, value: &Value) -> Result<Op, ReadError>
+fn herbrand_of(alloc: Global, value: &Value<'_>) -> Result<Op, ReadError>
     ensures { Gives (λ op. op) result (herbrand_data (view value.now)) }
 {
     let proof = written_at(alloc, value, Place::Top, "proof")?;
@@ -211,7 +223,7 @@ fn herbrand_of(alloc: Global, value: &Value) -> Result<Op, ReadError>
     Ok(Op::Herbrand { proof, budget })
 }
 
-fn cutintro_of(alloc: Global, value: &Value) -> Result<Op, ReadError>
+fn cutintro_of(alloc: Global, value: &Value<'_>) -> Result<Op, ReadError>
     ensures { Gives (λ op. op) result (cutintro_data (view value.now)) }
 {
     let proof = written_at(alloc, value, Place::Top, "proof")?;
@@ -229,7 +241,7 @@ fn budgeted_op_named(
     alloc: Global,
     texts: &mut FormulaTexts,
     name: &str,
-    value: &Value,
+    value: &Value<'_>,
 ) -> Result<Op, ReadError>
     ensures { Gives (λ op. op) result (named_budgeted_op name.now (view value.now)) }
 {
@@ -264,7 +276,7 @@ fn op_named(
     alloc: Global,
     texts: &mut FormulaTexts,
     name: &str,
-    value: &Value,
+    value: &Value<'_>,
 ) -> Result<Op, ReadError>
     ensures { Gives (λ op. op) result (named_op name.now (view value.now)) }
 {
@@ -298,25 +310,24 @@ fn op_named(
     budgeted_op_named(alloc, texts, name, value)
 }
 
-fn op_of(alloc: Global, texts: &mut FormulaTexts, value: &Value) -> Result<Op, ReadError>
+fn op_of(alloc: Global, texts: &mut FormulaTexts, value: &Value<'_>) -> Result<Op, ReadError>
     ensures { Gives (λ op. op) result (op_data (view value.now)) }
 {
     let name = text_at(alloc, value, Place::Top, "op")?;
     op_named(alloc, texts, name, value)
 }
 
-fn value_of(alloc: Global, line: &[u8]) -> Result<Value, ReadError>
+fn value_of<'a>(
+    alloc: Global,
+    line: &'a [u8],
+    scratch: &'a mut Scratch,
+) -> Result<Value<'a>, ReadError>
     ensures { Gives view result (line_value line.now) }
 {
-    match Value::from_slice(alloc, line) {
+    match read_value(alloc, line, scratch) {
         Ok(value) => Ok(value),
-        Err(error) => {
-            if error.is_memory() {
-                Err(ReadError::Memory)
-            } else {
-                Err(ReadError::Fault(JobCause::Json))
-            }
-        }
+        Err(ValueError::Memory) => Err(ReadError::Memory),
+        Err(ValueError::Invalid) => Err(ReadError::Fault(JobCause::Json)),
     }
 }
 
@@ -329,12 +340,16 @@ fn error_of(name: Option<Name>, error: ReadError) -> JobError
     }
 }
 
-/// The job that a line is, or its first fault: the line's JSON, then the fields `job` and `op`, then those of the operation, each list
-/// and object from its front. Formulas whose texts were read before are taken from the table.
-pub fn read_job(alloc: Global, texts: &mut FormulaTexts, line: &[u8]) -> Result<Job, JobError>
+// The job that a line is, read in the memory that is lent.
+fn read_with(
+    alloc: Global,
+    texts: &mut FormulaTexts,
+    line: &[u8],
+    scratch: &mut Scratch,
+) -> Result<Job, JobError>
     ensures { GivesJob result (reads_job line.now) }
 {
-    let value = match value_of(alloc, line) {
+    let value = match value_of(alloc, line, scratch) {
         Ok(value) => value,
         Err(error) => return Err(error_of(None, error)),
     };
@@ -346,4 +361,19 @@ pub fn read_job(alloc: Global, texts: &mut FormulaTexts, line: &[u8]) -> Result<
         Ok(op) => Ok(Job { name, op }),
         Err(error) => Err(error_of(Some(name), error)),
     }
+}
+
+/// The job that a line is, or its first fault: the line's JSON, then the fields `job` and `op`, then those of the operation, each list
+/// and object from its front. Formulas whose texts were read before are taken from the table.
+pub fn read_job(alloc: Global, texts: &mut FormulaTexts, line: &[u8]) -> Result<Job, JobError>
+    ensures { GivesJob result (reads_job line.now) }
+{
+    let Ok(mut scratch) = texts.take_scratch(alloc) else {
+        return Err(JobError::Memory);
+    };
+    let job = read_with(alloc, texts, line, &mut scratch);
+    if line.len() <= LONGEST_KEPT {
+        texts.keep_scratch(scratch);
+    }
+    job
 }

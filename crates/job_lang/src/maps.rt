@@ -4,7 +4,7 @@ ghost use Rattle.std.specs.FinMap as fin;
 ghost use Rattle.fol.specs.Formed.{IsFormedTerm};
 ghost use Rattle.substitution.specs.Image.{IsFormedMap};
 ghost use Rattle.tptp_tokens.specs.declared.tokens.TextFault.{TextFault as Fault};
-ghost use Rattle.serde_json.specs.View.{view, members_view};
+ghost use Rattle.line_values.specs.View.{view, members_view};
 ghost use Rattle.job_words.specs.declared.causes.JobCause.TheVariants.{Field as FieldCause, Formula as FormulaCause};
 ghost use Rattle.job_lang.specs.Fields.{IsCause, Gives};
 ghost use Rattle.job_lang.specs.Maps.{member_path as path_of_member, binding_of as binding_data, map_of as map_data, map_at as map_member};
@@ -13,7 +13,7 @@ use crate::places::{Place, field_path};
 use crate::reading::{ReadError, field_fault};
 use fol::{Term, Var};
 use job_words::{JobCause, Utf8Text};
-use serde_json::{Map, Value};
+use line_values::{Value, in_order};
 use std::alloc::{AllocError, Global};
 use std::marker::Model;
 use substitution::Subst;
@@ -107,7 +107,7 @@ fn member_text_fault(
 fn binding_of(
     alloc: Global,
     name: &str,
-    value: &Value,
+    value: &Value<'_>,
     place: Place,
 ) -> Result<(Var, Term), ReadError>
     ensures value { Gives (λ b. b) result (binding_data place name.now (view value.now)) }
@@ -131,12 +131,17 @@ fn binding_of(
     }
 }
 
-fn map_of(alloc: Global, members: &Map<String, Value>, place: Place) -> Result<FormedMap, ReadError>
-    ensures { Gives (λ m. m) result (map_data place (members_view members.now.entries) fin.empty) }
+fn map_of<'a>(
+    alloc: Global,
+    members: &Vec<(&'a str, Value<'a>)>,
+    place: Place,
+) -> Result<FormedMap, ReadError>
+    ensures { Gives (λ m. m) result (map_data place (members_view members.now.items) fin.empty) }
 {
+    let ordered = in_order(alloc, members)?;
     let mut map = Subst::new(alloc);
-    for (name, value) in members.iter() {
-        let (var, term) = binding_of(alloc, name.as_str(), value, place)?;
+    for (name, value) in ordered.iter() {
+        let (var, term) = binding_of(alloc, *name, *value, place)?;
         map.set(var, term)?;
     }
     Ok(FormedMap { map })
@@ -144,7 +149,7 @@ fn map_of(alloc: Global, members: &Map<String, Value>, place: Place) -> Result<F
 
 /// The member `map`: an object from variables to the texts of terms, read in rising order of the variables' names.
 #[tactic(auto, using(crate::proofs::Given::cause_given))]
-pub fn map_at(alloc: Global, value: &Value, place: Place) -> Result<FormedMap, ReadError>
+pub fn map_at(alloc: Global, value: &Value<'_>, place: Place) -> Result<FormedMap, ReadError>
     ensures { Gives (λ m. m) result (map_member place (view value.now)) }
 {
     match value.get("map") {

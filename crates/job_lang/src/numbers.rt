@@ -1,18 +1,23 @@
 //! Reading whole numbers, and lists of them.
 ghost use Rattle.std.specs.Prelude.{◌≡◌, true, map, IfOk};
-ghost use Rattle.serde_json.specs.View.{view};
+ghost use Rattle.line_values.specs.View.{view};
 ghost use Rattle.job_lang.specs.Fields.{Gives, each};
 ghost use Rattle.job_lang.specs.Numbers.{number_at as number_member, number_of as number_data, numbers_at as numbers_member, pair_of as pair_data, pair_at as pair_member, is_within, limited_at as limited_member};
 
 use crate::places::Place;
-use crate::reading::{ReadError, field_fault, list_at};
+use crate::reading::{ReadError, field_fault, items_at};
+use line_values::Value;
 use lk_rules::Numbers;
-use serde_json::Value;
 use std::alloc::Global;
 
 /// The member that is a whole number.
 #[tactic(auto, using(crate::proofs::Given::cause_given))]
-pub fn number_at(alloc: Global, value: &Value, place: Place, key: &str) -> Result<u64, ReadError>
+pub fn number_at(
+    alloc: Global,
+    value: &Value<'_>,
+    place: Place,
+    key: &str,
+) -> Result<u64, ReadError>
     ensures { Gives (λ n. n) result (number_member place key.now (view value.now)) }
 {
     match value.get(key) {
@@ -28,7 +33,7 @@ pub fn number_at(alloc: Global, value: &Value, place: Place, key: &str) -> Resul
 #[tactic(auto, using(crate::proofs::Given::cause_given))]
 fn number_of(
     alloc: Global,
-    value: &Value,
+    value: &Value<'_>,
     place: Place,
     key: &str,
     index: usize,
@@ -44,7 +49,7 @@ fn number_of(
 /// The whole numbers that the elements of a list are.
 fn numbers_of(
     alloc: Global,
-    values: &[Value],
+    values: &[Value<'_>],
     place: Place,
     key: &str,
 ) -> Result<Vec<u64>, ReadError>
@@ -59,15 +64,18 @@ fn numbers_of(
 }
 
 /// The member that is a list of whole numbers.
+#[tactic(auto, using(crate::proofs::Given::cause_given))]
 pub fn numbers_at(
     alloc: Global,
-    value: &Value,
+    value: &Value<'_>,
     place: Place,
     key: &str,
 ) -> Result<Numbers, ReadError>
     ensures { Gives (λ n. n) result (numbers_member place key.now (view value.now)) }
 {
-    let values = list_at(alloc, value, place, key)?;
+    let Some(values) = items_at(value, key) else {
+        return Err(field_fault(alloc, place, key, None));
+    };
     let numbers = numbers_of(alloc, values, place, key)?;
     Ok(Numbers::from_vec(numbers))
 }
@@ -75,7 +83,7 @@ pub fn numbers_at(
 #[tactic(auto, using(crate::proofs::Given::cause_given))]
 fn pair_of(
     alloc: Global,
-    values: &[Value],
+    values: &[Value<'_>],
     place: Place,
     key: &str,
 ) -> Result<(u64, u64), ReadError>
@@ -92,15 +100,18 @@ fn pair_of(
 }
 
 /// The two whole numbers that the member is.
+#[tactic(auto, using(crate::proofs::Given::cause_given))]
 pub fn pair_at(
     alloc: Global,
-    value: &Value,
+    value: &Value<'_>,
     place: Place,
     key: &str,
 ) -> Result<(u64, u64), ReadError>
     ensures { Gives (λ p. p) result (pair_member place key.now (view value.now)) }
 {
-    let values = list_at(alloc, value, place, key)?;
+    let Some(values) = items_at(value, key) else {
+        return Err(field_fault(alloc, place, key, None));
+    };
     pair_of(alloc, values, place, key)
 }
 
@@ -108,7 +119,7 @@ pub fn pair_at(
 #[tactic(auto, using(crate::proofs::Given::cause_given))]
 pub fn limited_at(
     alloc: Global,
-    value: &Value,
+    value: &Value<'_>,
     key: &str,
     least: u64,
     most: u64,

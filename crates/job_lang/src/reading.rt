@@ -1,14 +1,14 @@
 //! Reading the fields of a job's JSON value.
-ghost use Rattle.std.specs.Prelude.{◌≡◌, map, Some, None};
-ghost use Rattle.serde_json.specs.View.{view};
+ghost use Rattle.std.specs.Prelude.{◌≡◌, option_map, map, Some, None};
+ghost use Rattle.line_values.specs.View.{view};
 ghost use Rattle.tptp_tokens.specs.declared.tokens.TextFault.{TextFault as Fault};
 ghost use Rattle.job_words.specs.declared.causes.JobCause.TheVariants.{Field as FieldCause, Formula as FormulaCause};
 ghost use Rattle.job_lang.specs.Places.{path};
-ghost use Rattle.job_lang.specs.Fields.{IsCause, Gives, text_at as text_member, list_at as list_member};
+ghost use Rattle.job_lang.specs.Fields.{IsCause, Gives, text_at as text_member, items_at as items_member};
 
 use crate::places::{Place, field_path};
 use job_words::{JobCause, Utf8Text};
-use serde_json::Value;
+use line_values::Value;
 use std::alloc::{AllocError, AllocFailed, Global};
 use tptp_tokens::TextFault;
 
@@ -71,9 +71,9 @@ pub fn text_fault(
 
 /// The member that is a text.
 #[tactic(auto, using(crate::proofs::Given::cause_given))]
-pub fn text_at<'v>(
+pub fn text_at<'v, 'a>(
     alloc: Global,
-    value: &'v Value,
+    value: &'v Value<'a>,
     place: Place,
     key: &str,
 ) -> Result<&'v str, ReadError>
@@ -88,7 +88,7 @@ pub fn text_at<'v>(
 /// The member that is a text, as a text of its own.
 pub fn written_at(
     alloc: Global,
-    value: &Value,
+    value: &Value<'_>,
     place: Place,
     key: &str,
 ) -> Result<Utf8Text, ReadError>
@@ -98,21 +98,15 @@ pub fn written_at(
     Ok(Utf8Text::from_string(String::from_str(alloc, text)?))
 }
 
-/// The items of the member that is a list.
-#[tactic(auto, using(crate::proofs::Given::cause_given))]
-pub fn list_at<'v>(
-    alloc: Global,
-    value: &'v Value,
-    place: Place,
-    key: &str,
-) -> Result<&'v [Value], ReadError>
-    ensures { Gives (λ s. map view s.now) result (list_member place key.now (view value.now)) }
+/// The items of the member, where it is a list.
+pub fn items_at<'v, 'a>(value: &'v Value<'a>, key: &str) -> Option<&'v [Value<'a>]>
+    ensures { option_map (λ s. map view s.now) result ≡ items_member key.now (view value.now) }
 {
     match value.get(key) {
         Some(member) => match member.as_array() {
-            Some(items) => Ok(items.as_slice()),
-            None => Err(field_fault(alloc, place, key, None)),
+            Some(items) => Some(items.as_slice()),
+            None => None,
         },
-        None => Err(field_fault(alloc, place, key, None)),
+        None => None,
     }
 }

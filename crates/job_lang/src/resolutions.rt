@@ -1,7 +1,7 @@
 //! Reading the steps of a refutation.
 ghost use Rattle.std.specs.Prelude.{◌≡◌, map, IfOk, is_some};
 ghost use Rattle.serde_json.specs.Find.{get};
-ghost use Rattle.serde_json.specs.View.{view};
+ghost use Rattle.line_values.specs.View.{view};
 ghost use Rattle.refutations.specs.Refutations.{IsFormedStep, AreFormedSteps};
 ghost use Rattle.job_lang.specs.Fields.{Gives};
 ghost use Rattle.job_lang.specs.Resolutions.{input_step as input_data, subst_step as subst_data, resolve_step as resolve_data, res_step_of as step_data, res_step_at as step_element, res_steps_of as steps_data, res_steps_at as steps_member};
@@ -10,9 +10,9 @@ use crate::formulas::formula_at;
 use crate::maps::map_at;
 use crate::numbers::{number_at, pair_at};
 use crate::places::Place;
-use crate::reading::{ReadError, field_fault, list_at};
+use crate::reading::{ReadError, field_fault, items_at};
+use line_values::Value;
 use refutations::ResStep;
-use serde_json::Value;
 use std::alloc::Global;
 use std::marker::Model;
 use text_tables::FormulaTexts;
@@ -58,13 +58,13 @@ impl ResSteps {
     }
 }
 
-fn has_member(value: &Value, key: &str) -> bool
+fn has_member(value: &Value<'_>, key: &str) -> bool
     ensures { result ≡ is_some (get key.now (view value.now)) }
 {
     value.get(key).is_some()
 }
 
-fn input_step(alloc: Global, value: &Value, place: Place) -> Result<ResStep, ReadError>
+fn input_step(alloc: Global, value: &Value<'_>, place: Place) -> Result<ResStep, ReadError>
     ensures value { Gives (λ s. s) result (input_data place (view value.now)) }
     ensures formed { IfOk result IsFormedStep }
 {
@@ -72,7 +72,7 @@ fn input_step(alloc: Global, value: &Value, place: Place) -> Result<ResStep, Rea
     Ok(ResStep::Input(clause))
 }
 
-fn subst_step(alloc: Global, value: &Value, place: Place) -> Result<ResStep, ReadError>
+fn subst_step(alloc: Global, value: &Value<'_>, place: Place) -> Result<ResStep, ReadError>
     ensures value { Gives (λ s. s) result (subst_data place (view value.now)) }
     ensures formed { IfOk result IsFormedStep }
 {
@@ -84,7 +84,7 @@ fn subst_step(alloc: Global, value: &Value, place: Place) -> Result<ResStep, Rea
 fn resolve_step(
     alloc: Global,
     texts: &mut FormulaTexts,
-    value: &Value,
+    value: &Value<'_>,
     place: Place,
 ) -> Result<ResStep, ReadError>
     ensures value { Gives (λ s. s) result (resolve_data place (view value.now)) }
@@ -104,7 +104,7 @@ fn resolve_step(
 fn members_of_step(
     alloc: Global,
     texts: &mut FormulaTexts,
-    value: &Value,
+    value: &Value<'_>,
     index: usize,
 ) -> Result<ResStep, ReadError>
     ensures value { Gives (λ s. s) result (step_data index (view value.now)) }
@@ -127,7 +127,7 @@ fn members_of_step(
 fn step_at(
     alloc: Global,
     texts: &mut FormulaTexts,
-    value: &Value,
+    value: &Value<'_>,
     index: usize,
 ) -> Result<ResStep, ReadError>
     ensures value { Gives (λ s. s) result (step_element index (view value.now)) }
@@ -142,7 +142,7 @@ fn step_at(
 fn steps_of(
     alloc: Global,
     texts: &mut FormulaTexts,
-    values: &[Value],
+    values: &[Value<'_>],
 ) -> Result<ResSteps, ReadError>
     ensures { Gives (λ s. s) result (steps_data (map view values.now)) }
 {
@@ -155,13 +155,16 @@ fn steps_of(
 }
 
 /// The steps of the refutation.
+#[tactic(auto, using(crate::proofs::Given::cause_given))]
 pub fn res_steps_at(
     alloc: Global,
     texts: &mut FormulaTexts,
-    value: &Value,
+    value: &Value<'_>,
 ) -> Result<ResSteps, ReadError>
     ensures { Gives (λ s. s) result (steps_member (view value.now)) }
 {
-    let values = list_at(alloc, value, Place::Top, "steps")?;
+    let Some(values) = items_at(value, "steps") else {
+        return Err(field_fault(alloc, Place::Top, "steps", None));
+    };
     steps_of(alloc, texts, values)
 }

@@ -2,7 +2,7 @@
 ghost use Rattle.std.specs.Prelude.{◌≡◌, IfOk};
 ghost use Rattle.fol.specs.Formed.{IsFormedTerm, IsFormedVar};
 ghost use Rattle.lk_rules.specs.Rules.{IsFormedRule};
-ghost use Rattle.serde_json.specs.View.{view};
+ghost use Rattle.line_values.specs.View.{view};
 ghost use Rattle.job_lang.specs.Fields.{Gives};
 ghost use Rattle.job_lang.specs.Formulas.{term_at as term_member, variable_at as variable_member};
 ghost use Rattle.job_lang.specs.Rules.{rule_of_kind as rule_with, rule_of as rule_data};
@@ -11,8 +11,8 @@ use crate::formulas::{formula_at, term_at, variable_at};
 use crate::places::Place;
 use crate::reading::{ReadError, field_fault, text_at};
 use job_words::RuleKind;
+use line_values::Value;
 use lk_rules::Rule;
-use serde_json::Value;
 use std::alloc::Global;
 use text_tables::FormulaTexts;
 
@@ -21,7 +21,7 @@ fn rule_of_kind(
     alloc: Global,
     texts: &mut FormulaTexts,
     kind: RuleKind,
-    value: &Value,
+    value: &Value<'_>,
     place: Place,
 ) -> Result<Rule, ReadError>
     ensures value { Gives (λ r. r) result (rule_with place kind (view value.now)) }
@@ -60,7 +60,7 @@ fn rule_of_kind(
 pub fn rule_of(
     alloc: Global,
     texts: &mut FormulaTexts,
-    value: &Value,
+    value: &Value<'_>,
     place: Place,
 ) -> Result<Rule, ReadError>
     ensures value { Gives (λ r. r) result (rule_data place (view value.now)) }

@@ -1,14 +1,14 @@
 //! Reading sequents.
 ghost use Rattle.std.specs.Prelude.{◌≡◌};
-ghost use Rattle.serde_json.specs.View.{view};
+ghost use Rattle.line_values.specs.View.{view};
 ghost use Rattle.job_lang.specs.Fields.{Gives};
 ghost use Rattle.job_lang.specs.Sequents.{sequent_at as sequent_members, part_of as part_data, part_at as part_member};
 
 use crate::formulas::side_at;
 use crate::places::Place;
 use crate::reading::{ReadError, field_fault};
+use line_values::Value;
 use lk_rules::Sequent;
-use serde_json::Value;
 use std::alloc::Global;
 use text_tables::FormulaTexts;
 
@@ -16,7 +16,7 @@ use text_tables::FormulaTexts;
 pub fn sequent_at(
     alloc: Global,
     texts: &mut FormulaTexts,
-    value: &Value,
+    value: &Value<'_>,
     place: Place,
 ) -> Result<Sequent, ReadError>
     ensures { Gives (λ s. s) result (sequent_members place (view value.now)) }
@@ -30,7 +30,7 @@ pub fn sequent_at(
 fn part_of(
     alloc: Global,
     texts: &mut FormulaTexts,
-    value: &Value,
+    value: &Value<'_>,
     place: Place,
     key: &str,
 ) -> Result<Sequent, ReadError>
@@ -47,7 +47,7 @@ fn part_of(
 pub fn part_at(
     alloc: Global,
     texts: &mut FormulaTexts,
-    value: &Value,
+    value: &Value<'_>,
     place: Place,
     key: &str,
 ) -> Result<Sequent, ReadError>

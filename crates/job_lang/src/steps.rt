@@ -2,25 +2,25 @@
 ghost use Rattle.std.specs.Prelude.{◌≡◌, map, IfOk};
 ghost use Rattle.std.specs.List.{All};
 ghost use Rattle.lk_rules.specs.Rules.{IsFormedRule};
-ghost use Rattle.serde_json.specs.View.{view};
+ghost use Rattle.line_values.specs.View.{view};
 ghost use Rattle.job_lang.specs.Fields.{Gives};
 ghost use Rattle.job_lang.specs.Steps.{step_of as step_data, step_at as step_element, steps_of as steps_data, steps_at as steps_member};
 
 use crate::formulas::side_at;
 use crate::numbers::numbers_at;
 use crate::places::Place;
-use crate::reading::{ReadError, field_fault, list_at};
+use crate::reading::{ReadError, field_fault, items_at};
 use crate::rules::rule_of;
 use job_words::Steps;
+use line_values::Value;
 use lk_rules::{Sequent, Step};
-use serde_json::Value;
 use std::alloc::Global;
 use text_tables::FormulaTexts;
 
 fn members_of_step(
     alloc: Global,
     texts: &mut FormulaTexts,
-    value: &Value,
+    value: &Value<'_>,
     place: Place,
 ) -> Result<Step, ReadError>
     ensures value { Gives (λ s. s) result (step_data place (view value.now)) }
@@ -41,7 +41,7 @@ fn members_of_step(
 fn step_at(
     alloc: Global,
     texts: &mut FormulaTexts,
-    value: &Value,
+    value: &Value<'_>,
     index: usize,
 ) -> Result<Step, ReadError>
     ensures value { Gives (λ s. s) result (step_element index (view value.now)) }
@@ -53,7 +53,11 @@ fn step_at(
     }
 }
 
-fn steps_of(alloc: Global, texts: &mut FormulaTexts, values: &[Value]) -> Result<Steps, ReadError>
+fn steps_of(
+    alloc: Global,
+    texts: &mut FormulaTexts,
+    values: &[Value<'_>],
+) -> Result<Steps, ReadError>
     ensures { Gives (λ s. s) result (steps_data (map view values.now)) }
 {
     let mut items = Vec::new(alloc);
@@ -65,9 +69,16 @@ fn steps_of(alloc: Global, texts: &mut FormulaTexts, values: &[Value]) -> Result
 }
 
 /// The steps of the job.
-pub fn steps_at(alloc: Global, texts: &mut FormulaTexts, value: &Value) -> Result<Steps, ReadError>
+#[tactic(auto, using(crate::proofs::Given::cause_given))]
+pub fn steps_at(
+    alloc: Global,
+    texts: &mut FormulaTexts,
+    value: &Value<'_>,
+) -> Result<Steps, ReadError>
     ensures { Gives (λ s. s) result (steps_member (view value.now)) }
 {
-    let values = list_at(alloc, value, Place::Top, "steps")?;
+    let Some(values) = items_at(value, "steps") else {
+        return Err(field_fault(alloc, Place::Top, "steps", None));
+    };
     steps_of(alloc, texts, values)
 }

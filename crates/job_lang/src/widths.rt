@@ -1,12 +1,12 @@
 //! Reading widths.
 ghost use Rattle.std.specs.Prelude.{◌≡◌, true};
-ghost use Rattle.serde_json.specs.View.{view};
+ghost use Rattle.line_values.specs.View.{view};
 ghost use Rattle.job_lang.specs.Fields.{Gives};
 ghost use Rattle.job_lang.specs.Widths.{is_width, width_at as width_member};
 
 use crate::numbers::limited_at;
 use crate::reading::ReadError;
-use serde_json::Value;
+use line_values::Value;
 use std::alloc::Global;
 use std::marker::Model;
 
@@ -38,7 +38,7 @@ impl Width {
 }
 
 /// The member `width`, a whole number from 2 to 4; 4 where the job has none.
-pub fn width_at(alloc: Global, value: &Value) -> Result<Width, ReadError>
+pub fn width_at(alloc: Global, value: &Value<'_>) -> Result<Width, ReadError>
     ensures { Gives (λ w. w) result (width_member (view value.now)) }
 {
     let tuples = limited_at(alloc, value, "width", 2, 4, 4)?;

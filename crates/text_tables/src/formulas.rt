@@ -7,7 +7,8 @@ ghost use Rattle.tptp_read.specs.Given.{GivesText, IfFault};
 ghost use Rattle.tptp_read.specs.Texts.{IsFormulaText, IsFormulaFault, formula_reading};
 
 use fol::Formula;
-use std::alloc::Global;
+use json::Scratch;
+use std::alloc::{AllocError, Global};
 use std::collections::HashMap;
 use std::marker::Model;
 use tptp_read::laws::{formed_readings, readings};
@@ -20,11 +21,13 @@ const CAPACITY: usize = 16 << 20;
 const BYTES_BESIDE: usize = 64;
 
 /// The formulas that some texts are. A text that was read before is looked up, and its formula shares the nodes of the earlier one.
-/// The table keeps up to 16 MiB of texts; when it is full it is emptied. A text that can't be kept is read anew each time.
+/// The table keeps up to 16 MiB of texts; when it is full it is emptied. A text that can't be kept is read anew each time. Beside them stands
+/// the memory in which the JSON of lines is read, so that it is made once and not for each line.
 #[derive(Drop)]
 pub struct FormulaTexts {
     formulas: HashMap<String, Formula>,
     room: usize,
+    scratch: Option<Box<Scratch>>,
 }
 
 impl Model for FormulaTexts {
@@ -43,7 +46,21 @@ impl FormulaTexts {
         FormulaTexts {
             formulas: HashMap::new(alloc),
             room: CAPACITY,
+            scratch: None,
         }
+    }
+
+    /// The memory for reading the JSON of a line: what was kept last, or what is made anew.
+    pub fn take_scratch(&mut self, alloc: Global) -> Result<Box<Scratch>, AllocError> {
+        match self.scratch.take() {
+            Some(scratch) => Ok(scratch),
+            None => Ok(Box::new(alloc, Scratch::new(alloc))?),
+        }
+    }
+
+    /// Keeps the memory for the next line. It has grown to the longest line that was read in it.
+    pub fn keep_scratch(&mut self, scratch: Box<Scratch>) {
+        self.scratch = Some(scratch);
     }
 
     /// The formula that the text is, as `read_formula` reads it. Faults aren't kept. Where only the room in the table lacks memory, the

@@ -4,7 +4,7 @@ use Rattle.std.proofs.lemmas.List.Sums.{list_all-from_AllPass}
 use Rattle.std.proofs.lemmas.List.Elements.{All-push}
 use Rattle.fol.specs.Syntax.{Term}
 use Rattle.fol.specs.Formed.{is_formed_term, IsFormedTerm}
-use Rattle.serde_json.specs.View.{view}
+use Rattle.line_values.specs.View.{view}
 use Rattle.job_lang.specs.Expansions.{instance_at}
 use Rattle.job_lang.proofs.Each.{Reads, reads_more}
 use Rattle.job_lang.proofs.expansions.instances_of.Goals as goal

@@ -1,6 +1,6 @@
 use Rattle.std.specs.List.{All}
 use Rattle.fol.specs.Formed.{IsFormedTerm}
-use Rattle.serde_json.specs.View.{view}
+use Rattle.line_values.specs.View.{view}
 use Rattle.job_lang.specs.Expansions.{instance_at}
 use Rattle.job_lang.proofs.Each.{Reads}
 use Rattle.job_lang.proofs.expansions.instances_of.Given as goal

@@ -4,7 +4,7 @@ use Rattle.std.proofs.lemmas.List.Sums.{list_all-from_AllPass}
 use Rattle.std.proofs.lemmas.List.Elements.{All-push}
 use Rattle.exp_tree.specs.declared.flat.ExpNode.{ExpNode}
 use Rattle.exp_tree.specs.FlatLists.{is_formed_node}
-use Rattle.serde_json.specs.View.{view}
+use Rattle.line_values.specs.View.{view}
 use Rattle.job_lang.specs.Expansions.{node_at}
 use Rattle.job_lang.proofs.Each.{Reads, reads_more}
 use Rattle.job_lang.proofs.expansions.nodes_of.Goals as goal

@@ -1,7 +1,7 @@
 use Rattle.std.proofs.Common.{◌≡◌, true}
 use Rattle.std.specs.List.{All}
 use Rattle.exp_tree.specs.FlatLists.{is_formed_node}
-use Rattle.serde_json.specs.View.{view}
+use Rattle.line_values.specs.View.{view}
 use Rattle.job_lang.specs.Expansions.{node_at}
 use Rattle.job_lang.proofs.Each.{Reads}
 use Rattle.job_lang.proofs.expansions.nodes_of.Given as goal

@@ -3,7 +3,7 @@ use Rattle.std.specs.List.{All}
 use Rattle.std.proofs.lemmas.List.Elements.{All-push}
 use Rattle.fol.specs.Formed.{IsFormed}
 use Rattle.fol.specs.Syntax.{Formula}
-use Rattle.serde_json.specs.View.{view}
+use Rattle.line_values.specs.View.{view}
 use Rattle.job_lang.specs.Formulas.{formula_of}
 use Rattle.job_lang.proofs.Each.{Reads, reads_more}
 use Rattle.job_lang.proofs.formulas.each_formula.Goals as goal

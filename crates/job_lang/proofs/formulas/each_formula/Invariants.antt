@@ -1,6 +1,6 @@
 use Rattle.std.specs.List.{All}
 use Rattle.fol.specs.Formed.{IsFormed}
-use Rattle.serde_json.specs.View.{view}
+use Rattle.line_values.specs.View.{view}
 use Rattle.job_lang.specs.Formulas.{formula_of}
 use Rattle.job_lang.proofs.Each.{Reads}
 use Rattle.job_lang.proofs.formulas.each_formula.Given as goal

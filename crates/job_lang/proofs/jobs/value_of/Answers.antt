@@ -1,4 +1,4 @@
-use Rattle.std.proofs.Common.{◌≡◌, Bool, true, false, cond, ap, ◌∙◌}
+use Rattle.std.proofs.Common.{◌≡◌, Bool, cond, ap, ◌∙◌, arith}
 use Rattle.std.specs.Prelude.{None}
 use Rattle.std.proofs.lemmas.Str.{is_utf8-from_IsUtf8}
 use Rattle.serde_json.specs.Read.{read}
@@ -12,6 +12,5 @@ returns-in-Ok c =
     let line = c.args.line.now in
     ap (or_fault Json) (ap (λ (b : Bool). cond b (read line) None) (is_utf8-from_IsUtf8 line c.in-Ok.ensures.ok.0) ∙ c.in-Ok.ensures.ok.1)
 
-pub returns-else-is_memory : goal.returns-else-is_memory
-returns-else-is_memory c =
-    unread_value c.args.line.now (c.in-Err.ensures.err (λ memory. let wrong : false ≡ true = c.if-is_memory.ensures.1 memory in cc))
+pub returns-in-Err-Invalid : goal.returns-in-Err-Invalid
+returns-in-Err-Invalid c = unread_value c.args.line.now (c.read_value.ensures.invalid (grind arith))

@@ -1,4 +1,4 @@
-use Rattle.serde_json.specs.View.{view}
+use Rattle.line_values.specs.View.{view}
 use Rattle.job_lang.specs.Numbers.{number_of}
 use Rattle.job_lang.proofs.Each.{Reads}
 use Rattle.job_lang.proofs.numbers.numbers_of.Given as goal

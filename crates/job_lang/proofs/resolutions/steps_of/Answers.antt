@@ -2,7 +2,7 @@ use Rattle.std.proofs.Common.{◌+◌, List, sym, subst}
 use Rattle.std.proofs.lemmas.List.Elements.{All-push}
 use Rattle.refutations.specs.declared.step.ResStep.{ResStep}
 use Rattle.refutations.specs.Refutations.{IsFormedStep, AreFormedSteps}
-use Rattle.serde_json.specs.View.{view}
+use Rattle.line_values.specs.View.{view}
 use Rattle.job_lang.specs.Resolutions.{res_step_at}
 use Rattle.job_lang.proofs.Each.{Reads, reads_more}
 use Rattle.job_lang.proofs.resolutions.steps_of.Goals as goal

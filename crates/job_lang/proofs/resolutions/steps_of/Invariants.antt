@@ -1,4 +1,4 @@
-use Rattle.serde_json.specs.View.{view}
+use Rattle.line_values.specs.View.{view}
 use Rattle.refutations.specs.Refutations.{AreFormedSteps}
 use Rattle.job_lang.specs.Resolutions.{res_step_at}
 use Rattle.job_lang.proofs.Each.{Reads}

@@ -3,7 +3,7 @@ use Rattle.std.specs.List.{All}
 use Rattle.std.proofs.lemmas.List.Elements.{All-push}
 use Rattle.lk_rules.specs.Rules.{IsFormedRule}
 use Rattle.lk_rules.specs.declared.rule.Step.{Step}
-use Rattle.serde_json.specs.View.{view}
+use Rattle.line_values.specs.View.{view}
 use Rattle.job_lang.specs.Steps.{step_at}
 use Rattle.job_lang.proofs.Each.{Reads, reads_more}
 use Rattle.job_lang.proofs.steps.steps_of.Goals as goal

@@ -1,6 +1,6 @@
 use Rattle.std.specs.List.{All}
 use Rattle.lk_rules.specs.Rules.{IsFormedRule}
-use Rattle.serde_json.specs.View.{view}
+use Rattle.line_values.specs.View.{view}
 use Rattle.job_lang.specs.Steps.{step_at}
 use Rattle.job_lang.proofs.Each.{Reads}
 use Rattle.job_lang.proofs.steps.steps_of.Given as goal

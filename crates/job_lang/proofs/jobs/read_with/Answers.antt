@@ -1,6 +1,6 @@
-use Rattle.serde_json.specs.View.{view}
+use Rattle.line_values.specs.View.{view}
 use Rattle.job_lang.proofs.JobReadings.{no_value, no_name, no_op, a_job}
-use Rattle.job_lang.proofs.jobs.read_job.Goals as goal
+use Rattle.job_lang.proofs.jobs.read_with.Goals as goal
 
 pub returns-in-Err : goal.returns-in-Err
 returns-in-Err c = no_value c.args.line.now c.in-Err.error c.error_of.result c.error_of.ensures c.in-Err.ensures
