@@ -2,7 +2,6 @@ pub mod Picked
 pub mod SameNumbers
 pub mod Stable
 pub mod Reducing
-pub mod Contracted
 pub mod Within
 pub mod PairWork
 pub mod CutSteps

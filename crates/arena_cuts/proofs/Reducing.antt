@@ -1,6 +1,8 @@
 -- The cuts on the parts of a formula, by numbers.
 use Rattle.std.proofs.Common.{◌≡◌, ℕ, List, refl, sym, ap, ◌∙◌}
 use Rattle.lk_rules.specs.declared.sequent.Sequent.{Sequent}
+use Rattle.lk_rules.specs.declared.sequent.Side.{Side}
+use Rattle.lk_rules.specs.declared.sequent.Side.TheVariants.{Left, Right}
 use Rattle.proof_trees.specs.Trees.{Tree, node, rule_of, concl, below, AllValid}
 use Rattle.cut_laws.specs.Contraction.{by_parts}
 use Rattle.arena_cells.specs.declared.key.RuleKey.{RuleKey}
@@ -10,21 +12,17 @@ use Rattle.arena_cells.specs.declared.key.Parts.TheVariants as parts
 use Rattle.arena_cells.specs.declared.key.Key.{Key}
 use Rattle.arena_cells.specs.declared.key.Key.TheVariants.{Atom, Defined, Not, And, Or, Imp, All, Ex}
 use Rattle.arena_cells.specs.Items.{Item}
-use Rattle.arena_cells.specs.Standing.{formula_of, formula_at}
+use Rattle.arena_cells.specs.Standing.{formula_of, formula_at, IsFormulaAt}
 use Rattle.arena_cells.specs.Meaning.{meaning, rule_at, trees_at, HasRuleParts, HasPremises, HasParts, IsKeyAt}
 use Rattle.arena_cells.proofs.Staying.{item_is}
-use Rattle.arena_cuts.specs.Reductions.{universal_numbers, existential_numbers, unfolded_numbers, reduction_numbers, IsReductionAt, reduced_tree}
+use Rattle.arena_cuts.specs.Reductions.{instance_numbers, unfolded_numbers, reduction_numbers, IsReductionAt, reduced_tree}
 
 module _ (a : List Item) where
-  universal_there : (b : ℕ) (l : RuleKey) (ps : Parts) (r : RuleKey) (qs : Parts) → HasParts a (All b) → HasRuleParts a l → HasPremises a ps → AllValid (trees_at a ps) → HasRuleParts a r → HasPremises a qs
-      → IsReductionAt a (universal_numbers b l ps r qs)
-  universal_there b (AllR f y) (parts.One p) (AllL g t) (parts.One q) k hl hp vp hr hq = record { body = k; term = hr.1; variable = hl.1; premise = hp; valid = vp.0; other = hq }
-  universal_there b l ps r qs k hl hp vp hr hq = tt
-
-  existential_there : (b : ℕ) (l : RuleKey) (ps : Parts) (r : RuleKey) (qs : Parts) → HasParts a (Ex b) → HasRuleParts a l → HasPremises a ps → HasRuleParts a r → HasPremises a qs → AllValid (trees_at a qs)
-      → IsReductionAt a (existential_numbers b l ps r qs)
-  existential_there b (ExR f t) (parts.One q) (ExL g y) (parts.One p) k hl hp hr hq vq = record { body = k; term = hl.1; variable = hr.1; premise = hq; valid = vq.0; other = hp }
-  existential_there b l ps r qs k hl hp hr hq vq = tt
+  instance_there : (side : Side) (b : ℕ) (l : RuleKey) (ps : Parts) (r : RuleKey) (qs : Parts) → IsFormulaAt a b → HasRuleParts a l → HasPremises a ps → AllValid (trees_at a ps) → HasRuleParts a r → HasPremises a qs
+      → AllValid (trees_at a qs) → IsReductionAt a (instance_numbers side b l ps r qs)
+  instance_there Right b (AllR f y) (parts.One p) (AllL g t) (parts.One q) k hl hp vp hr hq vq = record { body = k; term = hr.1; variable = hl.1; premise = hp; valid = vp.0; other = hq }
+  instance_there Left b (ExR f t) (parts.One q) (ExL g y) (parts.One p) k hl hq vq hr hp vp = record { body = k; term = hl.1; variable = hr.1; premise = hp; valid = vp.0; other = hq }
+  instance_there side b l ps r qs k hl hp vp hr hq vq = tt
 
   unfolded_there : (l : RuleKey) (ps : Parts) (r : RuleKey) (qs : Parts) → HasPremises a ps → HasPremises a qs → IsReductionAt a (unfolded_numbers l ps r qs)
   unfolded_there (DefR f) (parts.One p) (DefL g) (parts.One q) hp hq = (hp, hq)
@@ -37,19 +35,19 @@ module _ (a : List Item) where
   reduction_there (And b c) l (parts.Two p q) r (parts.One o) k hl hp vp hr hq vq = (k.0, (record { formula = k.1; left = hp.1; right = hq }, hp.0))
   reduction_there (Or b c) l (parts.One p) r (parts.Two q o) k hl hp vp hr hq vq = (k.1, (record { formula = k.0; left = hp; right = hq.0 }, hq.1))
   reduction_there (Imp b c) l (parts.One p) r (parts.Two q o) k hl hp vp hr hq vq = (k.1, (record { formula = k.0; left = hq.0; right = hp }, hq.1))
-  reduction_there (All b) l ps r qs k hl hp vp hr hq vq = universal_there b l ps r qs k hl hp vp hr hq
-  reduction_there (Ex b) l ps r qs k hl hp vp hr hq vq = existential_there b l ps r qs k hl hp hr hq vq
+  reduction_there (All b) l ps r qs k hl hp vp hr hq vq = instance_there Right b l ps r qs k hl hp vp hr hq vq
+  reduction_there (Ex b) l ps r qs k hl hp vp hr hq vq = instance_there Left b l ps r qs k hl hp vp hr hq vq
   reduction_there (Defined s b ts) l ps r qs k hl hp vp hr hq vq = unfolded_there l ps r qs hp hq
   reduction_there x l ps r qs k hl hp vp hr hq vq = tt
 
   module _ (s d e : Sequent) where
     universal_is : (b : ℕ) (l : RuleKey) (ps : Parts) (r : RuleKey) (qs : Parts) → let f = formula_of (meaning a (All b)) in
-        reduced_tree a s f (node (rule_at a l) d (trees_at a ps)) (node (rule_at a r) e (trees_at a qs)) (universal_numbers b l ps r qs) ≡ by_parts s f (node (rule_at a l) d (trees_at a ps)) (node (rule_at a r) e (trees_at a qs))
+        reduced_tree a s f (node (rule_at a l) d (trees_at a ps)) (node (rule_at a r) e (trees_at a qs)) (instance_numbers Right b l ps r qs) ≡ by_parts s f (node (rule_at a l) d (trees_at a ps)) (node (rule_at a r) e (trees_at a qs))
     universal_is b (AllR f y) (parts.One p) (AllL g t) (parts.One q) = refl
     universal_is b l ps r qs = refl
 
     existential_is : (b : ℕ) (l : RuleKey) (ps : Parts) (r : RuleKey) (qs : Parts) → let f = formula_of (meaning a (Ex b)) in
-        reduced_tree a s f (node (rule_at a l) d (trees_at a ps)) (node (rule_at a r) e (trees_at a qs)) (existential_numbers b l ps r qs) ≡ by_parts s f (node (rule_at a l) d (trees_at a ps)) (node (rule_at a r) e (trees_at a qs))
+        reduced_tree a s f (node (rule_at a l) d (trees_at a ps)) (node (rule_at a r) e (trees_at a qs)) (instance_numbers Left b l ps r qs) ≡ by_parts s f (node (rule_at a l) d (trees_at a ps)) (node (rule_at a r) e (trees_at a qs))
     existential_is b (ExR f t) (parts.One q) (ExL g y) (parts.One p) = refl
     existential_is b l ps r qs = refl
 

@@ -144,21 +144,21 @@ pub(crate) fn case_at(arena: &Arena, cut: Cut) -> Case
     } = cut;
     // Mostly the cut formula stands in neither side of the conclusion.
     if proves(arena, left, end, Side::Right) {
-        Case::WeakenLeft
+        Case::Weaken(Side::Right)
     } else if proves(arena, right, end, Side::Left) {
-        Case::WeakenRight
+        Case::Weaken(Side::Left)
     } else if is_other_leaf(arena, left, Side::Right, formula) {
-        Case::LeafLeft
+        Case::Leaf(Side::Right)
     } else if is_other_leaf(arena, right, Side::Left, formula) {
-        Case::LeafRight
+        Case::Leaf(Side::Left)
     } else if !introduces(arena, left, Side::Right, formula) {
-        Case::PassLeft
+        Case::Pass(Side::Right)
     } else if !introduces(arena, right, Side::Left, formula) {
-        Case::PassRight
+        Case::Pass(Side::Left)
     } else if has_above(arena, left, Side::Right, formula) {
-        Case::SplitLeft
+        Case::Split(Side::Right)
     } else if has_above(arena, right, Side::Left, formula) {
-        Case::SplitRight
+        Case::Split(Side::Left)
     } else {
         Case::Reduce
     }

@@ -2,19 +2,20 @@
 ghost use Rattle.std.specs.Prelude.{◌≡◌, ◌+◌, IfOk};
 ghost use Rattle.lk_rules.specs.declared.rule.Rule.TheVariants.{Weak};
 ghost use Rattle.proof_trees.specs.Trees.{node, none, more, rule_of, IsValid};
+ghost use Rattle.cut_laws.specs.declared.case.Case.TheVariants.{Split};
 ghost use Rattle.cut_laws.specs.Contraction.{by_case as case_tree, con};
 ghost use Rattle.arena_cells.specs.Standing.{Extends, HasTree, sequent_at, formula_at, tree_at, IsSequentAt, IsFormulaAt, IsTreeAt};
-ghost use Rattle.arena_cuts.specs.CutNumbers.{IsCutAt, IsAscentAt};
-ghost use Rattle.arena_cuts.specs.Passes.{split_at};
+ghost use Rattle.arena_cuts.specs.CutNumbers.{IsCutAt};
 
-use crate::above::{above, cut_on};
+use crate::above::above;
 use crate::cases::case_at;
-use crate::cut::{Ascent, Cut, Premise};
+use crate::cut::{Cut, premise_on, with_premise};
 use crate::parts::cut_parts;
 use crate::steps::Steps;
 use arena::{Arena, Parts, RuleKey};
 use arena_proofs::{inference, rule};
 use cut_laws::Case;
+use lk_rules::Side;
 use std::alloc::{AllocError, Global};
 use std::sync::ledger::Ledger;
 
@@ -39,24 +40,17 @@ fn leaf(arena: &mut Arena, alloc: Global, end: u32, proof: u32) -> Result<u32, A
     inference(arena, alloc, rule, end, Parts::Zero)
 }
 
-// The cut once more, with its premise free of the cut formula above its last rule.
-fn split(arena: &mut Arena, alloc: Global, cut: Ascent) -> Result<u32, AllocError>
-    requires cut { IsAscentAt arena.old cut }
-    requires valid { IsValid (tree_at arena.old cut.premise) }
-    ensures tree { IfOk result (λ n. HasTree arena.new n (split_at arena.old cut)) }
+// The cut once more, with its premise on that side free of the cut formula above its last rule.
+fn split(arena: &mut Arena, alloc: Global, cut: Cut, side: Side) -> Result<u32, AllocError>
+    requires cut { IsCutAt arena.old cut }
+    requires left_valid { IsValid (tree_at arena.old cut.left) }
+    requires right_valid { IsValid (tree_at arena.old cut.right) }
+    ensures tree { IfOk result (λ n. HasTree arena.new n (case_tree (Split side) (sequent_at arena.old cut.end) (formula_at arena.old cut.formula) (tree_at arena.old cut.left) (tree_at arena.old cut.right))) }
     ensures grown { Extends arena.old arena.new }
 {
-    let upper_end = arena.sequent_with(alloc, cut.end, cut.side.formula_side(), cut.formula)?;
-    let upper = above(arena, alloc, upper_end, cut)?;
-    cut_on(
-        arena,
-        alloc,
-        cut.side,
-        cut.end,
-        cut.formula,
-        upper,
-        cut.other,
-    )
+    let upper_end = arena.sequent_with(alloc, cut.end, side, cut.formula)?;
+    let upper = above(arena, alloc, upper_end, cut, side)?;
+    with_premise(arena, alloc, cut, side, cut.end, upper)
 }
 
 // What takes the place of the cut in each case.
@@ -68,14 +62,10 @@ fn by_case(arena: &mut Arena, alloc: Global, cut: Cut, case: Case) -> Result<u32
     ensures grown { Extends arena.old arena.new }
 {
     match case {
-        Case::WeakenLeft => weakening(arena, alloc, cut.end, cut.left),
-        Case::WeakenRight => weakening(arena, alloc, cut.end, cut.right),
-        Case::LeafLeft => leaf(arena, alloc, cut.end, cut.left),
-        Case::LeafRight => leaf(arena, alloc, cut.end, cut.right),
-        Case::PassLeft => above(arena, alloc, cut.end, cut.ascent(Premise::Left)),
-        Case::PassRight => above(arena, alloc, cut.end, cut.ascent(Premise::Right)),
-        Case::SplitLeft => split(arena, alloc, cut.ascent(Premise::Left)),
-        Case::SplitRight => split(arena, alloc, cut.ascent(Premise::Right)),
+        Case::Weaken(side) => weakening(arena, alloc, cut.end, premise_on(arena, cut, side)),
+        Case::Leaf(side) => leaf(arena, alloc, cut.end, premise_on(arena, cut, side)),
+        Case::Pass(side) => above(arena, alloc, cut.end, cut, side),
+        Case::Split(side) => split(arena, alloc, cut, side),
         Case::Reduce => cut_parts(arena, alloc, cut),
     }
 }

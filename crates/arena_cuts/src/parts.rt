@@ -5,13 +5,13 @@ ghost use Rattle.proof_trees.specs.Trees.{IsValid};
 ghost use Rattle.cut_laws.specs.Contraction.{cut_unfolded, by_parts};
 ghost use Rattle.arena_cells.specs.Standing.{Extends, HasTree, sequent_at, formula_at, tree_at, IsSequentAt, IsFormulaAt, IsTreeAt};
 ghost use Rattle.arena_cuts.specs.CutNumbers.{IsCutAt};
-ghost use Rattle.arena_cuts.specs.Reductions.{IsUpperAt, IsInstantiationAt, IsReductionAt, universal_numbers, existential_numbers, unfolded_numbers, reduction_numbers, two_cuts as two_cut_trees, instance_cut as instance_tree, reduced_tree};
+ghost use Rattle.arena_cuts.specs.Reductions.{IsUpperAt, IsInstantiationAt, IsReductionAt, instance_numbers, unfolded_numbers, reduction_numbers, two_cuts as two_cut_trees, instance_cut as instance_tree, reduced_tree};
 
-use crate::above::cut_on;
-use crate::cut::{Cut, Premise, put_cut};
+use crate::cut::{Cut, cut_on, put_cut};
 use arena::{Arena, Key, Parts, RuleKey};
 use arena_premises::replace;
 use arena_proofs::{premises, rule};
+use lk_rules::Side;
 use std::alloc::{AllocError, Global};
 
 /// A cut that stands above another one, by its formula and its premises.
@@ -39,42 +39,27 @@ pub(crate) enum Reduction {
     Unchanged,
     /// A cut on the formula, over a left and a right premise.
     One(u32, u32, u32),
-    /// A cut on the formula. Its premise on that side is another cut, and the last number is the other premise.
-    Two(Premise, u32, Upper, u32),
-    /// A cut on an instance. The term takes the place of the eigenvariable in the premise on that side.
-    Instance(Premise, Instantiation),
+    /// A cut on the formula. Its premise with the formula on that side is another cut, and the last number is the other premise.
+    Two(Side, u32, Upper, u32),
+    /// A cut on an instance. The term takes the place of the eigenvariable in the premise with the formula on that side.
+    Instance(Side, Instantiation),
     /// A cut on what the formula unfolds to, over a left and a right premise.
     Unfolded(u32, u32),
 }
 
-// On a universal formula: the term on the right takes the place of the eigenvariable on the left.
-fn universal(body: u32, left: (RuleKey, Parts), right: (RuleKey, Parts)) -> Reduction
-    ensures { result ≡ universal_numbers body left.0 left.1 right.0 right.1 }
+// On a quantified formula: the term of one rule takes the place of the eigenvariable of the other, that of the premise with the formula on
+// this side.
+fn instance(side: Side, body: u32, left: (RuleKey, Parts), right: (RuleKey, Parts)) -> Reduction
+    ensures { result ≡ instance_numbers side body left.0 left.1 right.0 right.1 }
 {
-    match (left, right) {
+    match (side, left, right) {
         (
+            Side::Right,
             (RuleKey::AllR(_, variable), Parts::One(premise)),
             (RuleKey::AllL(_, term), Parts::One(other)),
-        ) => {
-            let parts = Instantiation {
-                body,
-                term,
-                variable,
-                premise,
-                other,
-            };
-            Reduction::Instance(Premise::Left, parts)
-        }
-        _ => Reduction::Unchanged,
-    }
-}
-
-// On an existential formula: the term on the left takes the place of the eigenvariable on the right.
-fn existential(body: u32, left: (RuleKey, Parts), right: (RuleKey, Parts)) -> Reduction
-    ensures { result ≡ existential_numbers body left.0 left.1 right.0 right.1 }
-{
-    match (left, right) {
-        (
+        )
+        | (
+            Side::Left,
             (RuleKey::ExR(_, term), Parts::One(other)),
             (RuleKey::ExL(_, variable), Parts::One(premise)),
         ) => {
@@ -85,7 +70,7 @@ fn existential(body: u32, left: (RuleKey, Parts), right: (RuleKey, Parts)) -> Re
                 premise,
                 other,
             };
-            Reduction::Instance(Premise::Right, parts)
+            Reduction::Instance(side, parts)
         }
         _ => Reduction::Unchanged,
     }
@@ -117,7 +102,7 @@ fn reduce(formula: &Key, left: (RuleKey, Parts), right: (RuleKey, Parts)) -> Red
                 left: second,
                 right: third,
             };
-            Reduction::Two(Premise::Right, *a, upper, first)
+            Reduction::Two(Side::Left, *a, upper, first)
         }
         (Key::Or(a, b), Parts::One(first), Parts::Two(second, third)) => {
             let upper = Upper {
@@ -125,7 +110,7 @@ fn reduce(formula: &Key, left: (RuleKey, Parts), right: (RuleKey, Parts)) -> Red
                 left: first,
                 right: second,
             };
-            Reduction::Two(Premise::Left, *b, upper, third)
+            Reduction::Two(Side::Right, *b, upper, third)
         }
         (Key::Imp(a, b), Parts::One(first), Parts::Two(second, third)) => {
             let upper = Upper {
@@ -133,22 +118,22 @@ fn reduce(formula: &Key, left: (RuleKey, Parts), right: (RuleKey, Parts)) -> Red
                 left: second,
                 right: first,
             };
-            Reduction::Two(Premise::Left, *b, upper, third)
+            Reduction::Two(Side::Right, *b, upper, third)
         }
-        (Key::All(body), _, _) => universal(*body, left, right),
-        (Key::Ex(body), _, _) => existential(*body, left, right),
+        (Key::All(body), _, _) => instance(Side::Right, *body, left, right),
+        (Key::Ex(body), _, _) => instance(Side::Left, *body, left, right),
         (Key::Defined(..), _, _) => unfolded(left, right),
         _ => Reduction::Unchanged,
     }
 }
 
-// The cut on the formula whose premise on that side is another cut, with the formula in its conclusion.
+// The cut on the formula whose premise with the formula on that side is another cut.
 #[tactic(auto, using(arena_cells::proofs::Facts::sequents))]
 fn two_cuts(
     arena: &mut Arena,
     alloc: Global,
     end: u32,
-    side: Premise,
+    side: Side,
     formula: u32,
     upper: Upper,
     other: u32,
@@ -160,7 +145,7 @@ fn two_cuts(
     ensures tree { IfOk result (λ n. HasTree arena.new n (two_cut_trees arena.old (sequent_at arena.old end) side (formula_at arena.old formula) upper (tree_at arena.old other))) }
     ensures grown { Extends arena.old arena.new }
 {
-    let upper_end = arena.sequent_with(alloc, end, side.formula_side(), formula)?;
+    let upper_end = arena.sequent_with(alloc, end, side, formula)?;
     let cut = Cut {
         end: upper_end,
         formula: upper.formula,
@@ -177,7 +162,7 @@ fn instance_cut(
     arena: &mut Arena,
     alloc: Global,
     end: u32,
-    side: Premise,
+    side: Side,
     parts: Instantiation,
 ) -> Result<u32, AllocError>
     requires end { IsSequentAt arena.old end }

@@ -85,26 +85,11 @@ module _ (a : List Item) where
 
   module _ (s : Sequent) where
     -- a rule that unfolds an atom has the unfolding as its auxiliary formula in the first premise, and nothing in a second one
-
-    unfolded_left : (g : Formula) → with_option s Left (unf g) ≡ extended s (aux (rule.DefL g) 0)
-    unfolded_left (atom (pred q undefined) ts) = refl
-    unfolded_left (atom (pred q (defined b)) ts) = refl
-    unfolded_left g = refl
-
-    unfolded_right : (g : Formula) → with_option s Right (unf g) ≡ extended s (aux (rule.DefR g) 0)
-    unfolded_right (atom (pred q undefined) ts) = refl
-    unfolded_right (atom (pred q (defined b)) ts) = refl
-    unfolded_right g = refl
-
-    one_premise_left : (g : Formula) → s ≡ extended s (aux (rule.DefL g) 1)
-    one_premise_left (atom (pred q undefined) ts) = refl
-    one_premise_left (atom (pred q (defined b)) ts) = refl
-    one_premise_left g = refl
-
-    one_premise_right : (g : Formula) → s ≡ extended s (aux (rule.DefR g) 1)
-    one_premise_right (atom (pred q undefined) ts) = refl
-    one_premise_right (atom (pred q (defined b)) ts) = refl
-    one_premise_right g = refl
+    unfolds : (g : Formula) → (with_option s Left (unf g) ≡ extended s (aux (rule.DefL g) 0)) × (with_option s Right (unf g) ≡ extended s (aux (rule.DefR g) 0))
+        × (s ≡ extended s (aux (rule.DefL g) 1)) × (s ≡ extended s (aux (rule.DefR g) 1))
+    unfolds (atom (pred q undefined) ts) = (refl, refl, refl, refl)
+    unfolds (atom (pred q (defined b)) ts) = (refl, refl, refl, refl)
+    unfolds g = (refl, refl, refl, refl)
 
     first_keyed : (r : RuleKey) (k : Key) → HasRuleParts a r → with_numbers a s (first_numbers r k) ≡ extended s (aux (keyed r k) 0)
     first_keyed (NegL f) (Not b) h = refl
@@ -119,8 +104,8 @@ module _ (a : List Item) where
     first_keyed (AllR f y) (All b) h = ap (λ t. adds_to s Right (inst (formula_at a b) t)) (is_term a y _ h.1)
     first_keyed (ExL f y) (Ex b) h = ap (λ t. adds_to s Left (inst (formula_at a b) t)) (is_term a y _ h.1)
     first_keyed (ExR f t) (Ex b) h = refl
-    first_keyed (DefL f) k h = unfolded_left (formula_at a f)
-    first_keyed (DefR f) k h = unfolded_right (formula_at a f)
+    first_keyed (DefL f) k h = (unfolds (formula_at a f)).0
+    first_keyed (DefR f) k h = (unfolds (formula_at a f)).1
     first_keyed (Cut f) k h = refl
     first_keyed r k h = refl
 
@@ -138,8 +123,8 @@ module _ (a : List Item) where
     second_keyed (AllR f y) (All b) = refl
     second_keyed (ExL f y) (Ex b) = refl
     second_keyed (ExR f t) (Ex b) = refl
-    second_keyed (DefL f) k = one_premise_left (formula_at a f)
-    second_keyed (DefR f) k = one_premise_right (formula_at a f)
+    second_keyed (DefL f) k = (unfolds (formula_at a f)).2
+    second_keyed (DefR f) k = (unfolds (formula_at a f)).3
     second_keyed r k = refl
 
     pub first_is : (r : RuleKey) (n : ℕ) (k : Key) → HasRuleParts a r → IsKeyAt a n k → formula_number r ≡ Some n → with_numbers a s (first_numbers r k) ≡ with_aux s (rule_at a r) 0

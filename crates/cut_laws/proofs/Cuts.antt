@@ -20,8 +20,8 @@ use Rattle.lk_rules.proofs.Subsequents.{and_left, and_right, and_both}
 use Rattle.proof_trees.specs.Trees.{Tree, node, Trees, none, more, concl, rule_of, below, count, first_end, second_end, IsValid, AllValid}
 use Rattle.proof_trees.proofs.Booleans.{or_first, or_second}
 use Rattle.proof_trees.proofs.Verdicts.{row_of_verdict, verdict_of_row}
-use Rattle.cut_laws.specs.Contraction.{introduces, has_above, is_leaf}
-use Rattle.cut_laws.proofs.Sides.{tied, clash, neither_first, neither_second, opposite, on_side, old_or_new, extended_without}
+use Rattle.cut_laws.specs.Contraction.{introduces, has_above, is_leaf, cut, opposite, premise_on, cut_on}
+use Rattle.cut_laws.proofs.Sides.{tied, clash, neither_first, neither_second, on_side, old_or_new, extended_without}
 
 pub row_of : (t : Tree) → IsValid t → Row (rule_of t) (concl t) (count (below t)) (first_end (below t)) (second_end (below t))
 row_of (node q e ts) h = row_of_verdict q e (count ts) (first_end ts) (second_end ts) h.0.right
@@ -76,15 +76,7 @@ inference_valid q e ts h shape stands eigen formed = (
   h.valid,
 )
 
--- the premises of a cut, by side: t has the cut formula on that side, u on the other
-abbrev pub pair_on : Side → Tree → Tree → Trees
-pair_on Left t u = more u (more t none)
-pair_on Right t u = more t (more u none)
-
-abbrev pub cut_on : Side → Sequent → Formula → Tree → Tree → Tree
-cut_on side s a t u = node (Cut a) s (pair_on side t u)
-
--- what such a cut is, where it is valid
+-- what a cut is by side, where it is valid
 pub record ValidCut (side : Side) (s : Sequent) (a : Formula) (t u : Tree) : Type 0 where
   pub formed : IsFormed a
   pub within : IsSubsequent (concl t) (adds_to s side a)
@@ -96,18 +88,23 @@ pub turned : (side : Side) (s : Sequent) (a : Formula) (t u : Tree) → ValidCut
 turned Left s a t u h = record { formed = h.formed; within = h.other; other = h.within; valid = h.other_valid; other_valid = h.valid }
 turned Right s a t u h = record { formed = h.formed; within = h.other; other = h.within; valid = h.other_valid; other_valid = h.valid }
 
-right_of_cut : (s : Sequent) (a : Formula) (t u : Tree) → IsValid (cut_on Right s a t u) → ValidCut Right s a t u
-right_of_cut s a t u h =
-    let row = row_of (cut_on Right s a t u) h in
+right_of_cut : (s : Sequent) (a : Formula) (l r : Tree) → IsValid (cut s a l r) → ValidCut Right s a l r
+right_of_cut s a l r h =
+    let row = row_of (cut s a l r) h in
     record { formed = h.0.formed; within = row.first_premise; other = row.second_premise; valid = h.1.0; other_valid = h.1.1.0 }
 
+-- by the one premise and by the other
+pub valid_cuts : (s : Sequent) (a : Formula) (l r : Tree) → IsValid (cut s a l r) → (side : Side) → ValidCut side s a (premise_on side l r) (premise_on (opposite side) l r)
+valid_cuts s a l r h Left = turned Right s a l r (right_of_cut s a l r h)
+valid_cuts s a l r h Right = right_of_cut s a l r h
+
 pub valid_cut : (side : Side) (s : Sequent) (a : Formula) (t u : Tree) → IsValid (cut_on side s a t u) → ValidCut side s a t u
-valid_cut Left s a t u h = turned Right s a u t (right_of_cut s a u t h)
+valid_cut Left s a t u h = valid_cuts s a u t h Left
 valid_cut Right s a t u h = right_of_cut s a t u h
 
-cut_of_right : (s : Sequent) (a : Formula) (t u : Tree) → ValidCut Right s a t u → IsValid (cut_on Right s a t u)
-cut_of_right s a t u h =
-    inference_valid (Cut a) s (more t (more u none))
+cut_of_right : (s : Sequent) (a : Formula) (l r : Tree) → ValidCut Right s a l r → IsValid (cut s a l r)
+cut_of_right s a l r h =
+    inference_valid (Cut a) s (more l (more r none))
     (record { number = refl; within = (h.within, (h.other, tt)); valid = (h.valid, (h.other_valid, tt)) })
     refl refl refl h.formed
 

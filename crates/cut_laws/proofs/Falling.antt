@@ -79,22 +79,16 @@ module _ (c : Tree → Tree) (place : IsPlace c) (less : (t : Tree) → size t <
 
 -- cuts
 
-left_less : (s : Sequent) (a : Formula) (l r : Tree) → size l < size (cut s a l r)
-left_less s a l r = omega arith
-
-right_less : (s : Sequent) (a : Formula) (l r : Tree) → size r < size (cut s a l r)
-right_less s a l r = omega arith
-
 pub work_left : (s : Sequent) (a : Formula) (l r : Tree) (n : ℕ) → work n l < work n (cut s a l r)
 work_left s a l r n =
     let h : 0 + work n l < work n (cut s a l r) = part_in_work (λ t. cut s a t r) (left_place s a r) 0 (λ t. omega arith) n l in
     omega arith
 
 after_left : (s : Sequent) (a : Formula) (l r u : Tree) (k n : ℕ) → elimination l n ≡ Some (u, k) → work (n - k) (cut s a u r) ≤ work n (cut s a l r)
-after_left s a l r u k n e = after_part (λ t. cut s a t r) (left_place s a r) (λ t. left_less s a t r) n k l u e
+after_left s a l r u k n e = after_part (λ t. cut s a t r) (left_place s a r) (λ t. omega arith) n k l u e
 
 after_right : (s : Sequent) (a : Formula) (u r v : Tree) (k n : ℕ) → cut_free u ≡ true → elimination r n ≡ Some (v, k) → work (n - k) (cut s a u v) ≤ work n (cut s a u r)
-after_right s a u r v k n clean e = after_part (λ t. cut s a u t) (right_place s a u clean) (λ t. right_less s a u t) n k r v e
+after_right s a u r v k n clean e = after_part (λ t. cut s a u t) (right_place s a u clean) (λ t. omega arith) n k r v e
 
 clean : (t u : Tree) (k n : ℕ) → elimination t n ≡ Some (u, k) → cut_free u ≡ true
 clean t u k n e = rw e at (elimination_free t n)

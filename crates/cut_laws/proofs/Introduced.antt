@@ -20,8 +20,8 @@ use Rattle.lk_rules.specs.declared.rule.Rule.TheVariants.{TopR, BotL, NegL, NegR
 use Rattle.lk_rules.specs.Rules.{has_shape, main, aux}
 use Rattle.lk_rules.proofs.Rows.{shape_left, shape_right}
 use Rattle.proof_trees.specs.Substitution.{renamed}
-use Rattle.cut_laws.specs.Contraction.{moved_rule}
-use Rattle.cut_laws.proofs.Sides.{equal, alone, opposite}
+use Rattle.cut_laws.specs.Contraction.{moved_rule, opposite}
+use Rattle.cut_laws.proofs.Sides.{equal, alone}
 
 -- the rule introduces the formula on that side, and isn't an axiom
 pub data IsIntroduction : Side → Rule → Formula → Type 0 where

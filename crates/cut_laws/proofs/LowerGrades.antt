@@ -17,9 +17,9 @@ use Rattle.proof_trees.specs.Substitution.{image_rule, premise_map, sub, sub_all
 use Rattle.cut_laws.specs.declared.case.Case.TheVariants.{Reduce}
 use Rattle.cut_laws.specs.Contraction.{cut, cut_unfolded, case_of, by_parts, by_case, con}
 use Rattle.cut_laws.specs.LowerCuts.{IsBelow, HasCutsBelow, HaveCutsBelow}
-use Rattle.cut_laws.proofs.Cuts.{row_of, ValidCut, valid_cut}
+use Rattle.cut_laws.proofs.Cuts.{row_of}
 use Rattle.cut_laws.proofs.Introduced.{IsIntroduction, right_top, right_not, right_and, right_or, right_imp, right_all, right_ex, right_def, left_not, left_and, left_or, left_imp, left_all, left_ex, left_def, instance_lower, unfolding_lower}
-use Rattle.cut_laws.proofs.Cases.{Meets, KnownOf, known_case, meets_right, meets_left}
+use Rattle.cut_laws.proofs.Cases.{Meets, Known, known_case, introductions}
 
 -- substitution keeps the grades of the cuts
 
@@ -67,17 +67,18 @@ parts_below s a q q' (right_def o us b u) (left_def o' us' b' u') e e' (more p n
     (unfolding_lower (atom o us) b u, (h.0, (h'.0, tt)))
 parts_below s a q q' i i' e e' ts ts' n n' h h' = cc
 
-by_parts_below : (s : Sequent) (a : Formula) (l r : Tree) → ValidCut Right s a l r → Meets s a l r → HasCutsBelow (grade_of a) l → HasCutsBelow (grade_of a) r → HasCutsBelow (grade_of a) (by_parts s a l r)
+by_parts_below : (s : Sequent) (a : Formula) (l r : Tree) → IsValid (cut s a l r) → Meets s a l r → HasCutsBelow (grade_of a) l → HasCutsBelow (grade_of a) r → HasCutsBelow (grade_of a) (by_parts s a l r)
 by_parts_below s a (node q e ts) (node q' e' ts') h meets x y =
     let l : Tree = node q e ts in
     let r : Tree = node q' e' ts' in
-    parts_below s a q q' (meets_right s a l r h meets) (meets_left s a l r h meets) e e' ts ts' (row_of l h.valid).premises (row_of r h.other_valid).premises x.1 y.1
+    let intro = introductions s a l r h meets in
+    parts_below s a q q' (intro Right) (intro Left) e e' ts ts' (row_of l h.1.0).premises (row_of r h.1.1.0).premises x.1 y.1
 
 pub cut_free_parts_below : (s : Sequent) (a : Formula) (l r : Tree) → IsValid (cut s a l r) → Meets s a l r → IsCutFree l → IsCutFree r → HasCutsBelow (grade_of a) (by_parts s a l r)
-cut_free_parts_below s a l r valid meets free free' = by_parts_below s a l r (valid_cut Right s a l r valid) meets (below_cut_free (grade_of a) l free) (below_cut_free (grade_of a) r free')
+cut_free_parts_below s a l r valid meets free free' = by_parts_below s a l r valid meets (below_cut_free (grade_of a) l free) (below_cut_free (grade_of a) r free')
 
 pub con_below : (s : Sequent) (a : Formula) (l r : Tree) → IsValid (cut s a l r) → case_of s a l r ≡ Reduce → HasCutsBelow (grade_of a) l → HasCutsBelow (grade_of a) r → HasCutsBelow (grade_of a) (con s a l r)
 unfolding con
 con_below s a l r valid e x y =
-    let known : KnownOf s a l r Reduce = subst (KnownOf s a l r) e (known_case s a l r) in
-    subst (λ c. HasCutsBelow (grade_of a) (by_case c s a l r)) (sym e) (by_parts_below s a l r (valid_cut Right s a l r valid) known.0 x y)
+    let known : Known s a l r Reduce = subst (Known s a l r) e (known_case s a l r) in
+    subst (λ c. HasCutsBelow (grade_of a) (by_case c s a l r)) (sym e) (by_parts_below s a l r valid known.0 x y)

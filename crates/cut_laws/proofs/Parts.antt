@@ -25,7 +25,7 @@ use Rattle.lk_rules.proofs.Subsequents.{and_left, and_right}
 use Rattle.proof_trees.specs.Trees.{Tree, node, Trees, none, more, concl, rule_of, below, IsValid}
 use Rattle.proof_trees.specs.Substitution.{sub}
 use Rattle.proof_trees.proofs.Substituted.{sub_valid, concl-sub}
-use Rattle.cut_laws.specs.Contraction.{has_above, cut, cut_unfolded, by_parts}
+use Rattle.cut_laws.specs.Contraction.{has_above, cut, opposite, cut_on, cut_unfolded, by_parts}
 use Rattle.cut_laws.proofs.Sides.{neither_first, itself, extended_with, wider_with, out_of_side, keeps_without, image_extended}
 use Rattle.cut_laws.proofs.Cuts.{row_of, ValidCut, cut_valid, Premises, premises_of, premises_without}
 use Rattle.cut_laws.proofs.Introduced.{IsIntroduction, right_not, right_and, right_or, right_imp, right_all, right_ex, right_def, left_not, left_and, left_or, left_imp, left_all, left_ex, left_def}
@@ -46,56 +46,51 @@ alone_on Left c Left = c ∷ []
 alone_on Right c Right = c ∷ []
 alone_on side c other = []
 
+-- a cut whose premise with the formula on that side is another cut
+two_cuts : (side : Side) (s : Sequent) (f b : Formula) (t u v : Tree) → IsFormed f → ValidCut Right (adds_to s side f) b t u → IsSubsequent (concl v) (adds_to s (opposite side) f) → IsValid v
+    → IsValid (cut_on side s f (cut (adds_to s side f) b t u) v)
+two_cuts side s f b t u v formed h other valid =
+    let upper : Tree = cut (adds_to s side f) b t u in
+    cut_valid side s f upper v (record { formed = formed; within = itself (adds_to s side f); other = other; valid = cut_valid Right (adds_to s side f) b t u h; other_valid = valid })
+
 conjunction : (s : Sequent) (b c : Formula) (p p' p'' : Tree) → IsFormed (and b c) → Premises (AndR (and b c)) s (more p (more p' none)) → Premises (AndL (and b c)) s (more p'' none)
     → IsValid (cut s b p (cut (adds_to s Left b) c p' p''))
 conjunction s b c p p' p'' formed x y =
-    cut_valid Right s b p (cut (adds_to s Left b) c p' p'') (record {
-      formed = and_left _ _ formed;
-      within = x.within.0;
-      other = itself (adds_to s Left b);
-      valid = x.valid.0;
-      other_valid = cut_valid Right (adds_to s Left b) c p' p'' (record {
-        formed = and_right (is_formed b) _ formed;
-        within = wider_with Right (concl p') s c (alone_on Left b) x.within.1.0;
-        other = y.within.0;
-        valid = x.valid.1.0;
-        other_valid = y.valid.0;
-      });
+    two_cuts Left s b c p' p'' p (and_left _ _ formed)
+    (record {
+      formed = and_right (is_formed b) _ formed;
+      within = wider_with Right (concl p') s c (alone_on Left b) x.within.1.0;
+      other = y.within.0;
+      valid = x.valid.1.0;
+      other_valid = y.valid.0;
     })
+    x.within.0 x.valid.0
 
 disjunction : (s : Sequent) (b c : Formula) (p p' p'' : Tree) → IsFormed (or b c) → Premises (OrR (or b c)) s (more p none) → Premises (OrL (or b c)) s (more p' (more p'' none))
     → IsValid (cut s c (cut (adds_to s Right c) b p p') p'')
 disjunction s b c p p' p'' formed x y =
-    cut_valid Right s c (cut (adds_to s Right c) b p p') p'' (record {
-      formed = and_right (is_formed b) _ formed;
-      within = itself (adds_to s Right c);
-      other = y.within.1.0;
-      valid = cut_valid Right (adds_to s Right c) b p p' (record {
-        formed = and_left _ _ formed;
-        within = extended_with Right (concl p) (adds_to s Right b) s b (alone_on Right c) (itself (adds_to s Right b)) x.within.0;
-        other = wider_with Left (concl p') s b (alone_on Right c) y.within.0;
-        valid = x.valid.0;
-        other_valid = y.valid.0;
-      });
-      other_valid = y.valid.1.0;
+    two_cuts Right s c b p p' p'' (and_right (is_formed b) _ formed)
+    (record {
+      formed = and_left _ _ formed;
+      within = extended_with Right (concl p) (adds_to s Right b) s b (alone_on Right c) (itself (adds_to s Right b)) x.within.0;
+      other = wider_with Left (concl p') s b (alone_on Right c) y.within.0;
+      valid = x.valid.0;
+      other_valid = y.valid.0;
     })
+    y.within.1.0 y.valid.1.0
 
 implication : (s : Sequent) (b c : Formula) (p p' p'' : Tree) → IsFormed (imp b c) → Premises (ImpR (imp b c)) s (more p none) → Premises (ImpL (imp b c)) s (more p' (more p'' none))
     → IsValid (cut s c (cut (adds_to s Right c) b p' p) p'')
 implication s b c p p' p'' formed x y =
-    cut_valid Right s c (cut (adds_to s Right c) b p' p) p'' (record {
-      formed = and_right (is_formed b) _ formed;
-      within = itself (adds_to s Right c);
-      other = y.within.1.0;
-      valid = cut_valid Right (adds_to s Right c) b p' p (record {
-        formed = and_left _ _ formed;
-        within = wider_with Right (concl p') s b (alone_on Right c) y.within.0;
-        other = x.within.0;
-        valid = y.valid.0;
-        other_valid = x.valid.0;
-      });
-      other_valid = y.valid.1.0;
+    two_cuts Right s c b p' p p'' (and_right (is_formed b) _ formed)
+    (record {
+      formed = and_left _ _ formed;
+      within = wider_with Right (concl p') s b (alone_on Right c) y.within.0;
+      other = x.within.0;
+      valid = y.valid.0;
+      other_valid = x.valid.0;
     })
+    y.within.1.0 y.valid.1.0
 
 -- quantifiers: the premise of a rule at the conclusion e, with a term for a variable y that isn't free in e
 

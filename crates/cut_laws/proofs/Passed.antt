@@ -21,9 +21,8 @@ use Rattle.lk_rules.proofs.Subsequents.{and_left, and_right}
 use Rattle.proof_trees.specs.Trees.{Tree, node, Trees, none, more, concl, rule_of, below, IsValid, AllValid, is_cut, cut_free, cut_free_all, size}
 use Rattle.proof_trees.specs.Substitution.{renamed, sub_all}
 use Rattle.proof_trees.proofs.Substituted.{size-sub, cut_free-sub}
-use Rattle.cut_laws.specs.Contraction.{has_above, moved_rule, renamed_trees, moved_trees, with_aux}
-use Rattle.cut_laws.proofs.Cuts.{cut_on, valid_cut}
-use Rattle.cut_laws.proofs.Above.{cuts_on, above_on}
+use Rattle.cut_laws.specs.Contraction.{has_above, moved_rule, renamed_trees, moved_trees, with_aux, cut_on, cuts_on, above_on}
+use Rattle.cut_laws.proofs.Cuts.{valid_cut}
 use Rattle.cut_laws.proofs.BigSteps.{left_place, right_place}
 use Rattle.cut_laws.proofs.Places.{IsPlace}
 use Rattle.cut_laws.proofs.Falling.{sizes}
@@ -84,7 +83,7 @@ place_on Right s a u clean = left_place s a u
 
 -- cuts on a of trees smaller than the premise end
 module _ (side : Side) (a : Formula) (u : Tree) (m : ℕ) (each : (s : Sequent) (t : Tree) → size t ≤ m → cut_free t ≡ true → IsValid (cut_on side s a t u) → Ends (cut_on side s a t u)) where
-  cuts_end : (s : Sequent) (q : Rule) (i : ℕ) (ts : Trees) → sizes ts ≤ m → cut_free_all ts ≡ true → AllValid (cuts_on side s a u q i ts) → AllEnd (cuts_on side s a u q i ts)
+  cuts_end : (s : Sequent) (q : Rule) (i : ℕ) (ts : Trees) → sizes ts ≤ m → cut_free_all ts ≡ true → AllValid (cuts_on side s a q i ts u) → AllEnd (cuts_on side s a q i ts u)
   cuts_end s q i none less clean valid = tt
   cuts_end s q i (more t ts) less clean valid = (
     each (with_aux s q i) t (omega arith) (and_left _ _ clean) valid.0,
@@ -92,8 +91,8 @@ module _ (side : Side) (a : Formula) (u : Tree) (m : ℕ) (each : (s : Sequent) 
   )
 
   -- what comes of them doesn't have the formula
-  cuts_out : (s : Sequent) (q : Rule) → IsIntroduction side q a → set.has (side_of s side) a ≡ false → (i : ℕ) (ts : Trees) (x : AllEnd (cuts_on side s a u q i ts))
-      → has_above side a (all_trees (cuts_on side s a u q i ts) x) ≡ false
+  cuts_out : (s : Sequent) (q : Rule) → IsIntroduction side q a → set.has (side_of s side) a ≡ false → (i : ℕ) (ts : Trees) (x : AllEnd (cuts_on side s a q i ts u))
+      → has_above side a (all_trees (cuts_on side s a q i ts u) x) ≡ false
   cuts_out s q intro out i none x = refl
   cuts_out s q intro out i (more t ts) x =
       let first : set.has (side_of (concl x.0.tree) side) a ≡ false =
@@ -103,12 +102,11 @@ module _ (side : Side) (a : Formula) (u : Tree) (m : ℕ) (each : (s : Sequent) 
   -- the last rule over what comes of them introduces the formula, if it did so before
   pass_final : (end s : Sequent) (t : Tree) → size t ≤ suc m → cut_free t ≡ true → IsValid (above_on side end s a t u)
       → (x : Ends (above_on side end s a t u)) × (IsIntroduction side (rule_of t) a → set.has (side_of s side) a ≡ false → IsFinal side a x.tree)
-  unfolding above_on
   pass_final end s (node q e ts) less clean valid =
       let moved : Rule = moved_rule end q in
       let us : Trees = moved_trees end q ts in
-      let x : AllEnd (cuts_on side s a u moved 0 us) = cuts_end s moved 0 us (moved_size q e ts clean end m less) (moved_free q e ts clean end) valid.1 in (
-        node_ends moved end (cuts_on side s a u moved 0 us) (moved_other q e ts clean end) x,
+      let x : AllEnd (cuts_on side s a moved 0 us u) = cuts_end s moved 0 us (moved_size q e ts clean end m less) (moved_free q e ts clean end) valid.1 in (
+        node_ends moved end (cuts_on side s a moved 0 us u) (moved_other q e ts clean end) x,
         λ intro out. record { intro = introduction-moved end side q a intro; alone = cuts_out s moved (introduction-moved end side q a intro) out 0 us x },
       )
 

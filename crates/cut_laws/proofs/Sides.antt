@@ -95,10 +95,6 @@ image_kept m x e s fs stays keeps within q =
 
 -- sequents
 
-abbrev pub opposite : Side → Side
-opposite Left = Right
-opposite Right = Left
-
 pub itself : (s : Sequent) → IsSubsequent s s
 itself s = record { left = λ f m. m; right = λ f m. m }
 

@@ -1,6 +1,6 @@
 -- Each valid tree loses its cuts after some number of replacements: by induction on the grade of the cut formula, and within that on the
 -- sizes of the premises.
-use Rattle.std.proofs.Common.{◌≡◌, ℕ, zero, suc, ◌+◌, ◌-◌, ◌<◌, ◌≤◌, true, false, ◌&&◌, not, refl, ap, subst, ◌∙◌, arith}
+use Rattle.std.proofs.Common.{◌≡◌, ℕ, zero, suc, ◌+◌, ◌-◌, ◌<◌, ◌≤◌, true, false, ◌&&◌, not, refl, ap, ◌∙◌, arith}
 use Rattle.std.specs.List.{list_any}
 use Rattle.std.specs.Ordering.{eq_by_cmp}
 use Rattle.fol.specs.Syntax.{Formula}
@@ -12,22 +12,21 @@ use Rattle.lk_rules.specs.declared.sequent.Side.{Side}
 use Rattle.lk_rules.specs.declared.sequent.Side.TheVariants.{Left, Right}
 use Rattle.lk_rules.specs.declared.rule.Rule.{Rule}
 use Rattle.lk_rules.specs.declared.rule.Rule.TheVariants.{Cut, Weak}
-use Rattle.lk_rules.specs.Sequents.{adds_to}
+use Rattle.lk_rules.specs.Sequents.{side_of, adds_to}
 use Rattle.lk_rules.specs.Rules.{needs}
 use Rattle.lk_rules.proofs.Subsequents.{and_left}
 use Rattle.proof_trees.specs.Trees.{Tree, node, Trees, none, more, concl, rule_of, below, count, IsValid, AllValid, is_cut, cut_free, cut_free_all, size}
 use Rattle.proof_trees.proofs.Booleans.{or_first}
 use Rattle.cut_laws.specs.declared.case.Case.{Case}
-use Rattle.cut_laws.specs.declared.case.Case.TheVariants.{WeakenLeft, WeakenRight, LeafLeft, LeafRight, PassLeft, PassRight, SplitLeft, SplitRight, Reduce}
-use Rattle.cut_laws.specs.Contraction.{introduces, has_above, cut, by_parts, case_of, by_case, con}
+use Rattle.cut_laws.specs.declared.case.Case.TheVariants.{Weaken, Leaf, Pass, Split, Reduce}
+use Rattle.cut_laws.specs.Contraction.{introduces, has_above, cut, opposite, premise_on, cut_on, above_on, by_parts, case_of, by_case, con}
 use Rattle.cut_laws.specs.Elimination.{Reaches}
 use Rattle.cut_laws.specs.LowerCuts.{HasCutsBelow, HaveCutsBelow}
 use Rattle.cut_laws.proofs.Sides.{clash, tied}
-use Rattle.cut_laws.proofs.Cuts.{row_of, ValidCut, turned, valid_cut}
+use Rattle.cut_laws.proofs.Cuts.{row_of, valid_cuts}
 use Rattle.cut_laws.proofs.Introduced.{IsIntroduction, introduced}
 use Rattle.cut_laws.proofs.ValidCuts.{out_of_conclusion, cut_valid_with}
-use Rattle.cut_laws.proofs.Above.{above_on, above-left, above-right}
-use Rattle.cut_laws.proofs.Cases.{KnownOf, known_case, meets_right, meets_left}
+use Rattle.cut_laws.proofs.Cases.{each, Known, known_case, introductions}
 use Rattle.cut_laws.proofs.Contracted.{con_valid}
 use Rattle.cut_laws.proofs.LowerGrades.{cut_free_parts_below}
 use Rattle.cut_laws.proofs.BigSteps.{left_place, right_place}
@@ -77,47 +76,53 @@ leaf_free : (s : Sequent) (t : Tree) → cut_free t ≡ true → cut_free (node 
 leaf_free s (node q e ts) h = ap (λ b. b && true) (and_left (not (is_cut q)) (cut_free_all ts) h)
 
 -- a cut over premises without cuts ends if it does where it goes above a rule, since cuts on formulas of lower grade do
-module _ (s : Sequent) (a : Formula) (l r : Tree) (valid : IsValid (cut s a l r)) (lower : LowerEnd (grade_of a)) (free : cut_free l ≡ true) (free' : cut_free r ≡ true)
-    (pass_left : introduces Right a l ≡ false → IsValid (above_on Right s s a l r) → Ends (above_on Right s s a l r))
-    (pass_right : introduces Left a r ≡ false → IsValid (above_on Left s s a r l) → Ends (above_on Left s s a r l))
-    (split_left : IsIntroduction Right (rule_of l) a → set.has s.right a ≡ false → has_above Right a (below l) ≡ true
-    → IsValid (cut s a (above_on Right (adds_to s Right a) s a l r) r) → Ends (cut s a (above_on Right (adds_to s Right a) s a l r) r))
-    (split_right : IsIntroduction Right (rule_of l) a → IsIntroduction Left (rule_of r) a → set.has s.left a ≡ false → has_above Right a (below l) ≡ false → has_above Left a (below r) ≡ true
-    → IsValid (cut s a l (above_on Left (adds_to s Left a) s a r l)) → Ends (cut s a l (above_on Left (adds_to s Left a) s a r l)))
-  where
-    c : ValidCut Right s a l r
-    c = valid_cut Right s a l r valid
+module _ (s : Sequent) (a : Formula) (l r : Tree) where
+  -- where a premise doesn't introduce the formula
+  abbrev Passes : Side → Type 0
+  Passes side =
+      let t : Tree = premise_on side l r in
+      let above : Tree = above_on side s s a t (premise_on (opposite side) l r) in
+      introduces side a t ≡ false → IsValid above → Ends above
 
-    by_known : (c : Case) → KnownOf s a l r c → IsValid (by_case c s a l r) → Ends (by_case c s a l r)
-    by_known WeakenLeft k = λ v. ends_itself (node Weak s (more l none)) (ap (λ b. b && true) free)
-    by_known WeakenRight k = λ v. ends_itself (node Weak s (more r none)) (ap (λ b. b && true) free')
-    by_known LeafLeft k = λ v. ends_itself (node (rule_of l) s none) (leaf_free s l free)
-    by_known LeafRight k = λ v. ends_itself (node (rule_of r) s none) (leaf_free s r free')
-    by_known PassLeft k = subst (λ t. IsValid t → Ends t) (above-left s s a l r) (pass_left k)
-    by_known PassRight k = subst (λ t. IsValid t → Ends t) (above-right s s a l r) (pass_right k)
-    by_known SplitLeft k = subst (λ t. IsValid (cut s a t r) → Ends (cut s a t r)) (above-left (adds_to s Right a) s a l r)
-        (split_left (meets_right s a l r c k.0) (out_of_conclusion Right s a l r c k.0.left_open) k.1)
-    by_known SplitRight k = subst (λ t. IsValid (cut s a l t) → Ends (cut s a l t)) (above-right (adds_to s Left a) s a l r)
-        (split_right (meets_right s a l r c k.0) (meets_left s a l r c k.0) (out_of_conclusion Left s a r l (turned Right s a l r c) k.0.right_open) k.1 k.2)
-    by_known Reduce k = lower_trees_end (grade_of a) lower (by_parts s a l r) (cut_free_parts_below s a l r valid k.0 free free')
+  -- where both do
+  abbrev Splits : Side → Type 0
+  Splits side =
+      let t : Tree = premise_on side l r in
+      let u : Tree = premise_on (opposite side) l r in
+      let whole : Tree = cut_on side s a (above_on side (adds_to s side a) s a t u) u in
+      ((other : Side) → IsIntroduction other (rule_of (premise_on other l r)) a) → set.has (side_of s side) a ≡ false → has_above side a (below t) ≡ true
+      → (side ≡ Left → has_above Right a (below l) ≡ false) → IsValid whole → Ends whole
+
+  module _ (valid : IsValid (cut s a l r)) (lower : LowerEnd (grade_of a)) (free : (side : Side) → cut_free (premise_on side l r) ≡ true) (passes : (side : Side) → Passes side)
+      (splits : (side : Side) → Splits side) where
+    by_known : (c : Case) → Known s a l r c → IsValid (by_case c s a l r) → Ends (by_case c s a l r)
+    by_known (Weaken side) k = λ v. ends_itself (node Weak s (more (premise_on side l r) none)) (ap (λ b. b && true) (free side))
+    by_known (Leaf side) k = λ v. ends_itself (node (rule_of (premise_on side l r)) s none) (leaf_free s (premise_on side l r) (free side))
+    by_known (Pass side) k = passes side k
+    by_known (Split side) k =
+        splits side (introductions s a l r valid k.0)
+        (out_of_conclusion side s a (premise_on side l r) (premise_on (opposite side) l r) (valid_cuts s a l r valid side) (k.0.outside side)) k.1 k.2
+    by_known Reduce k = lower_trees_end (grade_of a) lower (by_parts s a l r) (cut_free_parts_below s a l r valid k.0 (free Right) (free Left))
 
     by_cases : Ends (cut s a l r)
     unfolding con
-    by_cases = root_ends s a l r free free' (by_known (case_of s a l r) (known_case s a l r) (con_valid s a l r valid))
+    by_cases = root_ends s a l r (free Right) (free Left) (by_known (case_of s a l r) (known_case s a l r) (con_valid s a l r valid))
 
 module _ (a : Formula) (lower : LowerEnd (grade_of a)) where
   -- where the last rule introduces the formula alone, two cases can't be
   not_passed : {P : Type 0} (side : Side) (t : Tree) → IsFinal side a t → introduces side a t ≡ false → P
   not_passed side t final e = clash (introduces side a t) (ap (list_any (eq_by_cmp formula_cmp a)) (introduced side (rule_of t) a final.intro) ∙ or_first _ _ (tied a a refl)) e
 
+  not_split : {P : Type 0} (side : Side) (t : Tree) → IsFinal side a t → has_above side a (below t) ≡ true → P
+  not_split side t final e = clash (has_above side a (below t)) e final.alone
+
   -- both premises introduce the formula alone
   ends_final : (s : Sequent) (l r : Tree) → IsFinal Right a l → IsFinal Left a r → cut_free l ≡ true → cut_free r ≡ true → IsValid (cut s a l r) → Ends (cut s a l r)
   ends_final s l r final final' free free' valid =
-      by_cases s a l r valid lower free free'
-      (not_passed Right l final)
-      (not_passed Left r final')
-      (λ _ _ e. clash (has_above Right a (below l)) e final.alone)
-      (λ _ _ _ _ e. clash (has_above Left a (below r)) e final'.alone)
+      let finals : (side : Side) → IsFinal side a (premise_on side l r) = each _ final final' in
+      by_cases s a l r valid lower (each _ free free')
+      (λ side. not_passed side (premise_on side l r) (finals side))
+      (λ side _ _ e _. not_split side (premise_on side l r) (finals side) e)
 
   -- the left premise does
   ends_left : (h : ℕ) (s : Sequent) (l r : Tree) → size r ≤ h → IsFinal Right a l → cut_free l ≡ true → cut_free r ≡ true → IsValid (cut s a l r) → Ends (cut s a l r)
@@ -125,11 +130,10 @@ module _ (a : Formula) (lower : LowerEnd (grade_of a)) where
   ends_left (suc h) s l r less final free free' valid =
       let rights : (end : Sequent) (t : Tree) → size t ≤ h → cut_free t ≡ true → IsValid (cut end a l t) → Ends (cut end a l t) =
       λ end t smaller clean good. ends_left h end l t smaller final free clean good in
-      by_cases s a l r valid lower free free'
-      (not_passed Right l final)
-      (λ _. pass Left a l h rights s s r less free')
-      (λ _ _ e. clash (has_above Right a (below l)) e final.alone)
-      (λ _ intro out _ _. split_cut Left a l h rights s r less free' free intro out (λ u final' clean. ends_final s l u final final' free clean))
+      by_cases s a l r valid lower (each _ free free')
+      (each _ (not_passed Right l final) (λ _. pass Left a l h rights s s r less free'))
+      (each _ (λ _ _ e _. not_split Right l final e)
+      (λ intro out _ _. split_cut Left a l h rights s r less free' free (intro Left) out (λ u final' clean. ends_final s l u final final' free clean)))
 
   ends_any : (h : ℕ) (s : Sequent) (l r : Tree) → size l + size r ≤ h → cut_free l ≡ true → cut_free r ≡ true → IsValid (cut s a l r) → Ends (cut s a l r)
   ends_any zero s l r less free free' valid = let positive : 0 < size r = size_positive r in absurd (omega arith)
@@ -140,11 +144,10 @@ module _ (a : Formula) (lower : LowerEnd (grade_of a)) where
       λ end t smaller clean good. ends_any h end t r (omega arith) clean free' good in
       let rights : (end : Sequent) (t : Tree) → size t ≤ size r - 1 → cut_free t ≡ true → IsValid (cut end a l t) → Ends (cut end a l t) =
       λ end t smaller clean good. ends_any h end l t (omega arith) free clean good in
-      by_cases s a l r valid lower free free'
-      (λ _. pass Right a r (size l - 1) lefts s s l (omega arith) free)
-      (λ _. pass Left a l (size r - 1) rights s s r (omega arith) free')
-      (λ intro out _. split_cut Right a r (size l - 1) lefts s l (omega arith) free free' intro out (λ u final clean. ends_left (size r) s u r (omega arith) final clean free'))
-      (λ intro intro' out e _. split_cut Left a l (size r - 1) rights s r (omega arith) free' free intro' out (λ u final clean. ends_final s l u (record { intro = intro; alone = e }) final free clean))
+      by_cases s a l r valid lower (each _ free free')
+      (each _ (λ _. pass Right a r (size l - 1) lefts s s l (omega arith) free) (λ _. pass Left a l (size r - 1) rights s s r (omega arith) free'))
+      (each _ (λ intro out _ _. split_cut Right a r (size l - 1) lefts s l (omega arith) free free' (intro Right) out (λ u final clean. ends_left (size r) s u r (omega arith) final clean free'))
+      (λ intro out _ none. split_cut Left a l (size r - 1) rights s r (omega arith) free' free (intro Left) out (λ u final clean. ends_final s l u (record { intro = intro Right; alone = none refl }) final free clean)))
 
 cuts_end : (g : ℕ) → LowerEnd g
 cuts_end zero s a l r small free free' valid = absurd (omega arith)

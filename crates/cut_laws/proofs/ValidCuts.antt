@@ -16,9 +16,9 @@ use Rattle.lk_rules.proofs.Subsequents.{is_subsequent_of}
 use Rattle.proof_trees.specs.Trees.{Tree, concl, rule_of, IsValid}
 use Rattle.proof_trees.proofs.Booleans.{either}
 use Rattle.proof_trees.proofs.WithoutBodies.{stays_false}
-use Rattle.cut_laws.specs.Contraction.{cut, introduces}
-use Rattle.cut_laws.proofs.Sides.{equal, opposite, through, absorbed}
-use Rattle.cut_laws.proofs.Cuts.{row_of, cut_on, ValidCut, turned, valid_cut, cut_valid}
+use Rattle.cut_laws.specs.Contraction.{introduces, opposite, cut_on}
+use Rattle.cut_laws.proofs.Sides.{equal, through, absorbed}
+use Rattle.cut_laws.proofs.Cuts.{row_of, ValidCut, turned, valid_cut, cut_valid}
 use Rattle.cut_laws.proofs.Introduced.{IsIntroduction, is_introduction}
 
 -- a formula of a list that a set has
@@ -64,9 +64,3 @@ cut_valid_with side s a t u v h same valid =
       valid = valid;
       other_valid = c.other_valid;
     })
-
-pub cut_valid_left : (s : Sequent) (a : Formula) (l r u : Tree) → IsValid (cut s a l r) → concl u ≡ concl l → IsValid u → IsValid (cut s a u r)
-cut_valid_left s a l r u = cut_valid_with Right s a l r u
-
-pub cut_valid_right : (s : Sequent) (a : Formula) (l r u : Tree) → IsValid (cut s a l r) → concl u ≡ concl r → IsValid u → IsValid (cut s a l u)
-cut_valid_right s a l r u = cut_valid_with Left s a r l u

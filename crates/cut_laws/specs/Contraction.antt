@@ -2,12 +2,12 @@
 -- formulas, or to none.
 --     introduces, has_above      where the cut formula comes from
 --     moved_rule, moved_trees      a rule under a new conclusion, in which its eigenvariable may be free
---     cuts_left, cuts_right, above_left, above_right      the cut above the last rule of a premise
+--     cut_on, cuts_on, above_on      the cut above the last rule of a premise, by the side on which that premise has the cut formula
 --     case_of      which case it is
 --     by_parts      cuts on the parts of a formula, or on what it unfolds to
 --     by_case      what takes the place of the cut in each
 --     con      the contraction
-use Rattle.std.specs.Prelude.{ℕ, suc, Bool, true, false, if◌then◌else◌, ◌&&◌, ◌||◌, eqb, not as negated, Option, Some, None}
+use Rattle.std.specs.Prelude.{ℕ, suc, Bool, false, if◌then◌else◌, ◌&&◌, ◌||◌, eqb, not as negated, Option, Some, None}
 use Rattle.std.specs.List.{list_any}
 use Rattle.std.specs.Ordering.{eq_by_cmp}
 use Rattle.fol.specs.declared.symbols.Var.{Var}
@@ -28,7 +28,7 @@ use Rattle.lk_rules.specs.Rules.{needs, main, aux}
 use Rattle.proof_trees.specs.Trees.{Tree, node, Trees, none, more, concl, rule_of, below}
 use Rattle.proof_trees.specs.Substitution.{renamed, sub, sub_all}
 use Rattle.cut_laws.specs.declared.case.Case.{Case}
-use Rattle.cut_laws.specs.declared.case.Case.TheVariants.{WeakenLeft, WeakenRight, LeafLeft, LeafRight, PassLeft, PassRight, SplitLeft, SplitRight, Reduce}
+use Rattle.cut_laws.specs.declared.case.Case.TheVariants.{Weaken, Leaf, Pass, Split, Reduce}
 
 -- whether a is the main formula of the last rule, on that side
 abbrev pub introduces : Side → Formula → Tree → Bool
@@ -64,45 +64,39 @@ with_aux s r i = extended s (aux r i)
 abbrev pub cut : Sequent → Formula → Tree → Tree → Tree
 cut s a l r = node (Cut a) s (more l (more r none))
 
--- the premises of rule q at s, from the i-th on, each with its cut on a against r
-abbrev pub cuts_left : Sequent → Formula → Rule → ℕ → Trees → Tree → Trees
-cuts_left s a q i none r = none
-cuts_left s a q i (more t ts) r = more (cut (with_aux s q i) a t r) (cuts_left s a q (suc i) ts r)
+abbrev pub opposite : Side → Side
+opposite Left = Right
+opposite Right = Left
 
--- the same with l as the left premise of each cut
-abbrev pub cuts_right : Sequent → Formula → Tree → Rule → ℕ → Trees → Trees
-cuts_right s a l q i none = none
-cuts_right s a l q i (more t ts) = more (cut (with_aux s q i) a l t) (cuts_right s a l q (suc i) ts)
+-- of the left and the right premise of a cut the one that has the cut formula on that side
+abbrev pub premise_on : Side → Tree → Tree → Tree
+premise_on Left l r = r
+premise_on Right l r = l
 
--- the last rule of the left premise at the conclusion `end`, above it the cuts at s; of weakening there is one, at s
-unfoldable pub above_left : Sequent → Sequent → Formula → Tree → Tree → Tree
-above_left end s a (node q e ts) r =
-    node (moved_rule end q) end (cuts_left s a (moved_rule end q) 0 (moved_trees end q ts) r)
+-- the cut over t, which has the cut formula on that side, and u
+abbrev pub cut_on : Side → Sequent → Formula → Tree → Tree → Tree
+cut_on side s a t u = cut s a (premise_on side t u) (premise_on (opposite side) t u)
 
-unfoldable pub above_right : Sequent → Sequent → Formula → Tree → Tree → Tree
-above_right end s a l (node q e ts) =
-    node (moved_rule end q) end (cuts_right s a l (moved_rule end q) 0 (moved_trees end q ts))
+-- the premises of rule q at s, from the i-th on, each with its cut on a against u
+abbrev pub cuts_on : Side → Sequent → Formula → Rule → ℕ → Trees → Tree → Trees
+cuts_on side s a q i none u = none
+cuts_on side s a q i (more t ts) u = more (cut_on side (with_aux s q i) a t u) (cuts_on side s a q (suc i) ts u)
 
--- the first case that fits, by what is known: whether the left or the right end is a subsequent of the conclusion, whether that premise
--- is a leaf that doesn't introduce the formula, whether it introduces the formula, and whether the formula stands above it
-abbrev pub pick : (weak_l weak_r leaf_l leaf_r intro_l intro_r above_l above_r : Bool) → Case
-pick true wr ll lr il ir al ar = WeakenLeft
-pick false true ll lr il ir al ar = WeakenRight
-pick false false true lr il ir al ar = LeafLeft
-pick false false false true il ir al ar = LeafRight
-pick false false false false false ir al ar = PassLeft
-pick false false false false true false al ar = PassRight
-pick false false false false true true true ar = SplitLeft
-pick false false false false true true false true = SplitRight
-pick false false false false true true false false = Reduce
+-- the last rule of t at the conclusion `end`, above it the cuts at s against u; of weakening there is one, at s
+abbrev pub above_on : Side → Sequent → Sequent → Formula → Tree → Tree → Tree
+above_on side end s a t u = node (moved_rule end (rule_of t)) end (cuts_on side s a (moved_rule end (rule_of t)) 0 (moved_trees end (rule_of t) (below t)) u)
 
--- the case of a cut on a with the conclusion s over l and r
+-- the case of the premise that passes the test, of the left one where both do, and the other case where neither does
+abbrev pub pick : (Side → Bool) → (Side → Case) → Case → Case
+pick test case other = if test Right then case Right else if test Left then case Left else other
+
+-- the case of a cut on a with the conclusion s over l and r: the first that fits
 unfoldable pub case_of : Sequent → Formula → Tree → Tree → Case
-case_of s a l r = pick
-    (is_subsequent (concl l) s) (is_subsequent (concl r) s)
-    (is_leaf l && negated (introduces Right a l)) (is_leaf r && negated (introduces Left a r))
-    (introduces Right a l) (introduces Left a r)
-    (has_above Right a (below l)) (has_above Left a (below r))
+case_of s a l r =
+    pick (λ side. is_subsequent (concl (premise_on side l r)) s) Weaken
+    (pick (λ side. is_leaf (premise_on side l r) && negated (introduces side a (premise_on side l r))) Leaf
+    (pick (λ side. negated (introduces side a (premise_on side l r))) Pass
+    (pick (λ side. has_above side a (below (premise_on side l r))) Split Reduce)))
 
 -- the cut on the unfolding of the formula over p and p'. Where it has none, the cut over l and r stays
 abbrev pub cut_unfolded : Sequent → Formula → Tree → Tree → Option Formula → Tree → Tree → Tree
@@ -123,14 +117,11 @@ by_parts s a l r = cut s a l r
 
 -- what takes the place of the cut
 abbrev pub by_case : Case → Sequent → Formula → Tree → Tree → Tree
-by_case WeakenLeft s a l r = node Weak s (more l none)
-by_case WeakenRight s a l r = node Weak s (more r none)
-by_case LeafLeft s a l r = node (rule_of l) s none
-by_case LeafRight s a l r = node (rule_of r) s none
-by_case PassLeft s a l r = above_left s s a l r
-by_case PassRight s a l r = above_right s s a l r
-by_case SplitLeft s a l r = cut s a (above_left (adds_to s Right a) s a l r) r
-by_case SplitRight s a l r = cut s a l (above_right (adds_to s Left a) s a l r)
+by_case (Weaken side) s a l r = node Weak s (more (premise_on side l r) none)
+by_case (Leaf side) s a l r = node (rule_of (premise_on side l r)) s none
+by_case (Pass side) s a l r = above_on side s s a (premise_on side l r) (premise_on (opposite side) l r)
+by_case (Split side) s a l r =
+    cut_on side s a (above_on side (adds_to s side a) s a (premise_on side l r) (premise_on (opposite side) l r)) (premise_on (opposite side) l r)
 by_case Reduce s a l r = by_parts s a l r
 
 -- the contraction of the cut on a with the conclusion s over l and r

@@ -2,10 +2,11 @@
 use Rattle.std.proofs.Common.{rules, arith, ◌≡◌, ◌+◌, ◌-◌, ◌*◌, ◌<◌, suc, Some, sym, ap, subst, ◌∙◌}
 use Rattle.fol.specs.Syntax.{Formula}
 use Rattle.lk_rules.specs.declared.sequent.Sequent.{Sequent}
+use Rattle.lk_rules.specs.declared.sequent.Side.TheVariants.{Left, Right}
 use Rattle.proof_trees.specs.Trees.{Tree, node, none, more, rule_of, concl, below, is_cut, IsValid, AllValid}
 use Rattle.cut_laws.specs.Contraction.{cut, con}
 use Rattle.cut_laws.specs.Budgets.{contracted, work, work_all}
-use Rattle.cut_laws.proofs.ValidCuts.{cut_valid_left, cut_valid_right}
+use Rattle.cut_laws.proofs.ValidCuts.{cut_valid_with}
 use Rattle.arena_cells.specs.declared.key.Parts.{Parts}
 use Rattle.arena_cells.specs.Standing.{sequent_at, formula_at, tree_at, IsTreeAt}
 use Rattle.arena_cells.specs.Meaning.{trees_at, HasPremises}
@@ -115,8 +116,8 @@ eliminate_cut-eliminate_lowest-requires g t c κs within =
     let r = tree_at a parts.right in
     let i = both.left.reductions in
     let j = both.right.reductions in
-    let lowest : IsValid (cut s f u v) = cut_valid_right s f u r v
-    (cut_valid_left s f l r u c.requires.valid (results.end l u i n made.both.left) (results.valid l u i n above.0 made.both.left))
+    let lowest : IsValid (cut s f u v) = cut_valid_with Left s f r u v
+    (cut_valid_with Right s f l r u c.requires.valid (results.end l u i n made.both.left) (results.valid l u i n above.0 made.both.left))
     (results.end r v j (n - i) made.both.right) (results.valid r v j (n - i) above.1.0 made.both.right) in
     let valid : IsValid (cut (sequent_at b parts.end) (formula_at b parts.formula) u v) =
     subst (λ (x : Sequent × Formula). IsValid (cut x.0 x.1 u v)) (λ i. (sym (sequent_stays a b made.grown parts.end h.end) i, sym (formula_stays a b made.grown parts.formula h.formula) i)) lowest in

@@ -2,9 +2,9 @@
 use Rattle.std.proofs.Common.{◌∙◌}
 use Rattle.substitution.specs.Maps.{only}
 use Rattle.proof_trees.specs.Substitution.{sub}
+use Rattle.cut_laws.specs.Contraction.{cut_on}
 use Rattle.arena_cells.specs.Standing.{Extends}
 use Rattle.arena_cells.proofs.Staying.{is_formula, is_tree, sequent_stays, term_stays, variable_stays, tree_stays, sequent_there, term_there, variable_there, tree_there}
-use Rattle.arena_cuts.specs.Above.{cut_on}
 use Rattle.arena_cuts.proofs.Stable.{larger, tree_made}
 use Rattle.arena_cuts.proofs.parts.instance_cut.Goals as goal
 

@@ -1,11 +1,9 @@
 -- The upper cut has the formula in its conclusion, and both have the parts that stood before.
-use Rattle.std.proofs.Common.{ap, ◌∙◌}
-use Rattle.lk_rules.specs.Sequents.{adds_to}
-use Rattle.cut_laws.specs.Contraction.{cut}
-use Rattle.arena_cells.specs.Standing.{Extends, sequent_at, formula_at}
+use Rattle.std.proofs.Common.{◌∙◌}
+use Rattle.cut_laws.specs.Contraction.{cut, cut_on}
+use Rattle.arena_cells.specs.Standing.{Extends}
 use Rattle.arena_cells.proofs.Staying.{is_sequent, is_tree, sequent_stays, formula_stays, tree_stays, sequent_there, formula_there, tree_there}
 use Rattle.arena_cells.proofs.Facts as facts
-use Rattle.arena_cuts.specs.Above.{cut_on}
 use Rattle.arena_cuts.proofs.Stable.{larger, tree_made}
 use Rattle.arena_cuts.proofs.parts.two_cuts.Goals as goal
 
@@ -35,7 +33,7 @@ returns-clause-tree c =
     let h = c.requires.upper in
     let grown : Extends a b = c.sequent_with.ensures.grown in
     let whole : Extends a d = larger a b d grown c.put_cut.ensures.grown in
-    let end = is_sequent b c.in_ok-upper_end.upper_end _ c.in_ok-upper_end.ensures.sequent ∙ ap (λ x. adds_to (sequent_at a c.args.end) x (formula_at a c.args.formula)) c.formula_side.ensures in
+    let end = is_sequent b c.in_ok-upper_end.upper_end _ c.in_ok-upper_end.ensures.sequent in
     let upper = is_tree d c.in_ok-proof.proof _ c.in_ok-proof.ensures.tree
     ∙ (λ i. cut (end i) (formula_stays a b grown u.formula h.formula i) (tree_stays a b grown u.left h.left i) (tree_stays a b grown u.right h.right i)) in
     tree_made c.cut_on.result c.cut_on.new.arena _ _
