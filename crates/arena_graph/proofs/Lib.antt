@@ -1,5 +1,7 @@
 pub mod Trees
 pub mod Places
+pub mod Changes
+pub mod Following
 pub mod Larger
 pub mod FormedImages
 pub mod Crossing

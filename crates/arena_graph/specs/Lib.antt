@@ -1,2 +1,5 @@
 pub mod Ranks
+pub mod Changes
+pub mod Places
+pub mod LastSide
 pub mod ProofNumbers

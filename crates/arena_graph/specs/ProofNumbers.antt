@@ -9,6 +9,7 @@ use Rattle.arena_cells.specs.Standing.{HasSide, HasTree}
 use Rattle.arena_graph.specs.declared.proof_numbers.ProofNumbers.{ProofNumbers as Tables}
 use Rattle.proof_trees.specs.Conclusions.{HasFormedEnd}
 use Rattle.arena_graph.specs.Ranks.{AreRanks}
+use Rattle.arena_graph.specs.LastSide.{IsLastSide}
 
 -- the reference is of the graph, and its tree stands at the number
 pub record IsProofAt (g : Graph) (a : List Item) (n : ℕ) (r : Reference) : Type 0 where
@@ -16,9 +17,12 @@ pub record IsProofAt (g : Graph) (a : List Item) (n : ℕ) (r : Reference) : Typ
   pub tree : HasTree a n r.tree
   pub formed : HasFormedEnd r.tree
 
--- each proof of the tables is of the graph, and stands at its number, as does each side; the order of formulas is right
+-- each proof of the tables is of the graph, and stands at its number, as does each side; the order of formulas is right, and so are the
+-- places of the sides that went out last
 pub record AreNumbersOf (g : Graph) (a : List Item) (t : Tables) : Type 0 where
   pub numbers : (q : ℕ) → IfSome (hash.get nat_eq t.numbers q) (λ e. IsProofAt g a e.number e.proof)
   pub proofs : (q : ℕ) → IfSome (hash.get nat_eq t.proofs q) (IsProofAt g a q)
   pub sides : (q : ℕ) → IfSome (hash.get nat_eq t.sides q) (HasSide a q)
   pub ranks : AreRanks a t.ranks
+  pub left : IsLastSide a t.ranks.entries.items t.left
+  pub right : IsLastSide a t.ranks.entries.items t.right

@@ -13,7 +13,7 @@ use crate::leaving::meet;
 use crate::proof_numbers::ProofNumbers;
 use arena::{Arena, Parts};
 use arena_proofs::{end, export_rule, premises, rule};
-use lk_rules::Sequent;
+use lk_rules::{Sequent, Side};
 use proof_graph::{Graph, GraphPass, ProofRef};
 use std::alloc::{AllocError, Global};
 use std::sync::Wait;
@@ -53,8 +53,8 @@ fn export_end(
     ensures numbers_stay { AreNumbersOf graph.now arena.now numbers.new }
 {
     let (left, right) = arena.sides(end);
-    let left = numbers.side(alloc, graph, arena, left)?;
-    let right = numbers.side(alloc, graph, arena, right)?;
+    let left = numbers.side(alloc, graph, arena, Side::Left, left)?;
+    let right = numbers.side(alloc, graph, arena, Side::Right, right)?;
     Ok(Sequent { left, right })
 }
 

@@ -6,9 +6,11 @@
 mod exports;
 mod hints;
 mod imports;
+mod last_side;
 mod leaving;
 mod proof_numbers;
 mod ranks;
+mod rough_order;
 
 pub use exports::export_proof;
 pub use imports::{import_proof, see_formed};

@@ -11,9 +11,10 @@ ghost use Rattle.proof_trees.specs.Conclusions.{HasFormedEnd};
 ghost use Rattle.arena_graph.specs.ProofNumbers.{IsProofAt, AreNumbersOf};
 
 use crate::hints::Hints;
+use crate::last_side::LastSide;
 use crate::ranks::{Ranks, ranked};
 use arena::Arena;
-use lk_rules::Formulas;
+use lk_rules::{Formulas, Side};
 use number_hash::ByNumber;
 use proof_graph::{Graph, ProofRef};
 use std::alloc::{AllocError, Global};
@@ -35,6 +36,8 @@ pub struct ProofNumbers {
     // The sides that went out, so that equal ones share a list.
     sides: HashMap<u32, Formulas, ByNumber>,
     ranks: Ranks,
+    left: LastSide,
+    right: LastSide,
 }
 
 impl ProofNumbers {
@@ -47,6 +50,8 @@ impl ProofNumbers {
             proofs: HashMap::with_hasher(alloc, ByNumber),
             sides: HashMap::with_hasher(alloc, ByNumber),
             ranks: Ranks::new(alloc),
+            left: LastSide::new(alloc),
+            right: LastSide::new(alloc),
         }
     }
 
@@ -83,6 +88,8 @@ impl ProofNumbers {
         ensures { AreNumbersOf graph.now arena.now self.new }
     {
         let _graph = graph;
+        self.left.forget();
+        self.right.forget();
         self.ranks = ranked(alloc, arena, hints, formulas)?;
         Ok(())
     }
@@ -117,6 +124,7 @@ impl ProofNumbers {
         alloc: Global,
         graph: &Graph,
         arena: &Arena,
+        at: Side,
         side: u32,
     ) -> Result<Formulas, AllocError>
         requires numbers { AreNumbersOf graph.now arena.now self.old }
@@ -129,7 +137,10 @@ impl ProofNumbers {
         if let Some(known) = self.sides.get(&side) {
             return known.copy();
         }
-        let made = self.ranks.export_side(alloc, arena, side)?;
+        let made = match at {
+            Side::Left => self.left.export(alloc, arena, &self.ranks, side)?,
+            Side::Right => self.right.export(alloc, arena, &self.ranks, side)?,
+        };
         self.sides.insert(side, made.copy()?)?;
         Ok(made)
     }

@@ -8,4 +8,6 @@ returns c = λ g a. record {
   proofs = search rules;
   sides = search rules;
   ranks = c.new.ensures a;
+  left = c.new-2.ensures a _;
+  right = c.new-3.ensures a _;
 }
