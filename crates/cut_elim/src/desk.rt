@@ -17,7 +17,7 @@ use std::alloc::{AllocError, Global};
 use std::sync::Wait;
 
 /// What elimination works on: a bench, and the table of the eliminations in its proofs. Threads share it, each with a pass of its own. It
-/// can't be dropped, and is ended by `close`.
+/// can't be dropped, and is ended by `close` or `leave`.
 pub struct Desk {
     bench: Bench,
     eliminations: Memo<Eliminations>,
@@ -123,6 +123,22 @@ impl Desk {
         } = pass;
         eliminations.close(rt, eliminations_pass);
         bench.close(rt, bench_pass);
+    }
+
+    /// Ends the desk as `close` does, but gives no memory back: for a process that ends next, which the system takes all memory from.
+    pub fn leave<R: Wait>(self, rt: &R, pass: DeskPass)
+        requires { IsDeskPassOf self pass }
+    {
+        let Desk {
+            bench,
+            eliminations,
+        } = self;
+        let DeskPass {
+            bench: bench_pass,
+            eliminations: eliminations_pass,
+        } = pass;
+        eliminations.leave(rt, eliminations_pass);
+        bench.leave(rt, bench_pass);
     }
 
     /// The bench.

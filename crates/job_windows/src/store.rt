@@ -18,12 +18,13 @@ use job_workers::{Gate, Need, Task, run_window};
 use operations::{Held, base_name, name_at};
 use reply_lines::Outcome;
 use std::alloc::{AllocError, Global};
+use std::mem::forget;
 use std::sync::Wait;
 use std::thread::Threads;
 use text_tables::FormulaTexts;
 
 /// The proofs of a session: the desk with the graph that they share, the names of jobs, and what each job holds, in their order. It can't be
-/// dropped, and is ended by `close`.
+/// dropped, and is ended by `close` or `leave`.
 pub struct Store {
     pub desk: Desk,
     pub pass: DeskPass,
@@ -56,6 +57,21 @@ impl Store {
             held: _held,
         } = self;
         desk.close(rt, pass);
+    }
+
+    /// Ends the store as `close` does, but gives no memory back: for a process that ends next, which the system takes all memory from.
+    pub fn leave<R: Wait>(self, rt: &R)
+        requires { HasPass self }
+    {
+        let Store {
+            desk,
+            pass,
+            names,
+            held,
+        } = self;
+        desk.leave(rt, pass);
+        forget(names);
+        forget(held);
     }
 
     // What stands for the job at a place: what it holds, or its task in the window.

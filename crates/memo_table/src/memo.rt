@@ -9,6 +9,7 @@ ghost use Rattle.memo_table.specs.Memos.{home_of, IsPassOf};
 use crate::law::Law;
 use crate::rows::Rows;
 use std::alloc::{AllocError, Global};
+use std::mem::forget;
 use std::sync::Wait;
 use turn_log::{Pass, TurnLog};
 
@@ -17,7 +18,7 @@ pub struct MemoOf<G> {
     log: G,
 }
 
-/// A table of pairs that are true at one home. It can't be dropped: it is ended by `close`.
+/// A table of pairs that are true at one home. It can't be dropped: it is ended by `close` or `leave`.
 pub type Memo<L> = MemoOf<TurnLog<Rows<L>>>;
 
 /// The right of one thread to look up and to note, with the list of pairs that it has seen.
@@ -110,5 +111,13 @@ impl<L: Law> MemoOf<TurnLog<Rows<L>>> {
     {
         let MemoOf { log } = self;
         drop(log.close(rt, pass));
+    }
+
+    /// Ends the table as `close` does, but gives no memory back: for a process that ends next, which the system takes all memory from.
+    pub fn leave<R: Wait>(self, rt: &R, pass: MemoPass<L>)
+        requires { IsPassOf self pass }
+    {
+        let MemoOf { log } = self;
+        forget(log.close(rt, pass));
     }
 }

@@ -22,11 +22,12 @@ use crate::reference::{Draft, ProofRef};
 use crate::tree::Nodes;
 use lk_rules::{Numbers, Rule, Sequent};
 use std::alloc::{AllocError, Global};
+use std::mem::forget;
 use std::sync::Wait;
 use turn_log::{Pass, TurnLog};
 
 /// A graph: proofs as shared trees, in which each node stands once. It only grows, and what stands at a number stays. Threads share it:
-/// each puts nodes in by a pass of its own. It can't be dropped, and is ended by `close`.
+/// each puts nodes in by a pass of its own. It can't be dropped, and is ended by `close` or `leave`.
 pub struct Graph {
     nodes: Nodes,
     // Threads that wait for a turn read what stands behind, and each turn writes the counters of the nodes: so they lie in other lines of
@@ -171,6 +172,21 @@ impl Graph {
         let GraphPass { pass } = pass;
         drop(index.close(rt, pass));
         drop(nodes);
+    }
+
+    /// Ends the graph as `close` does, but gives no memory back: for a process that ends next, which the system takes all memory from. To give
+    /// each node back takes a tenth of the time in which it was made.
+    pub fn leave<R: Wait>(self, rt: &R, pass: GraphPass)
+        requires { IsPassOf self pass }
+    {
+        let Graph {
+            nodes,
+            apart: _,
+            index,
+        } = self;
+        let GraphPass { pass } = pass;
+        forget(index.close(rt, pass));
+        forget(nodes);
     }
 
     /// The root of the tree that the reference means, with the numbers of its premises.

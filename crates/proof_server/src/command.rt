@@ -7,6 +7,7 @@ ghost use Rattle.proof_server.specs.Generating.{Generates};
 use crate::ending::Ended;
 use crate::generating::generate;
 use crate::serving::serve_session;
+use crate::session::Storage;
 use command_words::{WordsError, read_words};
 use edge_io::{Sink, Source, write_whole};
 use job_workers::Gate;
@@ -61,7 +62,7 @@ pub fn serve<R: Wait + Threads + Sync, S: Source, K: Sink, G: Gate>(
     ensures complete { IsComplete result (S.faults source.old) (S.faults source.new) (K.faults sink.old) (K.faults sink.new)
         (S.left source.old) }
 {
-    status(serve_session(rt, alloc, source, sink, gate, workers))
+    status(serve_session(rt, alloc, source, sink, gate, workers, Storage::Freed))
 }
 
 /// Serves the source or runs generated jobs, as the words ask.
@@ -88,7 +89,15 @@ fn run<R: Wait + Threads + Sync, S: Source, K: Sink, G: Gate>(
         Err(WordsError::Memory) => return status(Ended::Memory),
     };
     match settings.generate {
-        None => serve(rt, alloc, source, sink, gate, settings.workers),
+        None => status(serve_session(
+            rt,
+            alloc,
+            source,
+            sink,
+            gate,
+            settings.workers,
+            Storage::Left,
+        )),
         Some(n) => status(generate(rt, alloc, sink, gate, settings.workers, n)),
     }
 }
@@ -110,7 +119,8 @@ fn run<R: Wait + Threads + Sync, S: Source, K: Sink, G: Gate>(
 /// counts alone are written: one line of JSON with the bytes of the reply lines, the number of jobs, of Ok replies, of the reductions that
 /// the replies to cut eliminations tell of, and of errors. The statuses are 0, 1, 4 and 5, and 5 is also that of a job that lacks memory.
 ///
-/// A status above 1 is noted on `notes` by one line. A failed write there changes no status.
+/// A status above 1 is noted on `notes` by one line. A failed write there changes no status. The memory that the session had isn't given
+/// back, as the process ends next.
 pub fn top<R: Wait + Threads + Sync, S: Source, K: Sink, E: Sink, G: Gate>(
     rt: &R,
     alloc: Global,

@@ -8,7 +8,7 @@ ghost use Rattle.proof_server.specs.Generating.{AreCounts, EndsCounting};
 
 use crate::counts::{Counts, counts_line};
 use crate::ending::Ended;
-use crate::session::Session;
+use crate::session::{Session, Storage};
 use edge_io::{NeverSink, Sink, write_whole};
 use job_gen::generate_line;
 use job_gen::laws::lines;
@@ -70,13 +70,14 @@ fn generated_counts<R: Wait + Threads + Sync, G: Gate>(
 {
     let mut session = Session::new(rt, alloc, workers)?;
     let counts = count_replies(&mut session, rt, alloc, gate, n);
-    session.close(rt);
+    session.end(rt, Storage::Left);
     let counts = counts?;
     let line = counts_line(alloc, counts)?;
     Ok((counts, line))
 }
 
-/// Runs n generated jobs by so many workers at most, and writes the line of counts of their replies, which are written nowhere.
+/// Runs n generated jobs by so many workers at most, and writes the line of counts of their replies, which are written nowhere. The process
+/// ends next, so that the session's memory is left.
 pub fn generate<R: Wait + Threads + Sync, K: Sink, G: Gate>(
     rt: &R,
     alloc: Global,

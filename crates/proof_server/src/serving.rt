@@ -6,7 +6,7 @@ ghost use Rattle.job_windows.specs.Means.{HasPass};
 ghost use Rattle.proof_server.specs.Turn.{ended_of, IsAt};
 
 use crate::ending::Ended;
-use crate::session::{Session, Stop};
+use crate::session::{Session, Stop, Storage};
 use edge_io::{LineReader, Next, Sink, Source, next_line};
 use job_workers::Gate;
 use session_laws::laws::{held_proofs, replies};
@@ -73,7 +73,8 @@ fn serve_lines<R: Wait + Threads + Sync, S: Source, K: Sink, G: Gate>(
     }
 }
 
-/// A whole session, by so many workers at most: every job of the source gets its reply on the sink, in order.
+/// A whole session, by so many workers at most: every job of the source gets its reply on the sink, in order. In the end its memory is given
+/// back or left.
 pub fn serve_session<R: Wait + Threads + Sync, S: Source, K: Sink, G: Gate>(
     rt: &R,
     alloc: Global,
@@ -81,6 +82,7 @@ pub fn serve_session<R: Wait + Threads + Sync, S: Source, K: Sink, G: Gate>(
     sink: &mut K,
     gate: &G,
     workers: u64,
+    storage: Storage,
 ) -> Ended
     ensures ends { Ends result max_input (S.faults source.old) (S.faults source.new) (K.faults sink.old) (K.faults sink.new)
         (S.left source.old) (S.left source.new) (K.written sink.old) (K.written sink.new) (K.flushed sink.new) }
@@ -94,6 +96,6 @@ pub fn serve_session<R: Wait + Threads + Sync, S: Source, K: Sink, G: Gate>(
         Err(_) => return Ended::Memory,
     };
     let ended = serve_lines(rt, alloc, &mut reader, &mut session, source, sink, gate);
-    session.close(rt);
+    session.end(rt, storage);
     ended
 }

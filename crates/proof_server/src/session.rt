@@ -26,7 +26,7 @@ const MOST_JOBS: usize = 64;
 const MOST_BYTES: u64 = 16_777_216;
 
 /// Where a session stands: how many jobs it has answered, what they hold, the jobs of its window and the bytes of their lines, the texts
-/// that were read and printed, and what is counted of the replies. It can't be dropped, and is ended by `close`.
+/// that were read and printed, and what is counted of the replies. It can't be dropped, and is ended by `end`.
 pub struct Session {
     pub workers: u64,
     pub count: u64,
@@ -37,6 +37,15 @@ pub struct Session {
     pub counts: Counts,
     pub good: bool,
     pub lacked: bool,
+}
+
+/// What becomes of the memory that a session has when it ends.
+#[derive(Clone, Copy)]
+pub enum Storage {
+    /// It is given back, piece by piece.
+    Freed,
+    /// It is left to the system, by a process that ends next.
+    Left,
 }
 
 /// Why a session can't go on.
@@ -102,7 +111,7 @@ impl Session {
     }
 
     /// Ends the session with its store.
-    pub fn close<R: Wait>(self, rt: &R)
+    pub fn end<R: Wait>(self, rt: &R, storage: Storage)
         requires { HasPass self.store }
     {
         let Session {
@@ -111,12 +120,21 @@ impl Session {
             store,
             window: _window,
             bytes: _bytes,
-            texts: _texts,
+            texts,
             counts: _counts,
             good: _good,
             lacked: _lacked,
         } = self;
-        store.close(rt);
+        match storage {
+            Storage::Freed => {
+                store.close(rt);
+                drop(texts);
+            }
+            Storage::Left => {
+                store.leave(rt);
+                mem::forget(texts);
+            }
+        }
     }
 
     /// Takes a line in, `None` for one that is too long: a job is gathered into the window, and an empty line closes it, as do the last job

@@ -13,10 +13,11 @@ use arena_graph::ProofNumbers;
 use memo_table::{Memo, MemoPass};
 use proof_graph::{Graph, GraphPass};
 use std::alloc::{AllocError, Global};
+use std::mem::forget;
 use std::sync::Wait;
 
 /// What the transformations of proofs work on: the graph of checked proofs, and the table of their images under maps. Threads share it, each
-/// with a pass of its own. It can't be dropped, and is ended by `close`.
+/// with a pass of its own. It can't be dropped, and is ended by `close` or `leave`.
 pub struct Bench {
     pub(crate) graph: Graph,
     pub(crate) images: Memo<Images>,
@@ -118,6 +119,23 @@ impl Bench {
         } = pass;
         images.close(rt, images_pass);
         graph.close(rt, graph_pass);
+    }
+
+    /// Ends the bench as `close` does, but gives no memory back: for a process that ends next, which the system takes all memory from.
+    pub fn leave<R: Wait>(self, rt: &R, pass: BenchPass)
+        requires { IsBenchPassOf self pass }
+    {
+        let Bench { graph, images } = self;
+        let BenchPass {
+            graph: graph_pass,
+            images: images_pass,
+            arena,
+            numbers,
+        } = pass;
+        images.leave(rt, images_pass);
+        graph.leave(rt, graph_pass);
+        forget(arena);
+        forget(numbers);
     }
 
     /// The graph.
