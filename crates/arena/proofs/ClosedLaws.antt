@@ -59,7 +59,7 @@ parted_test p q (n ∷ ns) =
       | false ↦ or_assoc (q n) (list_any q (filter (λ k. not (p k)) ns)) (list_any q (filter p ns)) ∙ ap (λ b. q n || b) (parted_test p q ns)
     ]
 
-not_true : (b : Bool) → not b ≡ true → b ≡ false
+pub not_true : (b : Bool) → not b ≡ true → b ≡ false
 not_true true h = cc
 not_true false h = refl
 

@@ -14,3 +14,5 @@ pub mod Crossing
 pub mod ClosedLaws
 pub mod Entries
 pub mod Runs
+pub mod OpenLaws
+pub mod Pushing

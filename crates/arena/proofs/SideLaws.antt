@@ -1,10 +1,10 @@
 -- Sets of formulas by the lists that show them.
-use Rattle.std.proofs.Common.{◌≡◌, ℕ, ◌+◌, ◌<◌, Bool, true, false, ◌||◌, List, [], ◌∷◌, ◌++◌, map, take, length, get_or, append-nil, append_assoc, refl, sym, ap, ◌∙◌}
+use Rattle.std.proofs.Common.{◌≡◌, ℕ, ◌+◌, ◌<◌, Bool, true, false, ◌||◌, List, [], ◌∷◌, ◌++◌, map, take, drop, length, get_or, append-nil, append_assoc, refl, sym, ap, ◌∙◌, arith}
 use Rattle.std.specs.Prelude.{Some}
 use Rattle.std.specs.FinMap as fin
 use Rattle.std.specs.List.{All, list_all, list_any}
 use Rattle.std.specs.Ordering.{eq_by_cmp}
-use Rattle.std.proofs.lemmas.List.{map-append, take_more}
+use Rattle.std.proofs.lemmas.List.{map-append, take_more, get_or-drop}
 use Rattle.std.proofs.lemmas.List.Elements.{All-weaker, All-push}
 use Rattle.std.proofs.lemmas.List.Folds.{list_any-append}
 use Rattle.std.proofs.lemmas.List.Sums.{AllPass-from_list_all}
@@ -99,6 +99,12 @@ formed_members fs h =
 
 pub map_taken : (g : ℕ → Formula) (ns : List ℕ) (i d : ℕ) → i < length ns → map g (take (i + 1) ns) ≡ map g (take i ns) ++ g (get_or ns i d) ∷ []
 map_taken g ns i d within = ap (map g) (take_more ns i d within) ∙ map-append g (take i ns) (get_or ns i d ∷ [])
+
+-- lists that go on alike have the same number there
+pub same_at : (xs ys : List ℕ) (i d : ℕ) → drop i xs ≡ drop i ys → get_or xs i d ≡ get_or ys i d
+same_at xs ys i d e =
+    let here : i + 0 ≡ i = omega arith in
+    ap (λ (k : ℕ). get_or xs k d) (sym here) ∙ sym (get_or-drop i xs 0 d) ∙ ap (λ (zs : List ℕ). get_or zs 0 d) e ∙ get_or-drop i ys 0 d ∙ ap (λ (k : ℕ). get_or ys k d) here
 
 -- the variables of a sequent are those of its sides
 pub vars_of_sequent : (e : Sequent) → union_of (vars_side e.left) (vars_side e.right) ≡ vars_sequent e

@@ -1,7 +1,7 @@
 //! Sets of formulas.
-ghost use Rattle.std.specs.Prelude.{◌≡◌, not, ◌&&◌, map as each, true, IfOk};
+ghost use Rattle.std.specs.Prelude.{◌≡◌, ◌≤◌, ◌<◌, ◌++◌, not, ◌&&◌, length, take, get_or, map as each, true, IfOk};
 ghost use Rattle.std.specs.FinMap as fin;
-ghost use Rattle.std.specs.List.{All, filter, list_all};
+ghost use Rattle.std.specs.List.{All, filter, list_all, slice_range};
 ghost use Rattle.std.specs.Ordering.{eq_by_cmp};
 ghost use Rattle.fol.specs.Syntax.{Formula as Sentence};
 ghost use Rattle.fol.specs.Order.{formula_cmp};
@@ -19,7 +19,7 @@ ghost use Rattle.arena.specs.Lists.{is_closed_at, is_open_at};
 use crate::arena::Arena;
 use crate::lists::{distinct, joined, joined_with, with, without};
 use crate::task::Task;
-use arena_cells::Key;
+use arena_cells::{Key, Numbers};
 use fol::Formula;
 use lk_rules::Formulas;
 use std::alloc::{AllocError, Global};
@@ -151,22 +151,23 @@ impl Arena {
         Formulas::from_vec(alloc, list)
     }
 
-    // The images of the formulas at the numbers.
+    // The images of the formulas at the numbers, whose places they take.
     fn image_each(
         &mut self,
         alloc: Global,
         map: u32,
-        numbers: &[u32],
+        numbers: Vec<u32>,
     ) -> Result<Vec<u32>, AllocError>
         requires map { IsMapAt self.old map }
-        requires formulas { All (IsFormulaAt self.old) numbers.now }
-        ensures images { IfOk result (λ images. each (formula_at self.new) images.items ≡ each (image_of (fin.get (map_at self.old map))) (each (formula_at self.old) numbers.now)) }
+        requires formulas { All (IsFormulaAt self.old) numbers.items }
+        ensures images { IfOk result (λ images. each (formula_at self.new) images.items ≡ each (image_of (fin.get (map_at self.old map))) (each (formula_at self.old) numbers.items)) }
         ensures there { IfOk result (λ images. All (IsFormulaAt self.new) images.items) }
         ensures grown { Extends self.old self.new }
     {
-        let mut images = Vec::with_capacity(alloc, numbers.len())?;
-        for number in numbers {
-            images.push(self.image(alloc, map, *number)?)?;
+        let mut images = numbers;
+        for place in 0..images.len() {
+            let image = self.image(alloc, map, images[place])?;
+            images[place] = image;
         }
         Ok(images)
     }
@@ -192,6 +193,35 @@ impl Arena {
         Ok(number)
     }
 
+    // Whether no variable is free in the formula. Where its variables are kept, they are none exactly where they are the set of none.
+    fn is_closed(&self, formula: u32) -> bool
+        requires { IsFormulaAt self.now formula }
+        ensures { result ≡ is_closed_at self.now formula }
+    {
+        self.known();
+        match (self.known_vars(formula), self.known_no_variable()) {
+            (Some(vars), Some(none)) => vars == none,
+            _ => !self.has_free(formula),
+        }
+    }
+
+    // The place of the first formula from a place on that isn't closed.
+    fn skip_closed(&self, numbers: &[u32], start: usize) -> usize
+        requires formulas { All (IsFormulaAt self.now) numbers.now }
+        requires start { start ≤ length numbers.now }
+        ensures forward { start ≤ result }
+        ensures within { result ≤ length numbers.now }
+        ensures closed { filter (is_closed_at self.now) (take result numbers.now) ≡ filter (is_closed_at self.now) (take start numbers.now) ++ slice_range numbers.now start result }
+        ensures others { filter (is_open_at self.now) (take result numbers.now) ≡ filter (is_open_at self.now) (take start numbers.now) }
+        ensures open { result < length numbers.now → is_open_at self.now (get_or numbers.now result 0) ≡ true }
+    {
+        let mut place = start;
+        while place < numbers.len() && self.is_closed(numbers[place]) {
+            place += 1;
+        }
+        place
+    }
+
     // The closed formulas of a list and the others, in its order.
     fn closed_and_others(
         &self,
@@ -205,14 +235,14 @@ impl Arena {
         let mut closed = Vec::with_capacity(alloc, numbers.len())?;
         let mut others = Vec::with_capacity(alloc, numbers.len())?;
         let mut start = 0;
-        for (place, number) in numbers.iter().enumerate() {
-            if self.has_free(*number) {
-                closed.extend_from_slice(&numbers[start..place])?;
-                others.push(*number)?;
-                start = place + 1;
+        while start < numbers.len() {
+            let place = self.skip_closed(numbers, start);
+            closed.extend_from_slice(&numbers[start..place])?;
+            if place < numbers.len() {
+                others.push(numbers[place])?;
             }
+            start = place + 1;
         }
-        closed.extend_from_slice(&numbers[start..])?;
         Ok((closed, others))
     }
 
@@ -224,7 +254,7 @@ impl Arena {
         ensures grown { Extends self.old self.new }
     {
         let (closed, others) = self.closed_and_others(alloc, self.side_numbers(side))?;
-        let images = self.image_each(alloc, map, &others)?;
+        let images = self.image_each(alloc, map, others)?;
         let numbers = joined_with(alloc, closed, images)?;
         self.put(alloc, Key::Side(numbers))
     }
@@ -271,13 +301,25 @@ impl Arena {
         Ok(number)
     }
 
+    // Another owner of the rising numbers of a set's formulas, which stays while the arena grows.
+    fn numbers_of_side(&self, side: u32) -> Result<Numbers, AllocError>
+        requires { IsSideAt self.now side }
+        ensures rising { IfOk result (AreRisingFormulas self.now) }
+        ensures shown { IfOk result (λ numbers. side_at self.now side ≡ formulas_of self.now numbers) }
+    {
+        match self.key(side) {
+            Key::Side(numbers) => numbers.copy(),
+            _ => unreachable!(),
+        }
+    }
+
     // The free variables of a set's formulas, formula by formula.
     fn vars_of_members(&mut self, alloc: Global, side: u32) -> Result<u32, AllocError>
         requires { IsSideAt self.old side }
         ensures set { IfOk result (λ n. HasVariables self.new n (vars_side (side_at self.old side))) }
         ensures grown { Extends self.old self.new }
     {
-        let numbers = Vec::from_slice(alloc, self.side_numbers(side))?;
-        self.vars_of_each(alloc, &numbers)
+        let numbers = self.numbers_of_side(side)?;
+        self.vars_of_each(alloc, numbers.as_slice())
     }
 }

@@ -1,11 +1,9 @@
 -- How often the elements of a list pass a test, in lists with elements that come and go.
 use Rattle.std.proofs.Common.{◌≡◌, ℕ, zero, suc, ◌+◌, ◌<◌, ◌≤◌, Bool, true, false, not, ◌||◌, List, [], ◌∷◌, ◌++◌, length, get_or, take, drop, Ok, Err, Result, refl, sym, ap, ◌∙◌, arith}
-use Rattle.std.specs.declared.cmp.Ordering.{Ordering}
 use Rattle.std.specs.declared.cmp.Ordering.TheVariants.{Less, Equal, Greater}
 use Rattle.std.specs.FinMap as fin
 use Rattle.std.specs.List.{All, list_any, insert, remove}
 use Rattle.std.specs.Ordering.{nat_cmp, eq_by_cmp}
-use Rattle.std.specs.Cmp.{Equal-is}
 use Rattle.std.proofs.lemmas.Cmp.{nat_cmp_total}
 use Rattle.std.proofs.lemmas.List.{take_more, take-append-drop}
 use Rattle.std.proofs.lemmas.List.Elements.{All-head, All-tail}
@@ -14,6 +12,8 @@ use Rattle.finite.specs.Place.{place, place_by, later}
 use Rattle.finite.proofs.Rising.{head_below, tail_rises, below_none}
 use Rattle.arena.proofs.SetLaws.{one_passes, among}
 use Rattle.arena_graph.specs.Changes.{differ, is_odd, AreChanges}
+use Rattle.arena_graph.specs.Runs.{IsSameRun}
+use Rattle.arena_graph.proofs.SameRuns.{take_both}
 
 pub differ-false : (a : Bool) → differ a false ≡ a
 differ-false true = refl
@@ -96,6 +96,15 @@ module _ (changes old new : List ℕ) (i j : ℕ) (so_far : AreChanges changes (
       ∙ differ_last (is_odd p (take i old)) (is_odd p changes) (p (get_or old i 0))
       ∙ ap (λ b. differ b (is_odd p changes)) (sym (is_odd_more p old i within))
 
+  -- a run of numbers that stay
+  pub more_stay : (n : ℕ) → IsSameRun (drop i old) (drop j new) n → AreChanges changes (take (i + n) old) (take (j + n) new)
+  more_stay n run p =
+      let s = is_odd p (take n (drop i old)) in
+      ap (is_odd p) (take_both j n new) ∙ is_odd-append p (take j new) (take n (drop j new))
+      ∙ (λ k. differ (so_far p k) (is_odd p (sym run.same k)))
+      ∙ differ_last (is_odd p (take i old)) (is_odd p changes) s
+      ∙ ap (λ b. differ b (is_odd p changes)) (sym (is_odd-append p (take i old) (take n (drop i old))) ∙ ap (is_odd p) (sym (take_both i n old)))
+
   -- what is left of both lists goes and comes
   pub all_changes : AreChanges ((changes ++ drop i old) ++ drop j new) old new
   all_changes p =
@@ -108,6 +117,10 @@ module _ (changes old new : List ℕ) (i j : ℕ) (so_far : AreChanges changes (
       ∙ differ-assoc (differ o d) (differ c d) e
       ∙ (λ k. differ (sym (is_odd-append p (take i old) (drop i old)) k) (differ (sym (is_odd-append p changes (drop i old)) k) e))
       ∙ (λ k. differ (is_odd p (take-append-drop i old k)) (sym (is_odd-append p (changes ++ drop i old) (drop j new)) k))
+
+-- no change in a run of numbers that stay
+pub none_change : (old new : List ℕ) (n : ℕ) → IsSameRun old new n → AreChanges [] (take n old) (take n new)
+none_change old new n run p = ap (is_odd p) (sym run.same) ∙ sym (differ-false (is_odd p (take n old)))
 
 -- without the element at a place
 pub is_odd-remove : (p : ℕ → Bool) (xs : List ℕ) (i d : ℕ) → i < length xs → is_odd p (remove xs i) ≡ differ (p (get_or xs i d)) (is_odd p xs)

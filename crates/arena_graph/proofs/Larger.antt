@@ -1,7 +1,6 @@
 -- What tables say stays right in a larger arena.
 use Rattle.std.proofs.Common.{ℕ, List, Some, None, IfSome, sym, subst}
-use Rattle.std.specs.Prelude.{Option, nat_eq}
-use Rattle.std.specs.HashMap as hash
+use Rattle.std.specs.Prelude.{Option}
 use Rattle.std.proofs.lemmas.List.Elements.{All-weaker}
 use Rattle.proof_graph.specs.declared.graph.Graph.{Graph}
 use Rattle.proof_graph.specs.References.{Reference}
@@ -43,9 +42,8 @@ last_stays a b grown es l h = if_some_weaker l.side (IsPlacedSide a es l.places.
 
 pub numbers_stay : (g : Graph) (a b : List Item) (t : Tables) → AreNumbersOf g a t → Extends a b → AreNumbersOf g b t
 numbers_stay g a b t h grown = record {
-  numbers = λ q. if_some_weaker (hash.get nat_eq t.numbers q) (λ e. IsProofAt g a e.number e.proof) (λ e. IsProofAt g b e.number e.proof) (λ e. proof_stays g a b grown e.number e.proof) (h.numbers q);
-  proofs = λ q. if_some_weaker (hash.get nat_eq t.proofs q) (IsProofAt g a q) (IsProofAt g b q) (proof_stays g a b grown q) (h.proofs q);
-  sides = λ q. if_some_weaker (hash.get nat_eq t.sides q) (HasSide a q) (HasSide b q) (λ s. grown q _) (h.sides q);
+  proofs = All-weaker (λ e. IsProofAt g a e.number e.proof) (λ e. IsProofAt g b e.number e.proof) (λ e. proof_stays g a b grown e.number e.proof) t.proofs.items h.proofs;
+  sides = All-weaker (λ e. HasSide a e.number e.formulas) (λ e. HasSide b e.number e.formulas) (λ e. grown e.number _) t.sides.items h.sides;
   ranks = ranks_stay a b grown t.ranks h.ranks;
   left = last_stays a b grown t.ranks.entries.items t.left h.left;
   right = last_stays a b grown t.ranks.entries.items t.right h.right;

@@ -1,6 +1,7 @@
 pub mod Trees
 pub mod Places
 pub mod Changes
+pub mod SameRuns
 pub mod Following
 pub mod Larger
 pub mod FormedImages

@@ -1,6 +1,6 @@
 -- What tables say of the proofs of a graph that stand at numbers of an arena.
-use Rattle.std.specs.Prelude.{ℕ, nat_eq, List, IfSome}
-use Rattle.std.specs.HashMap as hash
+use Rattle.std.specs.Prelude.{ℕ, List}
+use Rattle.std.specs.List.{All}
 use Rattle.proof_graph.specs.declared.graph.Graph.{Graph}
 use Rattle.proof_graph.specs.Graphs.{IsOf}
 use Rattle.proof_graph.specs.References.{Reference}
@@ -20,9 +20,8 @@ pub record IsProofAt (g : Graph) (a : List Item) (n : ℕ) (r : Reference) : Typ
 -- each proof of the tables is of the graph, and stands at its number, as does each side; the order of formulas is right, and so are the
 -- places of the sides that went out last
 pub record AreNumbersOf (g : Graph) (a : List Item) (t : Tables) : Type 0 where
-  pub numbers : (q : ℕ) → IfSome (hash.get nat_eq t.numbers q) (λ e. IsProofAt g a e.number e.proof)
-  pub proofs : (q : ℕ) → IfSome (hash.get nat_eq t.proofs q) (IsProofAt g a q)
-  pub sides : (q : ℕ) → IfSome (hash.get nat_eq t.sides q) (HasSide a q)
+  pub proofs : All (λ e. IsProofAt g a e.number e.proof) t.proofs.items
+  pub sides : All (λ e. HasSide a e.number e.formulas) t.sides.items
   pub ranks : AreRanks a t.ranks
   pub left : IsLastSide a t.ranks.entries.items t.left
   pub right : IsLastSide a t.ranks.entries.items t.right

@@ -13,6 +13,7 @@ ghost use Rattle.arena_graph.specs.Places.{ArePlaces, ArePlacesOf};
 ghost use Rattle.arena_graph.specs.LastSide.{IsPlacedSide, IsLastSide, DoFollow};
 
 use crate::ranks::Ranks;
+use crate::runs::same_run;
 use arena::Arena;
 use lk_rules::Formulas;
 use std::alloc::{AllocError, Global};
@@ -34,8 +35,8 @@ fn find_changes(changes: &mut Vec<u32>, old: &[u32], new: &[u32]) -> Result<(), 
     ensures { IfOk result (λ _. AreChanges changes.new.items old.now new.now) }
 {
     changes.clear();
-    let mut i = 0;
-    let mut j = 0;
+    let mut i = same_run(old, new);
+    let mut j = i;
     while i < old.len() && j < new.len() {
         match old[i].cmp(&new[j]) {
             Ordering::Less => {
@@ -43,8 +44,9 @@ fn find_changes(changes: &mut Vec<u32>, old: &[u32], new: &[u32]) -> Result<(), 
                 i += 1;
             }
             Ordering::Equal => {
-                i += 1;
-                j += 1;
+                let run = 1 + same_run(&old[i + 1..], &new[j + 1..]);
+                i += run;
+                j += run;
             }
             Ordering::Greater => {
                 changes.push(new[j])?;

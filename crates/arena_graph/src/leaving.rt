@@ -6,24 +6,30 @@ ghost use Rattle.arena_cells.specs.Meaning.{HasPremises, ArePartsBelow};
 
 use crate::hints::Hints;
 use crate::proof_numbers::ProofNumbers;
+use crate::runs::same_run;
 use arena::{Arena, Parts};
 use arena_proofs::{end, premises};
+use lk_rules::Side;
 use std::alloc::{AllocError, Global};
+use std::mem;
 
-/// The numbers that were met in a walk, with hints where they stand, and among them those of formulas.
+/// The numbers that were met in a walk, with hints where they stand, and among them those of formulas. Of the sides that were met last the
+/// formulas are kept: the next one mostly has nearly the same.
 #[derive(Drop)]
-pub(crate) struct Met {
+pub(crate) struct Met<'a> {
     pub hints: Hints,
     pub formulas: Vec<u32>,
     numbers: Vec<u32>,
+    left: &'a [u32],
+    right: &'a [u32],
 }
 
-impl Met {
-    // Whether the number is met for the first time.
-    fn is_new(&mut self, number: u32) -> Result<bool, AllocError>
+impl<'a> Met<'a> {
+    // Whether the number, which may stand at the place, is met for the first time.
+    fn is_new(&mut self, place: usize, number: u32) -> Result<bool, AllocError>
         ensures { self.new.formulas ≡ self.old.formulas }
     {
-        match self.numbers.get(self.hints.get(number)) {
+        match self.numbers.get(place) {
             Some(met) if *met == number => return Ok(false),
             _ => {}
         }
@@ -39,31 +45,70 @@ impl Met {
         ensures { All (IsFormulaAt arena.now) self.new.formulas.items }
     {
         let _arena = arena;
-        if self.is_new(formula)? {
+        let place = self.hints.get(formula);
+        if self.is_new(place, formula)? {
             self.formulas.push(formula)?;
         }
         Ok(())
     }
 
-    // The formulas of a side are met.
-    fn meet_side(&mut self, arena: &Arena, side: u32) -> Result<(), AllocError>
+    // The formulas of a list are met but for those of the last one, by one walk over both.
+    fn meet_others(
+        &mut self,
+        arena: &Arena,
+        last: &[u32],
+        formulas: &[u32],
+    ) -> Result<(), AllocError>
+        requires formulas { All (IsFormulaAt arena.now) formulas.now }
+        requires met { All (IsFormulaAt arena.now) self.old.formulas.items }
+        ensures { All (IsFormulaAt arena.now) self.new.formulas.items }
+    {
+        let mut i = same_run(last, formulas);
+        let mut j = i;
+        while j < formulas.len() {
+            if i < last.len() && last[i] < formulas[j] {
+                i += 1;
+            } else if i < last.len() && last[i] == formulas[j] {
+                let run = 1 + same_run(&last[i + 1..], &formulas[j + 1..]);
+                i += run;
+                j += run;
+            } else {
+                self.meet_formula(arena, formulas[j])?;
+                j += 1;
+            }
+        }
+        Ok(())
+    }
+
+    // The formulas of a side are met, but for a side that went out.
+    fn meet_side(
+        &mut self,
+        arena: &'a Arena,
+        numbers: &ProofNumbers,
+        at: Side,
+        side: u32,
+    ) -> Result<(), AllocError>
         requires side { IsSideAt arena.now side }
         requires met { All (IsFormulaAt arena.now) self.old.formulas.items }
         ensures { All (IsFormulaAt arena.now) self.new.formulas.items }
     {
-        if self.is_new(side)? {
-            for formula in arena.side_numbers(side) {
-                self.meet_formula(arena, *formula)?;
-            }
+        let place = self.hints.get(side);
+        if numbers.has_side(place, side) || !self.is_new(place, side)? {
+            return Ok(());
         }
-        Ok(())
+        let formulas = arena.side_numbers(side);
+        let last = match at {
+            Side::Left => mem::replace(&mut self.left, formulas),
+            Side::Right => mem::replace(&mut self.right, formulas),
+        };
+        self.meet_others(arena, last, formulas)
     }
 
     // The formulas of a sequent are met, but for those of sides that went out.
     #[tactic(auto, using(arena_cells::proofs::Facts::sequents))]
     fn meet_sequent(
         &mut self,
-        arena: &Arena,
+        arena: &'a Arena,
         numbers: &ProofNumbers,
         sequent: u32,
     ) -> Result<(), AllocError>
@@ -72,13 +117,8 @@ impl Met {
         ensures { All (IsFormulaAt arena.now) self.new.formulas.items }
     {
         let (left, right) = arena.sides(sequent);
-        if !numbers.has_side(left) {
-            self.meet_side(arena, left)?;
-        }
-        if !numbers.has_side(right) {
-            self.meet_side(arena, right)?;
-        }
-        Ok(())
+        self.meet_side(arena, numbers, Side::Left, left)?;
+        self.meet_side(arena, numbers, Side::Right, right)
     }
 
     // The formulas of a tree's sequents are met, but for those of trees that went out.
@@ -86,7 +126,7 @@ impl Met {
     #[tactic(auto, using(arena_cells::proofs::Facts::trees))]
     fn meet_tree(
         &mut self,
-        arena: &Arena,
+        arena: &'a Arena,
         numbers: &ProofNumbers,
         proof: u32,
     ) -> Result<(), AllocError>
@@ -94,7 +134,8 @@ impl Met {
         requires met { All (IsFormulaAt arena.now) self.old.formulas.items }
         ensures { All (IsFormulaAt arena.now) self.new.formulas.items }
     {
-        if numbers.has_proof(proof) || !self.is_new(proof)? {
+        let place = self.hints.get(proof);
+        if numbers.has_proof(place, proof) || !self.is_new(place, proof)? {
             return Ok(());
         }
         self.meet_sequent(arena, numbers, end(arena, proof))?;
@@ -105,7 +146,7 @@ impl Met {
     #[cycle(meet)]
     fn meet_below(
         &mut self,
-        arena: &Arena,
+        arena: &'a Arena,
         numbers: &ProofNumbers,
         above: u32,
         premises: Parts,
@@ -128,13 +169,13 @@ impl Met {
 }
 
 /// What is met in a walk over a tree, whose formulas are those in sides that haven't gone out. Each distinct node is met once.
-pub(crate) fn meet(
+pub(crate) fn meet<'a>(
     alloc: Global,
-    arena: &Arena,
+    arena: &'a Arena,
     numbers: &ProofNumbers,
     hints: Hints,
     proof: u32,
-) -> Result<Met, AllocError>
+) -> Result<Met<'a>, AllocError>
     requires { IsTreeAt arena.now proof }
     ensures { IfOk result (λ met. All (IsFormulaAt arena.now) met.formulas.items) }
 {
@@ -144,6 +185,8 @@ pub(crate) fn meet(
         hints,
         formulas: Vec::new(alloc),
         numbers: Vec::new(alloc),
+        left: &[],
+        right: &[],
     };
     met.meet_tree(arena, numbers, proof)?;
     Ok(met)

@@ -11,6 +11,7 @@ mod leaving;
 mod proof_numbers;
 mod ranks;
 mod rough_order;
+mod runs;
 
 pub use exports::export_proof;
 pub use imports::{import_proof, see_formed};

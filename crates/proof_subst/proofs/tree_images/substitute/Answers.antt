@@ -36,7 +36,17 @@ pub returns-clause-noted : goal.returns-clause-noted
 returns-clause-noted g c =
     at_key c.note.new.pass c.number.result c.args.proof.now.number c.args.map.now c.in_ok-copy.field-0 c.number.ensures c.in_ok-copy.ensures c.in_ok-note.ensures.stands
 
+-- the table has grown over a look-up and a note, between which it stayed
+grown : (old looked made new : BenchPass) → IsPrefix (images_in old) (images_in looked) → images_in made ≡ images_in looked → IsPrefix (images_in made) (images_in new)
+    → IsPrefix (images_in old) (images_in new)
+grown old looked made new first same second =
+    prefix_trans (images_in old) (images_in looked) (images_in new) first
+    (subst (λ (l : List (Pair ImageKey Image)). IsPrefix l (images_in new)) same second)
+
 pub returns-clause-images_grown : goal.returns-clause-images_grown
 returns-clause-images_grown g c =
-    prefix_trans (images_in c.args.pass.now) (images_in c.look_up.new.pass) (images_in c.note.new.pass) c.look_up.ensures.images_grown
-    (subst (λ (l : List (Pair ImageKey Image)). IsPrefix l (images_in c.note.new.pass)) c.compute.ensures.images_stay c.note.ensures.images_grown)
+    grown c.args.pass.now c.look_up.new.pass c.compute.new.pass c.note.new.pass c.look_up.ensures.images_grown c.compute.ensures.images_stay c.note.ensures.images_grown
+
+pub returns-in_err-note-clause-images_grown : goal.returns-in_err-note-clause-images_grown
+returns-in_err-note-clause-images_grown g c =
+    grown c.args.pass.now c.look_up.new.pass c.compute.new.pass c.note.new.pass c.look_up.ensures.images_grown c.compute.ensures.images_stay c.note.ensures.images_grown

@@ -17,7 +17,7 @@ use Rattle.arena.proofs.arena.Arena.image_of_members.Goals as goal
 
 pub image_each-requires-clause-formulas : goal.image_each-requires-clause-formulas
 image_each-requires-clause-formulas c =
-    subst (All (IsFormulaAt c.args.self.now)) (sym (c.deref.ensures.value ∙ c.in_ok-closed.ensures.others))
+    subst (All (IsFormulaAt c.args.self.now)) (sym c.in_ok-closed.ensures.others)
     (All-filter (is_open_at c.args.self.now) (IsFormulaAt c.args.self.now) c.side_numbers.result.now c.side_numbers.ensures.rising.members)
 
 pub joined_with-requires : goal.joined_with-requires
@@ -37,7 +37,7 @@ pub returns-clause-side : goal.returns-clause-side
 returns-clause-side c =
     let shown : formulas_of c.image_each.new.self c.in_ok-numbers.numbers ≡ image_set (fin.get (map_at c.args.self.now c.args.map)) (side_at c.args.self.now c.args.side) =
     parted_image c.args.self.now c.image_each.new.self c.image_each.ensures.grown c.side_numbers.result.now c.in_ok-closed.closed.items c.in_ok-images.images.items c.in_ok-numbers.numbers
-    c.side_numbers.ensures.rising c.in_ok-closed.ensures.closed c.in_ok-numbers.ensures.members (map_at c.args.self.now c.args.map) c.deref.result.now (c.deref.ensures.value ∙ c.in_ok-closed.ensures.others) c.in_ok-images.ensures.images
+    c.side_numbers.ensures.rising c.in_ok-closed.ensures.closed c.in_ok-numbers.ensures.members (map_at c.args.self.now c.args.map) c.in_ok-closed.others.items c.in_ok-closed.ensures.others c.in_ok-images.ensures.images
     ∙ ap (λ (s : FormulaSet). image_set (fin.get (map_at c.args.self.now c.args.map)) s) (sym c.side_numbers.ensures.shown) in
     if_ok c.put.result _ (λ (n : ℕ). HasSide c.put.new.self n (image_set (fin.get (map_at c.args.self.now c.args.map)) (side_at c.args.self.now c.args.side)))
     (λ n s. s ∙ ap (λ (v : FormulaSet). Some (side v)) shown) c.put.ensures.stands

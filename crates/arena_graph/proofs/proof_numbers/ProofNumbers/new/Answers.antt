@@ -4,10 +4,9 @@ use Rattle.arena_graph.proofs.proof_numbers.ProofNumbers.new.Goals as goal
 
 pub returns : goal.returns
 returns c = λ g a. record {
-  numbers = search rules;
   proofs = search rules;
   sides = search rules;
-  ranks = c.new.ensures a;
-  left = c.new-2.ensures a _;
-  right = c.new-3.ensures a _;
+  ranks = c.new-3.ensures a;
+  left = c.new-4.ensures a _;
+  right = c.new-5.ensures a _;
 }
