@@ -13,6 +13,9 @@ use reply_lines::Outcome;
 use std::alloc::Global;
 use std::collections::VecDeque;
 
+// So many bytes of lines are worth a worker of their own: the work that they tell of takes several times as long as starting a thread.
+const BYTES_OF_A_WORKER: u64 = 16_384;
+
 /// What the line of a job asks for.
 #[derive(Drop)]
 pub enum Asks {
@@ -44,6 +47,14 @@ pub struct Due {
     pub held: Held,
 }
 
+// Whether the length of the line tells how much work there is at most: the operation reads what its line has, or looks at what is known.
+fn is_told_by_length(op: &Op) -> bool {
+    matches!(
+        op,
+        Op::Lk { .. } | Op::Problem { .. } | Op::Proves { .. } | Op::Measure { .. }
+    )
+}
+
 impl Asks {
     /// What an operation is given that names the job.
     pub fn need(&self) -> Need<Held>
@@ -72,6 +83,18 @@ impl Window {
         ensures { result ≡ length self.now.seats.items }
     {
         self.seats.len()
+    }
+
+    /// How many workers may be worth their threads, where the jobs' lines have so many bytes in all: two, one for each 16 KiB, and one for
+    /// each job whose work can be any amount. The threads for a window of a few small proofs would take longer than its jobs.
+    pub fn worthwhile_workers(&self, bytes: u64) -> u64 {
+        let mut workers = (bytes / BYTES_OF_A_WORKER).saturating_add(2);
+        for task in &self.tasks {
+            if !is_told_by_length(&task.job) {
+                workers = workers.saturating_add(1);
+            }
+        }
+        workers
     }
 }
 

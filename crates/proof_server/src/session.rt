@@ -238,8 +238,9 @@ impl Session {
         ensures pass { HasPass self.new.store }
     {
         let window = mem::replace(&mut self.window, Window::new(alloc));
-        self.bytes = 0;
-        self.store.run(rt, alloc, window, self.workers, gate)
+        let worthwhile = window.worthwhile_workers(mem::replace(&mut self.bytes, 0));
+        let workers = self.workers.min(worthwhile);
+        self.store.run(rt, alloc, window, workers, gate)
     }
 
     // Writes the reply to each job, in their order.
