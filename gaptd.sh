@@ -1,6 +1,6 @@
 #!/bin/sh
 # Runs gaptd with the words and the standard input that are given. Where the program isn't there, or a source has changed since, the crates
-# that it stands on are proved first, one after another and each on all processors, and the program is built.
+# are proved first, side by side, and the program is built.
 top=$(cd "$(dirname "$0")" && pwd) || exit 125
 program="$top/crates/gaptd/out/gaptd"
 
@@ -8,20 +8,26 @@ changed() {
     find "$top/crates.txt" "$top/crates" -name out -prune -o \( -name '*.rt' -o -name '*.antt' -o -name crates.txt \) -newer "$program" -print
 }
 
-# The crates that the program stands on, and last itself. crates.txt lists each crate below those that it stands on.
-needed() {
-    awk -F: '
-        { sub(/#.*/, "") }
-        NF == 2 { split($1, words, " "); name[++count] = words[1]; uses[count] = $2 }
-        END {
-            is_needed["gaptd"] = 1
-            for (i = count; i > 0; i--)
-                if (name[i] in is_needed) {
-                    last = split(uses[i], words, " ")
-                    for (j = 1; j <= last; j++) is_needed[words[j]] = 1
-                }
-            for (i = 1; i <= count; i++) if (name[i] in is_needed) print name[i]
-        }' "$top/crates.txt"
+# How many crates are proved at a time: one for each processor, if there are 2.5 GB of memory for each.
+lanes() {
+    processors=$(getconf _NPROCESSORS_ONLN)
+    room=$(awk '/^MemAvailable:/ { print int($2 / 2500000) }' /proc/meminfo)
+    if [ "${room:-1}" -lt "$processors" ]; then processors=$room; fi
+    if [ "$processors" -lt 1 ]; then processors=1; fi
+    echo "$processors"
+}
+
+# What proves all crates and builds the program, and then a line with its status.
+prove() {
+    (cd "$top/crates" && rt all check --jobs "$1" && cd gaptd && rt run --jobs "$1") </dev/null 2>&1
+    echo "status: $?"
+}
+
+# Tells of each crate when it is done, and fails where the status that it reads isn't 0.
+tell() {
+    awk -v left="$1" '
+        $1 == "status:" { exit $2 != 0 }
+        $1 == "==" && $2 != "summary" { print "gaptd.sh: " $2 ", and " --left " more"; fflush() }' >&2
 }
 
 build() {
@@ -29,21 +35,16 @@ build() {
         echo "gaptd.sh: there is no command rt. It comes with the Rattle kit" >&2
         return 1
     fi
-    jobs=$(getconf _NPROCESSORS_ONLN)
+    crates=$(sed 's/#.*//' "$top/crates.txt" | grep -c :)
+    lanes=$(lanes)
     said=$(mktemp) || return 1
-    set -- $(needed)
-    left=$#
-    echo "gaptd.sh: proves $left crates, which takes an hour or more on four processors if nothing is kept from earlier runs" >&2
-    for crate; do
-        echo "gaptd.sh: $crate, and $((left -= 1)) more" >&2
-        if [ "$crate" = gaptd ]; then command=run; else command=lib; fi
-        if ! (cd "$top/crates/$crate" && rt "$command" --jobs "$jobs" </dev/null) >"$said" 2>&1; then
-            grep -v ': proved' "$said" >&2
-            echo "gaptd.sh: $crate is not proved: its errors are above" >&2
-            rm -f "$said"
-            return 1
-        fi
-    done
+    echo "gaptd.sh: proves $crates crates, $lanes at a time, which takes an hour on four processors if nothing is kept from earlier runs" >&2
+    if ! prove "$lanes" | tee "$said" | tell "$crates"; then
+        grep -v ': proved' "$said" >&2
+        echo "gaptd.sh: not all is proved: the errors are above" >&2
+        rm -f "$said"
+        return 1
+    fi
     rm -f "$said"
 }
 
