@@ -85,10 +85,10 @@ impl Window {
         self.seats.len()
     }
 
-    /// How many workers may be worth their threads, where the jobs' lines have so many bytes in all: two, one for each 16 KiB, and one for
+    /// How many workers may be worth their threads, where the jobs' lines have so many bytes in all: one, and one more for each 16 KiB, and for
     /// each job whose work can be any amount. The threads for a window of a few small proofs would take longer than its jobs.
     pub fn worthwhile_workers(&self, bytes: u64) -> u64 {
-        let mut workers = (bytes / BYTES_OF_A_WORKER).saturating_add(2);
+        let mut workers = (bytes / BYTES_OF_A_WORKER).saturating_add(1);
         for task in &self.tasks {
             if !is_told_by_length(&task.job) {
                 workers = workers.saturating_add(1);

@@ -4,6 +4,11 @@
 pub trait Gate: Sync {
     /// Called with the job's number in its session, from 1.
     fn pass(&self, job: u64);
+
+    /// Whether it may hold a job until another one has come, so that these need a worker each.
+    fn may_hold(&self) -> bool {
+        true
+    }
 }
 
 /// The gate that holds nothing.
@@ -12,4 +17,8 @@ pub struct NoGate;
 
 impl Gate for NoGate {
     fn pass(&self, _job: u64) {}
+
+    fn may_hold(&self) -> bool {
+        false
+    }
 }

@@ -239,7 +239,8 @@ impl Session {
     {
         let window = mem::replace(&mut self.window, Window::new(alloc));
         let worthwhile = window.worthwhile_workers(mem::replace(&mut self.bytes, 0));
-        let workers = self.workers.min(worthwhile);
+        let least = if gate.may_hold() { 2 } else { 1 };
+        let workers = self.workers.min(worthwhile.max(least));
         self.store.run(rt, alloc, window, workers, gate)
     }
 
