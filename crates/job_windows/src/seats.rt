@@ -47,12 +47,9 @@ pub struct Due {
     pub held: Held,
 }
 
-// Whether the length of the line tells how much work there is at most: the operation reads what its line has, or looks at what is known.
+// Whether the length of the line tells how much work there is at most: the operation reads what its line has, or compares two sequents.
 fn is_told_by_length(op: &Op) -> bool {
-    matches!(
-        op,
-        Op::Lk { .. } | Op::Problem { .. } | Op::Proves { .. } | Op::Measure { .. }
-    )
+    matches!(op, Op::Lk { .. } | Op::Problem { .. } | Op::Proves { .. })
 }
 
 impl Asks {
