@@ -12,7 +12,8 @@ changed() {
 lanes() {
     processors=$(getconf _NPROCESSORS_ONLN)
     room=$(awk '/^MemAvailable:/ { print int($2 / 2500000) }' /proc/meminfo)
-    if [ "${room:-1}" -lt "$processors" ]; then processors=$room; fi
+    room=${room:-1}
+    if [ "$room" -lt "$processors" ]; then processors=$room; fi
     if [ "$processors" -lt 1 ]; then processors=1; fi
     echo "$processors"
 }
@@ -38,7 +39,7 @@ build() {
     crates=$(sed 's/#.*//' "$top/crates.txt" | grep -c :)
     lanes=$(lanes)
     said=$(mktemp) || return 1
-    echo "gaptd.sh: proves $crates crates, $lanes at a time, which takes an hour on four processors if nothing is kept from earlier runs" >&2
+    echo "gaptd.sh: proves $crates crates, $lanes at a time, which takes about an hour on four processors if nothing is kept from earlier runs" >&2
     if ! prove "$lanes" | tee "$said" | tell "$crates"; then
         grep -v ': proved' "$said" >&2
         echo "gaptd.sh: not all is proved: the errors are above" >&2
