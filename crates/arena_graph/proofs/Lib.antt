@@ -6,3 +6,4 @@ pub mod Following
 pub mod Larger
 pub mod FormedImages
 pub mod Crossing
+pub mod Noted

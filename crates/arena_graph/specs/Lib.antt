@@ -4,3 +4,4 @@ pub mod Places
 pub mod LastSide
 pub mod Runs
 pub mod ProofNumbers
+pub mod Leaving

@@ -1,62 +1,23 @@
 //! Trees that go from an arena into a graph.
-ghost use Rattle.std.specs.Prelude.{◌≡◌, ◌∷◌, [], IfOk};
+ghost use Rattle.std.specs.Prelude.{◌≡◌, IfOk};
 ghost use Rattle.std.specs.List.{All};
 ghost use Rattle.proof_trees.specs.Trees.{below, IsValid, AllValid};
 ghost use Rattle.proof_graph.specs.References.{trees_of};
 ghost use Rattle.proof_graph.specs.Graphs.{IsOf, IsPassOf, Makes, Extends};
-ghost use Rattle.arena_cells.specs.Standing.{sequent_at, tree_at, IsSequentAt, IsTreeAt};
+ghost use Rattle.arena_cells.specs.Standing.{tree_at, IsTreeAt};
 ghost use Rattle.arena_cells.specs.Meaning.{trees_at, HasPremises, ArePartsBelow};
-ghost use Rattle.proof_trees.specs.Conclusions.{IsFormedSequent, HasFormedEnd, HaveFormedEnds};
+ghost use Rattle.proof_trees.specs.Conclusions.{HasFormedEnd, HaveFormedEnds};
 ghost use Rattle.arena_graph.specs.ProofNumbers.{AreNumbersOf};
 
+use crate::inferences::{inference_over, one, two};
 use crate::leaving::meet;
+use crate::levels::export_levels;
 use crate::proof_numbers::ProofNumbers;
 use arena::{Arena, Parts};
-use arena_proofs::{end, export_rule, premises, rule};
-use lk_rules::{Sequent, Side};
-use proof_graph::{Graph, GraphPass, ProofRef};
+use arena_proofs::premises;
+use proof_graph::{Graph, GraphPass, Inference, ProofRef};
 use std::alloc::{AllocError, Global};
 use std::sync::Wait;
-
-// The list of one reference.
-fn one(alloc: Global, only: ProofRef) -> Result<Vec<ProofRef>, AllocError>
-    ensures { IfOk result (λ list. list.items ≡ only ∷ []) }
-{
-    let mut list = Vec::with_capacity(alloc, 1)?;
-    list.push(only)?;
-    Ok(list)
-}
-
-// The list of two references.
-fn two(alloc: Global, first: ProofRef, second: ProofRef) -> Result<Vec<ProofRef>, AllocError>
-    ensures { IfOk result (λ list. list.items ≡ first ∷ second ∷ []) }
-{
-    let mut list = Vec::with_capacity(alloc, 2)?;
-    list.push(first)?;
-    list.push(second)?;
-    Ok(list)
-}
-
-// A sequent of well-formed formulas.
-#[tactic(auto, using(arena_cells::proofs::Facts::sequents))]
-fn export_end(
-    alloc: Global,
-    graph: &Graph,
-    arena: &Arena,
-    numbers: &mut ProofNumbers,
-    end: u32,
-) -> Result<Sequent, AllocError>
-    requires numbers { AreNumbersOf graph.now arena.now numbers.old }
-    requires there { IsSequentAt arena.now end }
-    requires formed { IsFormedSequent (sequent_at arena.now end) }
-    ensures end { IfOk result (λ s. s ≡ sequent_at arena.now end) }
-    ensures numbers_stay { AreNumbersOf graph.now arena.now numbers.new }
-{
-    let (left, right) = arena.sides(end);
-    let left = numbers.side(alloc, graph, arena, Side::Left, left)?;
-    let right = numbers.side(alloc, graph, arena, Side::Right, right)?;
-    Ok(Sequent { left, right })
-}
 
 // The reference of a tree, over those of the premises.
 fn export_over<R: Wait>(
@@ -67,22 +28,25 @@ fn export_over<R: Wait>(
     arena: &Arena,
     numbers: &mut ProofNumbers,
     proof: u32,
-    premises: &[ProofRef],
+    premises: Vec<ProofRef>,
 ) -> Result<ProofRef, AllocError>
     requires pass_of { IsPassOf graph.now pass.old }
     requires numbers { AreNumbersOf graph.now arena.now numbers.old }
     requires there { IsTreeAt arena.now proof }
     requires valid { IsValid (tree_at arena.now proof) }
     requires formed { HasFormedEnd (tree_at arena.now proof) }
-    requires premises_of { All (IsOf graph.now) premises.now }
-    requires trees { trees_of premises.now ≡ below (tree_at arena.now proof) }
+    requires premises_of { All (IsOf graph.now) premises.items }
+    requires trees { trees_of premises.items ≡ below (tree_at arena.now proof) }
     ensures made { IfOk result (Makes graph.now (tree_at arena.now proof)) }
     ensures extends { Extends graph.now pass.old pass.new }
     ensures numbers_stay { AreNumbersOf graph.now arena.now numbers.new }
 {
-    let rule = export_rule(arena, rule(arena, proof))?;
-    let end = export_end(alloc, graph, arena, numbers, end(arena, proof))?;
-    graph.intern(rt, alloc, pass, rule, end, premises)
+    let Inference {
+        rule,
+        end,
+        premises,
+    } = inference_over(alloc, graph, arena, numbers, proof, premises)?;
+    graph.intern(rt, alloc, pass, rule, end, &premises)
 }
 
 // The reference of a tree that isn't known.
@@ -108,7 +72,7 @@ fn export_new<R: Wait>(
 {
     let parts = premises(arena, proof);
     let below = export_below(rt, alloc, graph, pass, arena, numbers, proof, parts)?;
-    export_over(rt, alloc, graph, pass, arena, numbers, proof, &below)
+    export_over(rt, alloc, graph, pass, arena, numbers, proof, below)
 }
 
 // The references of the premises' trees, whose numbers are below the number `above`.
@@ -179,7 +143,8 @@ fn export_tree<R: Wait>(
 
 /// The reference in the graph of a valid tree whose end sequent has well-formed formulas, as then all its conclusions have. A tree that is
 /// known costs one look-up by its number. Else each distinct node of it that isn't known is interned, premises before conclusions; a node
-/// that the graph has keeps its number. The formulas that leave are put into order once, and each distinct side is made once.
+/// that the graph has keeps its number. A wide proof's nodes are interned level by level, many in one turn, so that threads that share the
+/// graph wait less for each other. The formulas that leave are put into order once, and each distinct side is made once.
 pub fn export_proof<R: Wait>(
     rt: &R,
     alloc: Global,
@@ -201,5 +166,6 @@ pub fn export_proof<R: Wait>(
     let hints = numbers.take_hints(alloc, graph, arena);
     let met = meet(alloc, arena, numbers, hints, proof)?;
     numbers.rank(alloc, graph, arena, met.hints, &met.formulas)?;
+    export_levels(rt, alloc, graph, pass, arena, numbers, &met.trees)?;
     export_tree(rt, alloc, graph, pass, arena, numbers, proof)
 }

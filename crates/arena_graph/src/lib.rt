@@ -6,8 +6,10 @@
 mod exports;
 mod hints;
 mod imports;
+mod inferences;
 mod last_side;
 mod leaving;
+mod levels;
 mod proof_numbers;
 mod ranks;
 mod rough_order;

@@ -5,5 +5,6 @@ pub mod Counting
 pub mod Growth
 pub mod Standing
 pub mod Premises
+pub mod Several
 pub mod Crossing
 pub mod Sent

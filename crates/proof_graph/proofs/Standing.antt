@@ -4,6 +4,7 @@ use Rattle.std.specs.List.{Contains}
 use Rattle.std.proofs.lemmas.Bool.{cases_lt}
 use Rattle.std.proofs.lemmas.List.{get_or-map, get_or_default, length-map, take_more}
 use Rattle.std.proofs.lemmas.List.Elements.{Contains-push}
+use Rattle.std.specs.Prelude.{Result, Ok, Err, IfOk}
 use mathlib.Core.List.{IsPrefix}
 use Rattle.turn_log.proofs.Prefixes.{prefix_contains}
 use Rattle.proof_graph.specs.declared.node.Node.{Node}
@@ -54,3 +55,14 @@ stands_after old new key r is adds = elim adds.2 [
   | inl known ↦ subst (λ (h : List Reference). StandsAt h key r.number) (sym known.1) known.0
   | inr added ↦ stands_there new key r is (subst (λ (h : List Reference). Contains h r) (sym added.1) (Contains-push adds.0 r))
 ]
+
+-- the same of a reference that a call answers where it has memory
+pub stands_if_made : {E : Type 0} (made : Result Reference E) (old new : List Reference) (key : Node) → IfOk made (λ r. key_of r ≡ key) → IfOk made (λ r. AddsAtMost old key r new)
+    → IfOk made (λ r. StandsAt new key r.number)
+stands_if_made (Ok r) old new key is adds = stands_after old new key r is adds
+stands_if_made (Err e) old new key is adds = tt
+
+pub known_after : {E : Type 0} (made : Result Reference E) (old new : List Reference) (key : Node) → IsLegal new → IsPrefix old new → IfOk made (λ r. StandsAt new key r.number)
+    → IfOk made (λ r. (n : ℕ) → StandsAt old key n → r.number ≡ n)
+known_after (Ok r) old new key legal grown there = λ n before. known_number old new key r.number n legal grown there before
+known_after (Err e) old new key legal grown there = tt

@@ -1,8 +1,8 @@
 -- The history of a graph: the references that were interned, in their order.
 --     IsLegal      keys differ, numbers differ, and each tree is valid
 --     StandsAt, IsAbsent      a key stands at a number, or nowhere
---     AddsAtMost      what one call adds
-use Rattle.std.specs.Prelude.{◌≡◌, ◌≢◌, ◌⊎◌, ℕ, List, [], ◌∷◌, ◌++◌}
+--     AddsAtMost, AddsAtMostEach, AddsFirst      what a call adds
+use Rattle.std.specs.Prelude.{◌≡◌, ◌≢◌, ◌⊎◌, ℕ, List, [], ◌∷◌, ◌++◌, map}
 use Rattle.std.specs.List.{All, AllPairs, Contains}
 use Rattle.std.specs.Coded.{Coded}
 use base.Stored.{coded×, coded_list, coded_via}
@@ -33,6 +33,19 @@ Adds history key r new = (StandsAt history key r.number × (new ≡ history)) �
 -- a history goes on from an old one, perhaps by entries of others, and then by the reference where the key wasn't there
 abbrev pub AddsAtMost : List Reference → Node → Reference → List Reference → Type 0
 AddsAtMost old key r new = (history : List Reference) × IsPrefix old history × Adds history key r new
+
+-- a history goes on by references, one after another, each added where its key isn't there
+abbrev pub AddsEach : List Reference → List Reference → List Reference → Type 0
+AddsEach history [] new = new ≡ history
+AddsEach history (r ∷ rs) new = (next : List Reference) × Adds history (key_of r) r next × AddsEach next rs new
+
+-- a history goes on from an old one, perhaps by entries of others, and then by the references, each where its key wasn't there
+abbrev pub AddsAtMostEach : List Reference → List Reference → List Reference → Type 0
+AddsAtMostEach old rs new = (history : List Reference) × IsPrefix old history × AddsEach history rs new
+
+-- the same by references of the first of some keys
+abbrev pub AddsFirst : List Reference → List Node → List Reference → Type 0
+AddsFirst old keys new = (rs : List Reference) × IsPrefix (map key_of rs) keys × AddsAtMostEach old rs new
 
 -- what contracts see of an index: the graph that its entries are of, and the history
 pub record Recorded : Type 0 where

@@ -9,3 +9,5 @@ pub mod Unique
 pub mod Events
 pub mod Indexed
 pub mod Graphs
+pub mod Inferences
+pub mod Entered

@@ -1,5 +1,5 @@
 //! Graphs of proofs.
-ghost use Rattle.std.specs.Prelude.{◌≡◌, ◌↔◌, ◌<◌, ℕ, [], length, slice_index, Some, IsTrue, IfOk, IfSome};
+ghost use Rattle.std.specs.Prelude.{◌≡◌, ◌↔◌, ◌<◌, ◌≤◌, ℕ, [], length, map, slice_index, Some, IsTrue, IfOk, OnErr, IfSome, vec_capacity};
 ghost use Rattle.std.specs.List.{All, Contains};
 ghost use mathlib.Core.List.{IsPrefix};
 ghost use Rattle.turn_log.specs.Rules.{longer};
@@ -10,15 +10,17 @@ ghost use Rattle.std.specs.Coded.{Coded-set};
 ghost use Rattle.proof_trees.specs.Trees.{node, below, IsInference};
 ghost use Rattle.proof_graph.specs.Shown.{tree_at};
 ghost use Rattle.proof_graph.specs.References.{key_of, key_over, trees_of, numbers_of};
-ghost use Rattle.proof_graph.specs.History.{IsLegal, StandsAt, AddsAtMost};
+ghost use Rattle.proof_graph.specs.History.{IsLegal, StandsAt, AddsAtMost, AddsAtMostEach, AddsFirst};
 ghost use Rattle.proof_graph.specs.Unique.{legal_prop};
-ghost use Rattle.proof_graph.specs.Drafts.{IsDraftOf};
+ghost use Rattle.proof_graph.specs.Drafts.{IsDraftOf, drafted, AreDrafts, keys_in, trees_in};
+ghost use Rattle.proof_graph.specs.Entered.{IsEntered, tree_entered, made_in};
 
 use crate::boxed::BoxedIndex;
-use crate::index::see_trees;
+use crate::index::{Entered, settle_each};
+use crate::inference::Inference;
 use crate::key::Key;
 use crate::node::Node;
-use crate::reference::{Draft, ProofRef};
+use crate::reference::{Draft, ProofRef, keep_all};
 use crate::tree::Nodes;
 use lk_rules::{Numbers, Rule, Sequent};
 use std::alloc::{AllocError, Global};
@@ -56,6 +58,7 @@ impl GraphPass {
 
 impl Graph {
     ghost use Rattle.proof_graph.specs.Graphs.{IsOf, IsPassOf, history};
+    ghost use Rattle.proof_graph.specs.Inferences.{IsInferenceOf, tree_by, key_by};
 
     /// A graph with no node, and its pass.
     pub fn new(alloc: Global) -> Result<(Graph, GraphPass), AllocError>
@@ -98,16 +101,83 @@ impl Graph {
         ensures grown { IsPrefix (history pass.old) (history pass.new) }
         ensures pass_stays { IsPassOf self.now pass.new }
     {
+        let inference = Inference {
+            rule,
+            end,
+            premises: keep_all(alloc, premises)?,
+        };
+        let (key, draft) = self.draft(alloc, inference)?;
+        self.add(rt, pass, key, draft)
+    }
+
+    /// The references of the trees whose last inferences these are, each over the trees of its premises, in their order: as `intern` gives
+    /// them one after another, but in one short turn for all. Keys, references and room are made before it, and what is left over is
+    /// dropped after it. Where memory runs out, some of the first may have been put in.
+    pub fn intern_each<R: Wait>(
+        &self,
+        rt: &R,
+        alloc: Global,
+        pass: &mut GraphPass,
+        inferences: Vec<Inference>,
+    ) -> Result<Vec<ProofRef>, AllocError>
+        requires pass_of { IsPassOf self.now pass.old }
+        requires inferences { All (IsInferenceOf self.now) inferences.items }
+        ensures trees { IfOk result (λ made. map (λ r. r.tree) made.items ≡ map tree_by inferences.items) }
+        ensures of { IfOk result (λ made. All (IsOf self.now) made.items) }
+        ensures keys { IfOk result (λ made. map key_of made.items ≡ map key_by inferences.items) }
+        ensures stands { IfOk result (λ made. All (λ r. StandsAt (history pass.new) (key_of r) r.number) made.items) }
+        ensures known { IfOk result (λ made. All (λ r. (n : ℕ) → StandsAt (history pass.old) (key_of r) n → r.number ≡ n) made.items) }
+        ensures adds { IfOk result (λ made. AddsAtMostEach (history pass.old) made.items (history pass.new)) }
+        ensures err { OnErr result (AddsFirst (history pass.old) (map key_by inferences.items) (history pass.new)) }
+        ensures grown { IsPrefix (history pass.old) (history pass.new) }
+        ensures pass_stays { IsPassOf self.now pass.new }
+    {
+        let count = inferences.len();
+        let entered = Vec::with_capacity(alloc, count)?;
+        let made = Vec::with_capacity(alloc, count)?;
+        let drafts = self.drafts(alloc, inferences)?;
+        let entered = self.add_each(rt, pass, drafts, entered)?;
+        Ok(settle_each(&self.nodes, entered, made))
+    }
+
+    // The key of an inference, and the draft of its reference.
+    fn draft(&self, alloc: Global, inference: Inference) -> Result<(Key, Draft), AllocError>
+        requires { IsInferenceOf self.now inference }
+        ensures draft { IfOk result (λ d. IsDraftOf self.now.nodes d.0 d.1) }
+        ensures key { IfOk result (λ d. d.0 ≡ key_by inference) }
+        ensures tree { IfOk result (λ d. drafted d.1 ≡ tree_by inference) }
+    {
+        let Inference {
+            rule,
+            end,
+            premises,
+        } = inference;
         let root = Node {
             rule,
             end,
-            premises: numbers_of_all(alloc, premises)?,
+            premises: numbers_of_all(alloc, &premises)?,
         };
         let key = Key::new(alloc, root)?;
         let draft = Draft::new(alloc, &self.nodes, &key, premises)?;
-        let made = self.add(rt, pass, key, draft)?;
-        see_trees(&self.nodes, &made, premises);
-        Ok(made)
+        Ok((key, draft))
+    }
+
+    // The keys and drafts of several inferences.
+    fn drafts(
+        &self,
+        alloc: Global,
+        inferences: Vec<Inference>,
+    ) -> Result<Vec<(Key, Draft)>, AllocError>
+        requires { All (IsInferenceOf self.now) inferences.items }
+        ensures drafts { IfOk result (λ ds. AreDrafts self.now.nodes ds.items) }
+        ensures keys { IfOk result (λ ds. keys_in ds.items ≡ map key_by inferences.items) }
+        ensures trees { IfOk result (λ ds. trees_in ds.items ≡ map tree_by inferences.items) }
+    {
+        let mut drafts = Vec::with_capacity(alloc, inferences.len())?;
+        for inference in inferences {
+            drafts.push(self.draft(alloc, inference)?)?;
+        }
+        Ok(drafts)
     }
 
     // The reference of a key, which is added in a turn where it isn't there. What is then left over is dropped after the turn.
@@ -122,16 +192,42 @@ impl Graph {
         requires draft { IsDraftOf self.now.nodes key draft }
         ensures of { IfOk result (IsOf self.now) }
         ensures key { IfOk result (λ r. key_of r ≡ key) }
+        ensures tree { IfOk result (λ r. r.tree ≡ drafted draft) }
         ensures adds { IfOk result (λ r. AddsAtMost (history pass.old) key r (history pass.new)) }
         ensures grown { IsPrefix (history pass.old) (history pass.new) }
         ensures pass_stays { IsPassOf self.now pass.new }
     {
         let mut turn = self.index.take(rt, &mut pass.pass);
-        let made = turn.value_mut().index.intern(rt, &self.nodes, key, draft);
+        let entered = turn.value_mut().index.intern(rt, &self.nodes, key, draft);
         self.index.give(&mut pass.pass, turn);
-        let (made, left) = made?;
-        drop(left);
-        Ok(made)
+        Ok(entered?.settle(&self.nodes))
+    }
+
+    // What becomes of several drafts in one turn.
+    fn add_each<R: Wait>(
+        &self,
+        rt: &R,
+        pass: &mut GraphPass,
+        drafts: Vec<(Key, Draft)>,
+        entered: Vec<Entered>,
+    ) -> Result<Vec<Entered>, AllocError>
+        requires pass_of { IsPassOf self.now pass.old }
+        requires drafts { AreDrafts self.now.nodes drafts.items }
+        requires empty { entered.items ≡ [] }
+        requires room { length drafts.items ≤ vec_capacity entered }
+        ensures entered { IfOk result (λ es. All (IsEntered self.now.nodes) es.items) }
+        ensures keys { IfOk result (λ es. map key_of (made_in es.items) ≡ keys_in drafts.items) }
+        ensures trees { IfOk result (λ es. map tree_entered es.items ≡ trees_in drafts.items) }
+        ensures adds { IfOk result (λ es. AddsAtMostEach (history pass.old) (made_in es.items) (history pass.new)) }
+        ensures err { OnErr result (AddsFirst (history pass.old) (keys_in drafts.items) (history pass.new)) }
+        ensures grown { IsPrefix (history pass.old) (history pass.new) }
+        ensures pass_stays { IsPassOf self.now pass.new }
+    {
+        let mut turn = self.index.take(rt, &mut pass.pass);
+        let index = &mut turn.value_mut().index;
+        let entered = index.intern_each(rt, &self.nodes, drafts, entered);
+        self.index.give(&mut pass.pass, turn);
+        entered
     }
 
     /// Another pass of the graph, as for another thread. Both have seen the same.
@@ -194,7 +290,15 @@ impl Graph {
         requires { IsOf self.now proof.now }
         ensures { result.now ≡ key_of proof.now }
     {
-        proof.node(&self.nodes)
+        self.key(proof).node()
+    }
+
+    /// The same as a key, which was made when the node was put in.
+    pub fn key(&self, proof: &ProofRef) -> &Key
+        requires { IsOf self.now proof.now }
+        ensures { result.now ≡ key_of proof.now }
+    {
+        proof.key(&self.nodes)
     }
 
     /// The reference of the premise at that place, counted from 0.

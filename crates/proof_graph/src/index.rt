@@ -1,11 +1,12 @@
 //! The index of a graph: which key stands at which number.
-ghost use Rattle.std.specs.Prelude.{◌≡◌, ◌≢◌, ◌<◌, ◌^◌, ◌++◌, ◌∷◌, [], length, IfOk, OnOk, OnErr, IfSome, IsNone};
+ghost use Rattle.std.specs.Prelude.{◌≡◌, ◌≢◌, ◌<◌, ◌≤◌, ◌^◌, ◌++◌, ◌∷◌, [], length, map, IfOk, OnOk, OnErr, IfSome, IsNone, vec_capacity};
 ghost use Rattle.std.specs.List.{All, Contains};
 ghost use mathlib.Core.List.{IsPrefix};
 ghost use Rattle.proof_trees.specs.Trees.{below};
 ghost use Rattle.proof_graph.specs.References.{key_of, trees_of, numbers_of};
-ghost use Rattle.proof_graph.specs.History.{IsLegal, IsAbsent, Adds};
-ghost use Rattle.proof_graph.specs.Drafts.{IsDraftOf};
+ghost use Rattle.proof_graph.specs.History.{IsLegal, IsAbsent, Adds, AddsEach, AddsFirst};
+ghost use Rattle.proof_graph.specs.Drafts.{IsDraftOf, drafted, AreDrafts, keys_in, trees_in};
+ghost use Rattle.proof_graph.specs.Entered.{IsEntered, tree_entered, made_in};
 
 use crate::key::Key;
 use crate::reference::{Draft, ProofRef};
@@ -16,6 +17,46 @@ use std::collections::HashMap;
 use std::marker::Model;
 use std::snapshot::Snapshot;
 use std::sync::Wait;
+
+/// What becomes of a draft in a turn: its reference, and the draft itself with its key where the key was there before.
+#[derive(Drop)]
+pub(crate) struct Entered {
+    pub made: ProofRef,
+    pub left: Option<(Key, Draft)>,
+}
+
+impl Entered {
+    /// The reference, which means the draft's tree. What is left over is dropped.
+    pub fn settle(self, nodes: &Nodes) -> ProofRef
+        requires { IsEntered nodes.now self }
+        ensures made { result ≡ self.made }
+        ensures tree { result.tree ≡ tree_entered self }
+    {
+        let Entered { made, left } = self;
+        if let Some((_key, draft)) = left {
+            see_trees(nodes, &made, draft.premises());
+        }
+        made
+    }
+}
+
+/// The references of several drafts, as `settle` gives them. They go into `made`, where room for them was made.
+pub(crate) fn settle_each(
+    nodes: &Nodes,
+    entered: Vec<Entered>,
+    mut made: Vec<ProofRef>,
+) -> Vec<ProofRef>
+    requires entered { All (IsEntered nodes.now) entered.items }
+    requires empty { made.items ≡ [] }
+    requires room { length entered.items ≤ vec_capacity made }
+    ensures made { result.items ≡ made_in entered.items }
+    ensures trees { map (λ r. r.tree) result.items ≡ map tree_entered entered.items }
+{
+    for one in entered {
+        made.push_reserved(one.settle(nodes));
+    }
+    made
+}
 
 /// The references of a graph in the order in which they were interned, and for the key of each its place.
 #[derive(Drop)]
@@ -94,30 +135,62 @@ impl Index {
         }
     }
 
-    /// The reference of a key, which is added with its node at the end where it isn't there. Else the key and the draft come back.
+    /// The reference of a key, which is added with its node at the end where it isn't there. Else the key and the draft are left over.
     pub fn intern<R: Wait>(
         &mut self,
         rt: &R,
         nodes: &Nodes,
         key: Key,
         draft: Draft,
-    ) -> Result<(ProofRef, Option<(Key, Draft)>), AllocError>
+    ) -> Result<Entered, AllocError>
         requires home { self.old.home ≡ nodes.now }
         requires draft { IsDraftOf nodes.now key draft }
-        ensures of { IfOk result (λ r. r.0.home ≡ nodes.now) }
-        ensures key { IfOk result (λ r. key_of r.0 ≡ key) }
-        ensures adds { IfOk result (λ r. Adds self.old.history key r.0 self.new.history) }
+        ensures entered { IfOk result (IsEntered nodes.now) }
+        ensures key { IfOk result (λ e. key_of e.made ≡ key) }
+        ensures tree { IfOk result (λ e. tree_entered e ≡ drafted draft) }
+        ensures adds { IfOk result (λ e. Adds self.old.history key e.made self.new.history) }
         ensures err { OnErr result (self.new.history ≡ self.old.history) }
         ensures grown { IsPrefix self.old.history self.new.history }
         ensures legal { IsLegal self.new.history }
         ensures home { self.new.home ≡ self.old.home }
     {
-        if let Some(found) = self.look_up(&key)? {
-            return Ok((found, Some((key, draft))));
+        if let Some(made) = self.look_up(&key)? {
+            let left = Some((key, draft));
+            return Ok(Entered { made, left });
         }
         let added = self.add(rt, nodes, key, draft);
         self.known();
-        Ok((added?, None))
+        let made = added?;
+        let left = None;
+        Ok(Entered { made, left })
+    }
+
+    /// The same of several keys, one after another. What becomes of them goes into `entered`, where room for it was made.
+    pub fn intern_each<R: Wait>(
+        &mut self,
+        rt: &R,
+        nodes: &Nodes,
+        drafts: Vec<(Key, Draft)>,
+        mut entered: Vec<Entered>,
+    ) -> Result<Vec<Entered>, AllocError>
+        requires home { self.old.home ≡ nodes.now }
+        requires drafts { AreDrafts nodes.now drafts.items }
+        requires empty { entered.items ≡ [] }
+        requires room { length drafts.items ≤ vec_capacity entered }
+        ensures entered { IfOk result (λ es. All (IsEntered nodes.now) es.items) }
+        ensures keys { IfOk result (λ es. map key_of (made_in es.items) ≡ keys_in drafts.items) }
+        ensures trees { IfOk result (λ es. map tree_entered es.items ≡ trees_in drafts.items) }
+        ensures adds { IfOk result (λ es. AddsEach self.old.history (made_in es.items) self.new.history) }
+        ensures err { OnErr result (AddsFirst self.old.history (keys_in drafts.items) self.new.history) }
+        ensures grown { IsPrefix self.old.history self.new.history }
+        ensures legal { IsLegal self.new.history }
+        ensures home { self.new.home ≡ self.old.home }
+    {
+        self.known();
+        for (key, draft) in drafts {
+            entered.push_reserved(self.intern(rt, nodes, key, draft)?);
+        }
+        Ok(entered)
     }
 
     // The reference of a node whose key isn't there, which is added at the end. Memory for it is taken before the node is put in.
@@ -133,6 +206,7 @@ impl Index {
         requires absent { IsAbsent self.old.history key }
         ensures of { IfOk result (λ r. r.home ≡ nodes.now) }
         ensures key { IfOk result (λ r. key_of r ≡ key) }
+        ensures tree { IfOk result (λ r. r.tree ≡ drafted draft) }
         ensures ok { IfOk result (λ r. self.new.history ≡ self.old.history ++ r ∷ []) }
         ensures err { OnErr result (self.new.history ≡ self.old.history) }
         ensures home { self.new.home ≡ self.old.home }
@@ -188,8 +262,8 @@ impl Index {
     }
 }
 
-/// A reference whose key has the numbers of these premises has their trees below the root of its own.
-pub(crate) fn see_trees(nodes: &Nodes, found: &ProofRef, premises: &[ProofRef])
+// A reference whose key has the numbers of these premises has their trees below the root of its own.
+fn see_trees(nodes: &Nodes, found: &ProofRef, premises: &[ProofRef])
     requires of { found.now.home ≡ nodes.now }
     requires premises { All (λ p. p.home ≡ nodes.now) premises.now }
     requires numbers { found.now.premises ≡ numbers_of premises.now }

@@ -5,6 +5,7 @@ mod boxed;
 mod counts;
 mod graph;
 mod index;
+mod inference;
 mod key;
 pub mod laws;
 mod node;
@@ -13,6 +14,7 @@ mod tree;
 
 pub use counts::Counts;
 pub use graph::{Graph, GraphPass};
+pub use inference::Inference;
 pub use key::Key;
 pub use node::Node;
 pub use reference::ProofRef;

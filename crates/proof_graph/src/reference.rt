@@ -92,12 +92,12 @@ impl ProofRef {
         Ok(ProofRef { token, link })
     }
 
-    // The node at its number.
-    pub(crate) fn node<'g>(&self, nodes: &'g Nodes) -> &'g Node
+    // The key at its number.
+    pub(crate) fn key<'g>(&self, nodes: &'g Nodes) -> &'g Key
         requires { self.now.home ≡ nodes.now }
         ensures { result.now ≡ key_of self.now }
     {
-        nodes.value(&self.token).key.node()
+        &nodes.value(&self.token).key
     }
 
     // Whether the numbers are equal. References of one graph with one number are one reference.
@@ -115,29 +115,36 @@ impl ProofRef {
     }
 }
 
-// The references of a list, once more. Their trees are valid.
-fn keep_all(alloc: Global, proofs: &[ProofRef]) -> Result<Vec<ProofRef>, AllocError>
-    ensures kept { IfOk result (λ kept. kept.items ≡ proofs.now) }
-    ensures valid { IfOk result (λ kept. All (λ r. IsValid r.tree) kept.items) }
+/// The references of a list, once more.
+pub(crate) fn keep_all(alloc: Global, proofs: &[ProofRef]) -> Result<Vec<ProofRef>, AllocError>
+    ensures { IfOk result (λ kept. kept.items ≡ proofs.now) }
 {
     let mut kept = Vec::with_capacity(alloc, proofs.len())?;
     for proof in proofs {
-        proof.known();
         kept.push(proof.keep()?)?;
     }
     Ok(kept)
 }
 
+// The trees of references are valid.
+fn see_valid(proofs: &[ProofRef])
+    ensures { All (λ r. IsValid r.tree) proofs.now }
+{
+    for proof in proofs {
+        proof.known();
+    }
+}
+
 // An inference over the trees that references mean, as contracts see it.
 #[derive(Drop)]
-struct Inference {
+struct SeenInference {
     root: Snapshot<Node>,
     premises: Snapshot<Vec<ProofRef>>,
 }
 
 struct Over;
 
-impl Means<Inference> for Over {
+impl Means<SeenInference> for Over {
     ghost tree = { λ i. node i.root.value.rule i.root.value.end (trees_of i.premises.value.items) };
 }
 
@@ -145,11 +152,11 @@ impl Means<Inference> for Over {
 fn tree_over(root: &Node, premises: &Vec<ProofRef>) -> ProofTree
     ensures { result.tree ≡ node root.now.rule root.now.end (trees_of premises.now.items) }
 {
-    let inference = Inference {
+    let inference = SeenInference {
         root: Snapshot::of(root),
         premises: Snapshot::of(premises),
     };
-    ProofTree::of::<Inference, Over>(&inference)
+    ProofTree::of::<SeenInference, Over>(&inference)
 }
 
 /// What a reference is made of but for its place in the graph: all that is needed of memory, so that a node is put in soon.
@@ -160,23 +167,31 @@ pub(crate) struct Draft {
 }
 
 impl Draft {
-    ghost use Rattle.proof_graph.specs.Drafts.{IsDraftOf};
+    ghost use Rattle.proof_graph.specs.Drafts.{IsDraftOf, drafted};
+
+    /// The premises.
+    pub fn premises(&self) -> &[ProofRef]
+        ensures { result.now ≡ self.now.link.value.premises.items }
+    {
+        &self.link.premises
+    }
 
     /// The draft of the reference of a node whose premises are these.
     pub fn new(
         alloc: Global,
         nodes: &Nodes,
         key: &Key,
-        premises: &[ProofRef],
+        premises: Vec<ProofRef>,
     ) -> Result<Draft, AllocError>
-        requires of { All (λ p. p.home ≡ nodes.now) premises.now }
-        requires numbers { key.now.premises ≡ numbers_of premises.now }
-        requires inference { IsInference key.now.rule key.now.end (trees_of premises.now) }
-        ensures { IfOk result (IsDraftOf nodes.now key.now) }
+        requires of { All (λ p. p.home ≡ nodes.now) premises.items }
+        requires numbers { key.now.premises ≡ numbers_of premises.items }
+        requires inference { IsInference key.now.rule key.now.end (trees_of premises.items) }
+        ensures draft { IfOk result (IsDraftOf nodes.now key.now) }
+        ensures tree { IfOk result (λ d. drafted d ≡ node key.now.rule key.now.end (trees_of premises.items)) }
     {
         let root = key.node();
-        let counts = counts_over(&root.rule, premises);
-        let premises = keep_all(alloc, premises)?;
+        see_valid(&premises);
+        let counts = counts_over(&root.rule, &premises);
         let tree = tree_over(root, &premises);
         let key = key.keep()?;
         let stamp = Stamp { key, tree };
@@ -194,6 +209,7 @@ impl Draft {
         requires { IsDraftOf nodes.now key.now self }
         ensures home { IfOk result (λ r. r.home ≡ nodes.now) }
         ensures key { IfOk result (λ r. key_of r ≡ key.now) }
+        ensures tree { IfOk result (λ r. r.tree ≡ drafted self) }
     {
         let _key = key;
         let Draft { stamp, link } = self;

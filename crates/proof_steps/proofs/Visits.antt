@@ -1,46 +1,15 @@
 -- What a walk over trees lists, and where.
 use Rattle.std.proofs.Common.{◌≡◌, ℕ, ◌+◌, ◌<◌, List, [], ◌∷◌, ◌++◌, take, length, get_or, cond, Bool, true, false, refl, sym, ap, ◌∙◌, subst, append_assoc, append-nil}
-use Rattle.std.specs.Prelude.{Option, Some, None, option_map, slice_get}
+use Rattle.std.specs.Prelude.{Some, slice_get}
 use Rattle.std.specs.List.{list_any}
 use Rattle.std.proofs.lemmas.List.{take_more}
 use mathlib.Core.List.{IsPrefix}
-use Rattle.proof_trees.specs.Trees.{Tree, Trees, none, more, rule_of, concl, below}
-use Rattle.proof_graph.specs.declared.node.Node.{Node}
+use Rattle.proof_trees.specs.Trees.{Tree, Trees, none, more, below}
 use Rattle.proof_graph.specs.References.{Reference, trees_of}
 use Rattle.proof_steps.specs.Subtrees.{same_tree, subtrees, subtrees_all, appended, appended_each}
-use Rattle.proof_steps.specs.Places.{places, node_in}
-use Rattle.proof_steps.specs.Listed.{AllIn, ArePlaces, AreDistinct, IsClosed}
-use Rattle.proof_steps.proofs.Standing.{some_same, get_left, place_of, node_back}
+use Rattle.proof_steps.specs.Listed.{ArePlaces}
+use Rattle.proof_steps.proofs.Standing.{get_left}
 use Rattle.proof_steps.proofs.Appending.{appended_known, each-append, subtrees_root}
-
--- the places of trees are those at which they stand
-pub places_are : (xs : List Tree) → AreDistinct xs → (is : List ℕ) (ts : Trees) → ArePlaces xs is ts → is ≡ places xs ts
-places_are xs distinct [] none h = refl
-places_are xs distinct [] (more t ts) h = absurd h
-places_are xs distinct (i ∷ is) none h = absurd h
-places_are xs distinct (i ∷ is) (more t ts) h = λ j. place_of xs t i distinct h.0 j ∷ places_are xs distinct is ts h.1 j
-
-pub all_in_places : (xs : List Tree) (is : List ℕ) (ts : Trees) → ArePlaces xs is ts → AllIn xs ts
-all_in_places xs [] none h = tt
-all_in_places xs [] (more t ts) h = absurd h
-all_in_places xs (i ∷ is) none h = absurd h
-all_in_places xs (i ∷ is) (more t ts) h = ((i, h.0), all_in_places xs is ts h.1)
-
--- the node of a tree whose premises' trees stand at these places
-pub node_places : (xs : List Tree) → AreDistinct xs → (t : Tree) (is : List ℕ) (n : Node) → ArePlaces xs is (below t)
-    → n ≡ record { rule = rule_of t; end = concl t; premises = is } → n ≡ node_in xs t
-node_places xs distinct t is n h same = same ∙ (λ i. record { rule = rule_of t; end = concl t; premises = places_are xs distinct is (below t) h i })
-
--- a tree is at the place at which its node was found
-at_found : (xs : List Tree) → IsClosed xs → (t : Tree) (n : Node) (i : ℕ) → AllIn xs (below t) → n ≡ node_in xs t → (o : Option Tree) → slice_get xs i ≡ o
-    → option_map (node_in xs) o ≡ Some n → o ≡ Some t
-at_found xs closed t n i premises is None there h = cc
-at_found xs closed t n i premises is (Some u) there h =
-    ap Some (node_back xs u t (closed u (i, there)) premises (some_same (node_in xs u) n h ∙ is))
-
-pub found_tree : (xs : List Tree) → IsClosed xs → (t : Tree) (n : Node) (i : ℕ) → AllIn xs (below t) → n ≡ node_in xs t
-    → option_map (node_in xs) (slice_get xs i) ≡ Some n → slice_get xs i ≡ Some t
-found_tree xs closed t n i premises is h = at_found xs closed t n i premises is (slice_get xs i) refl h
 
 pub found_known : (xs : List Tree) (t : Tree) (i : ℕ) → slice_get xs i ≡ Some t → xs ≡ appended xs t
 found_known xs t i h = sym (appended_known xs t (i, h))

@@ -3,7 +3,6 @@ use Rattle.std.specs.Prelude.{ℕ, Bool, List, [], ◌∷◌, map}
 use Rattle.std.specs.List.{position_or_len}
 use Rattle.lk_rules.specs.declared.rule.Step.{Step}
 use Rattle.proof_trees.specs.Trees.{Tree, Trees, none, more, rule_of, concl, below, is_cut}
-use Rattle.proof_graph.specs.declared.node.Node.{Node}
 use Rattle.proof_steps.specs.Subtrees.{same_tree, distinct_subtrees}
 
 -- the place of a tree in a list
@@ -18,10 +17,6 @@ places xs (more t ts) = place xs t ∷ places xs ts
 abbrev pub step_in : List Tree → Tree → Step
 step_in xs t = record { rule = rule_of t; premises = places xs (below t); end = concl t }
 
--- the same as a node
-abbrev pub node_in : List Tree → Tree → Node
-node_in xs t = record { rule = rule_of t; end = concl t; premises = places xs (below t) }
-
 -- the steps of a tree: one for each distinct subtree in post-order, whose premises are the places of their trees among these
 abbrev pub steps_of : Tree → List Step
 steps_of t = map (step_in (distinct_subtrees t)) (distinct_subtrees t)
@@ -29,7 +24,3 @@ steps_of t = map (step_in (distinct_subtrees t)) (distinct_subtrees t)
 -- whether a step is a cut
 abbrev pub is_cut_step : Step → Bool
 is_cut_step step = is_cut step.rule
-
--- a node as a step
-abbrev pub step_of_node : Node → Step
-step_of_node n = record { rule = n.rule; premises = n.premises; end = n.end }

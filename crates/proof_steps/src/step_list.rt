@@ -18,7 +18,8 @@ use std::alloc::{AllocError, Global};
 // The listing of the distinct subtrees.
 fn list(alloc: Global, graph: &Graph, proof: &ProofRef) -> Result<Listing, AllocError>
     requires { IsOf graph.now proof.now }
-    ensures { IfOk result (λ listing. listing.trees ≡ distinct_subtrees proof.now.tree) }
+    ensures trees { IfOk result (λ listing. listing.trees ≡ distinct_subtrees proof.now.tree) }
+    ensures home { IfOk result (λ listing. listing.home ≡ graph.now.nodes) }
 {
     let mut listing = Listing::new(alloc, graph);
     visit(&mut listing, graph, alloc, proof)?;
@@ -37,7 +38,7 @@ pub fn steps(alloc: Global, graph: &Graph, proof: &ProofRef) -> Result<Vec<Step>
 {
     proof.known();
     let listing = list(alloc, graph, proof)?;
-    listing.to_steps(alloc)
+    listing.to_steps(graph, alloc)
 }
 
 /// The number of distinct subtrees.
@@ -56,5 +57,5 @@ pub fn first_cut(alloc: Global, graph: &Graph, proof: &ProofRef) -> Result<Optio
     ensures none { IfOk result (λ place. IsNone place ↔ IsCutFree proof.now.tree) }
 {
     let listing = list(alloc, graph, proof)?;
-    Ok(listing.first_cut())
+    Ok(listing.first_cut(graph))
 }

@@ -3,4 +3,4 @@ use Rattle.proof_steps.proofs.CutPlaces.{no_first_cut}
 use Rattle.proof_steps.proofs.step_list.first_cut.Goals as goal
 
 pub returns-clause-none : goal.returns-clause-none
-returns-clause-none c = no_first_cut c.args.proof.now.tree c.first_cut.result (rw c.in_ok-listing.ensures at c.first_cut.ensures)
+returns-clause-none c = no_first_cut c.args.proof.now.tree c.first_cut.result (rw c.in_ok-listing.ensures.trees at c.first_cut.ensures)

@@ -14,21 +14,21 @@ use Rattle.proof_steps.proofs.step_list.steps.Goals as goal
 
 pub returns-clause-trees : goal.returns-clause-trees
 returns-clause-trees c =
-    let same = rw c.in_ok-listing.ensures at c.to_steps.ensures in
+    let same = rw c.in_ok-listing.ensures.trees at c.to_steps.ensures in
     by_items (λ v. v.items) (λ steps. trees_of_steps steps ≡ distinct_subtrees c.args.proof.now.tree) c.to_steps.result (steps_of c.args.proof.now.tree) same (trees_back c.args.proof.now.tree)
 
 pub returns-clause-root : goal.returns-clause-root
 returns-clause-root c =
-    let same = rw c.in_ok-listing.ensures at c.to_steps.ensures in
+    let same = rw c.in_ok-listing.ensures.trees at c.to_steps.ensures in
     by_items (λ v. v.items) (λ steps. IsTreeOf steps c.args.proof.now.tree) c.to_steps.result (steps_of c.args.proof.now.tree) same (tree_back c.args.proof.now.tree)
 
 pub returns-clause-proof : goal.returns-clause-proof
 returns-clause-proof c =
-    let same = rw c.in_ok-listing.ensures at c.to_steps.ensures in
+    let same = rw c.in_ok-listing.ensures.trees at c.to_steps.ensures in
     by_items (λ v. v.items) IsProof c.to_steps.result (steps_of c.args.proof.now.tree) same (proof_again c.args.proof.now.tree c.known.ensures.valid)
 
 pub returns-clause-formed : goal.returns-clause-formed
 returns-clause-formed c =
-    let same = rw c.in_ok-listing.ensures at c.to_steps.ensures in
+    let same = rw c.in_ok-listing.ensures.trees at c.to_steps.ensures in
     by_items (λ v. v.items) (λ steps. All (λ (s : Step). IsFormedRule s.rule) steps) c.to_steps.result (steps_of c.args.proof.now.tree) same
     (formed_steps c.args.proof.now.tree c.known.ensures.valid)

@@ -1,12 +1,11 @@
 -- The formulas so far stand at their numbers.
 use Rattle.std.proofs.Common.{◌+◌, ◌-◌, ◌≤◌, length}
-use Rattle.std.specs.List.{All}
-use Rattle.arena_cells.specs.Standing.{IsFormulaAt}
+use Rattle.arena_graph.specs.Leaving.{HasMet}
 use Rattle.arena_graph.proofs.leaving.Met.meet_others.Given as goal
 
 abbrev pub invariant-loop-j : goal.invariant-loop-j
 invariant-loop-j l = record {
-  met : All (IsFormulaAt l.arena) l.self.formulas.items;
+  met : HasMet l.arena l.self;
   last_left : l.i ≤ length l.last;
   left : l.j ≤ length l.formulas;
 }

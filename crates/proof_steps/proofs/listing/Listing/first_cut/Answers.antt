@@ -1,4 +1,4 @@
--- The nodes are those of the trees.
+-- The entries are steps of the trees.
 use Rattle.std.proofs.Common.{◌≡◌, map, subst}
 use Rattle.std.specs.List.{position}
 use Rattle.proof_steps.specs.Places.{step_in, is_cut_step}
@@ -9,5 +9,5 @@ use Rattle.proof_steps.proofs.listing.Listing.first_cut.Goals as goal
 
 pub returns : goal.returns
 returns c =
-    subst (λ (v : Listed). c.first_cut_node.result ≡ position is_cut_step (map (step_in v.trees) v.trees)) c.self.view_is
-    (first_cut_place (trees_in c.self.inside.proofs.items) c.self.inside.nodes.items c.first_cut_node.result c.self.invariant.listed (rw c.deref.ensures.value at c.first_cut_node.ensures))
+    subst (λ (v : Listed). c.first_cut_entry.result ≡ position is_cut_step (map (step_in v.trees) v.trees)) c.self.view_is
+    (first_cut_place (trees_in c.self.inside.entries.items) c.self.inside.entries.items c.first_cut_entry.result c.self.invariant.steps (rw c.deref.ensures.value at c.first_cut_entry.ensures))
