@@ -5,3 +5,4 @@ pub mod Tasks
 pub mod Lists
 pub mod Pairs
 pub mod Bindings
+pub mod NodeKeys

@@ -2,11 +2,34 @@
 ghost use Rattle.std.specs.Prelude.{◌≡◌, IfOk};
 ghost use Rattle.fol.specs.Syntax.{atom};
 ghost use Rattle.arena_cells.specs.Standing.{Extends, HasSymbol, HasVariable, HasTerm, HasTerms, HasFormula};
+ghost use Rattle.arena.specs.NodeKeys.{key_over, key_of_both};
 
 use crate::arena::Arena;
 use arena_cells::Key;
 use fol::{Formula, FormulaNode, Predicate, Sym, Term, TermNode, Terms, TermsLink, Var};
 use std::alloc::{AllocError, Global};
+
+// The key of a formula with this body: of a negation, a universal or, of each other node, an existential formula.
+fn key_over(node: &FormulaNode, body: u32) -> Key
+    ensures { result ≡ key_over node.now body }
+{
+    match node {
+        FormulaNode::Not(_) => Key::Not(body),
+        FormulaNode::All(_) => Key::All(body),
+        _ => Key::Ex(body),
+    }
+}
+
+// The key of a formula of two: of a conjunction, a disjunction or, of each other node, an implication.
+fn key_of_both(node: &FormulaNode, first: u32, second: u32) -> Key
+    ensures { result ≡ key_of_both node.now first second }
+{
+    match node {
+        FormulaNode::And(..) => Key::And(first, second),
+        FormulaNode::Or(..) => Key::Or(first, second),
+        _ => Key::Imp(first, second),
+    }
+}
 
 impl Arena {
     /// The number of a symbol.
@@ -81,29 +104,23 @@ impl Arena {
         ensures formula { IfOk result (λ n. HasFormula self.new n formula.now) }
         ensures grown { Extends self.old self.new }
     {
-        let key = match formula.node() {
-            FormulaNode::Atom(predicate, terms) => {
-                return self.walk_atom(alloc, predicate, terms);
+        let node = formula.node();
+        match node {
+            FormulaNode::Atom(predicate, terms) => self.walk_atom(alloc, predicate, terms),
+            FormulaNode::Top => self.put(alloc, Key::Top),
+            FormulaNode::Bot => self.put(alloc, Key::Bot),
+            FormulaNode::Not(body) | FormulaNode::All(body) | FormulaNode::Ex(body) => {
+                let body = self.walk_formula(alloc, body)?;
+                self.put(alloc, key_over(node, body))
             }
-            FormulaNode::Top => Key::Top,
-            FormulaNode::Bot => Key::Bot,
-            FormulaNode::Not(body) => Key::Not(self.walk_formula(alloc, body)?),
-            FormulaNode::And(first, second) => {
+            FormulaNode::And(first, second)
+            | FormulaNode::Or(first, second)
+            | FormulaNode::Imp(first, second) => {
                 let first = self.walk_formula(alloc, first)?;
-                Key::And(first, self.walk_formula(alloc, second)?)
+                let second = self.walk_formula(alloc, second)?;
+                self.put(alloc, key_of_both(node, first, second))
             }
-            FormulaNode::Or(first, second) => {
-                let first = self.walk_formula(alloc, first)?;
-                Key::Or(first, self.walk_formula(alloc, second)?)
-            }
-            FormulaNode::Imp(first, second) => {
-                let first = self.walk_formula(alloc, first)?;
-                Key::Imp(first, self.walk_formula(alloc, second)?)
-            }
-            FormulaNode::All(body) => Key::All(self.walk_formula(alloc, body)?),
-            FormulaNode::Ex(body) => Key::Ex(self.walk_formula(alloc, body)?),
-        };
-        self.put(alloc, key)
+        }
     }
 
     // The number of an atom, whose symbol may have a body.

@@ -1,7 +1,7 @@
 //! Tasks whose results an arena keeps.
 
 /// A change of terms and formulas, by numbers.
-#[derive(Clone, Copy, Debug)]
+#[derive(Clone, Copy)]
 pub enum Change {
     /// The term takes the place of the variable of the quantifier that has so many quantifiers between itself and what is changed.
     Instance(u32, u32),
@@ -12,7 +12,7 @@ pub enum Change {
 }
 
 /// A task whose result an arena keeps, by numbers.
-#[derive(Clone, Copy, Debug)]
+#[derive(Clone, Copy)]
 pub enum Task {
     /// What stands at the number, changed.
     Change(Change, u32),

@@ -1,35 +1,34 @@
 -- What an arena keeps: cells in the order in which they came, each with its key and, for some kinds, its value.
 use Rattle.std.specs.Prelude.{◌≡◌, ℕ, ◌≤◌, ◌^◌, List, [], ◌∷◌, ◌++◌, length, Some, slice_get}
+use Rattle.fol.specs.Syntax.{Formula, not, and, or, imp, all, ex}
 use Rattle.arena_cells.specs.declared.key.Key.{Key}
 use Rattle.arena_cells.specs.declared.key.Key.TheVariants as keys
 use Rattle.arena_cells.specs.declared.cells.Stored.{Stored}
-use Rattle.arena_cells.specs.declared.cells.Stored.TheVariants.{Symbol, Term, Terms, Formula, Nothing}
+use Rattle.arena_cells.specs.declared.cells.Stored.TheVariants as stored
 use Rattle.arena_cells.specs.declared.cells.Cells.TheInside.{Inside}
 use Rattle.arena_cells.specs.Items.{Item, symbol, term, terms, formula}
 use Rattle.arena_cells.specs.Standing.{IsDistinct}
 use Rattle.arena_cells.specs.Meaning.{meaning, IsKeyAt}
 
--- the key is that of a formula
-abbrev pub IsFormulaKey : Key → Type 0
-IsFormulaKey (keys.Atom s ts) = Unit {0}
-IsFormulaKey (keys.Defined s f ts) = Unit {0}
-IsFormulaKey keys.Top = Unit {0}
-IsFormulaKey keys.Bot = Unit {0}
-IsFormulaKey (keys.Not f) = Unit {0}
-IsFormulaKey (keys.And f g) = Unit {0}
-IsFormulaKey (keys.Or f g) = Unit {0}
-IsFormulaKey (keys.Imp f g) = Unit {0}
-IsFormulaKey (keys.All f) = Unit {0}
-IsFormulaKey (keys.Ex f) = Unit {0}
-IsFormulaKey k = ⊥
+-- the formula that a key makes of one formula
+abbrev pub quantified_or_negated : Key → Formula → Formula
+quantified_or_negated (keys.Not m) f = not f
+quantified_or_negated (keys.All m) f = all f
+quantified_or_negated k f = ex f
+
+-- the formula that a key makes of two formulas
+abbrev pub connected : Key → Formula → Formula → Formula
+connected (keys.And m n) f g = and f g
+connected (keys.Or m n) f g = or f g
+connected k f g = imp f g
 
 -- what is stored of an item
 abbrev pub stored_of : Item → Stored
-stored_of (symbol x) = Symbol x
-stored_of (term x) = Term x
-stored_of (terms x) = Terms x
-stored_of (formula x) = Formula x
-stored_of i = Nothing
+stored_of (symbol x) = stored.Symbol x
+stored_of (term x) = stored.Term x
+stored_of (terms x) = stored.Terms x
+stored_of (formula x) = stored.Formula x
+stored_of i = stored.Nothing
 
 -- a key with what is stored of its item
 abbrev pub Cell : Type 0

@@ -1,7 +1,8 @@
 -- Keys of a table.
+--     has_only_numbers      whether a key has no symbol, no variable and no list
 --     same_key      whether two keys are equal
 --     key_fingerprint      a number in which unequal keys mostly differ
-use Rattle.std.specs.Prelude.{ℕ, ◌+◌, ◌*◌, ◌^◌, Bool, List, [], ◌∷◌}
+use Rattle.std.specs.Prelude.{ℕ, ◌+◌, ◌*◌, ◌^◌, Bool, true, false, List, [], ◌∷◌}
 use Rattle.std.specs.Coded.{Coded}
 use Rattle.fol.specs.Mixing.{mixed}
 use Rattle.fol.specs.Facts.{sym_fingerprint, var_fingerprint}
@@ -19,6 +20,15 @@ coded_key = row.the_row.coded
 
 abbrev pub same_key : Key → Key → Bool
 same_key = same_by coded_key
+
+-- whether the key has nothing but numbers: no symbol, no variable and no list
+abbrev pub has_only_numbers : Key → Bool
+has_only_numbers (Symbol s) = false
+has_only_numbers (Free v) = false
+has_only_numbers (Variables ns) = false
+has_only_numbers (Map vs ts) = false
+has_only_numbers (Side ns) = false
+has_only_numbers k = true
 
 -- the fingerprint of a kind and at most two numbers
 unfoldable pub short_fingerprint : ℕ → ℕ → ℕ → ℕ

@@ -15,7 +15,6 @@ use std::alloc::{AllocError, Global};
 use std::marker::Model;
 
 /// The value of a cell that is a symbol, a term, a list of terms or a formula. Of other cells only the key is kept.
-#[derive(Debug)]
 pub(crate) enum Stored {
     Symbol(Sym),
     Term(Term),

@@ -1,5 +1,6 @@
 //! Keys: what stands at a number, with the numbers of its parts.
-ghost use Rattle.std.specs.Prelude.{◌≡◌, IfOk};
+ghost use Rattle.std.specs.Prelude.{◌≡◌, true, IfOk};
+ghost use Rattle.arena_cells.specs.Keys.{has_only_numbers};
 
 use crate::numbers::Numbers;
 use fol::{Sym, Var};
@@ -7,7 +8,7 @@ use std::alloc::AllocError;
 
 /// A rule with the numbers of what it names: its main formula (of a cut the cut formula) and, where it instantiates a quantifier, a term
 /// or an eigenvariable, which is the number of its term.
-#[derive(Clone, Copy, Debug)]
+#[derive(Clone, Copy)]
 pub enum RuleKey {
     Ax(u32),
     TopR,
@@ -31,7 +32,7 @@ pub enum RuleKey {
 }
 
 /// The numbers of an inference's premises.
-#[derive(Clone, Copy, Debug)]
+#[derive(Clone, Copy)]
 pub enum Parts {
     Zero,
     One(u32),
@@ -39,7 +40,6 @@ pub enum Parts {
 }
 
 /// What stands at a number of an arena, with the numbers of its parts.
-#[derive(Debug)]
 pub enum Key {
     /// A symbol.
     Symbol(Sym),
@@ -123,25 +123,36 @@ impl Key {
         Ok(match self {
             Key::Symbol(symbol) => Key::Symbol(symbol.copy()?),
             Key::Free(variable) => Key::Free(variable.copy()?),
-            Key::Bound(index) => Key::Bound(*index),
-            Key::App(symbol, terms) => Key::App(*symbol, *terms),
-            Key::Nil => Key::Nil,
-            Key::Cons(term, terms) => Key::Cons(*term, *terms),
-            Key::Atom(symbol, terms) => Key::Atom(*symbol, *terms),
-            Key::Defined(symbol, body, terms) => Key::Defined(*symbol, *body, *terms),
-            Key::Top => Key::Top,
-            Key::Bot => Key::Bot,
-            Key::Not(body) => Key::Not(*body),
-            Key::And(first, second) => Key::And(*first, *second),
-            Key::Or(first, second) => Key::Or(*first, *second),
-            Key::Imp(first, second) => Key::Imp(*first, *second),
-            Key::All(body) => Key::All(*body),
-            Key::Ex(body) => Key::Ex(*body),
             Key::Variables(numbers) => Key::Variables(numbers.copy()?),
             Key::Map(variables, terms) => Key::Map(variables.copy()?, terms.copy()?),
             Key::Side(numbers) => Key::Side(numbers.copy()?),
-            Key::Sequent(left, right) => Key::Sequent(*left, *right),
-            Key::Tree(rule, end, premises) => Key::Tree(*rule, *end, *premises),
+            _ => self.copy_numbers(),
         })
+    }
+
+    // The same key, which has nothing but numbers.
+    fn copy_numbers(&self) -> Key
+        requires { has_only_numbers self.now ≡ true }
+        ensures { result ≡ self.now }
+    {
+        match *self {
+            Key::Bound(index) => Key::Bound(index),
+            Key::App(symbol, terms) => Key::App(symbol, terms),
+            Key::Nil => Key::Nil,
+            Key::Cons(term, terms) => Key::Cons(term, terms),
+            Key::Atom(symbol, terms) => Key::Atom(symbol, terms),
+            Key::Defined(symbol, body, terms) => Key::Defined(symbol, body, terms),
+            Key::Top => Key::Top,
+            Key::Bot => Key::Bot,
+            Key::Not(body) => Key::Not(body),
+            Key::And(first, second) => Key::And(first, second),
+            Key::Or(first, second) => Key::Or(first, second),
+            Key::Imp(first, second) => Key::Imp(first, second),
+            Key::All(body) => Key::All(body),
+            Key::Ex(body) => Key::Ex(body),
+            Key::Sequent(left, right) => Key::Sequent(left, right),
+            Key::Tree(rule, end, premises) => Key::Tree(rule, end, premises),
+            _ => unreachable!(),
+        }
     }
 }

@@ -6,7 +6,7 @@ use std::marker::Model;
 use std::sync::Arc;
 
 /// A list of numbers that cannot be changed and is shared by its copies.
-#[derive(Drop, Debug)]
+#[derive(Drop)]
 pub struct Numbers {
     items: Arc<Vec<u32>>,
 }

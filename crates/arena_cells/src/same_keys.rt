@@ -62,24 +62,24 @@ fn is_same(one: &Key, other: &Key) -> bool
         (Key::Symbol(s), Key::Symbol(t)) => *s == *t,
         (Key::Free(x), Key::Free(y)) => *x == *y,
         (Key::Nil, Key::Nil) | (Key::Top, Key::Top) | (Key::Bot, Key::Bot) => true,
-        (Key::Bound(a), Key::Bound(b))
-        | (Key::Not(a), Key::Not(b))
-        | (Key::All(a), Key::All(b))
-        | (Key::Ex(a), Key::Ex(b)) => a == b,
-        (Key::App(a, b), Key::App(c, d))
-        | (Key::Cons(a, b), Key::Cons(c, d))
-        | (Key::Atom(a, b), Key::Atom(c, d))
-        | (Key::And(a, b), Key::And(c, d))
-        | (Key::Or(a, b), Key::Or(c, d))
-        | (Key::Imp(a, b), Key::Imp(c, d))
-        | (Key::Sequent(a, b), Key::Sequent(c, d)) => a == c && b == d,
-        (Key::Defined(a, b, c), Key::Defined(d, e, f)) => a == d && b == e && c == f,
+        (&Key::Bound(a), &Key::Bound(b))
+        | (&Key::Not(a), &Key::Not(b))
+        | (&Key::All(a), &Key::All(b))
+        | (&Key::Ex(a), &Key::Ex(b)) => a == b,
+        (&Key::App(a, b), &Key::App(c, d))
+        | (&Key::Cons(a, b), &Key::Cons(c, d))
+        | (&Key::Atom(a, b), &Key::Atom(c, d))
+        | (&Key::And(a, b), &Key::And(c, d))
+        | (&Key::Or(a, b), &Key::Or(c, d))
+        | (&Key::Imp(a, b), &Key::Imp(c, d))
+        | (&Key::Sequent(a, b), &Key::Sequent(c, d)) => a == c && b == d,
+        (&Key::Defined(a, b, c), &Key::Defined(d, e, f)) => a == d && b == e && c == f,
         (Key::Variables(a), Key::Variables(b)) | (Key::Side(a), Key::Side(b)) => {
             are_same_numbers(a, b)
         }
         (Key::Map(a, b), Key::Map(c, d)) => are_same_numbers(a, c) && are_same_numbers(b, d),
-        (Key::Tree(rule, end, parts), Key::Tree(other, sequent, numbers)) => {
-            end == sequent && are_same_parts(*parts, *numbers) && is_same_rule(*rule, *other)
+        (&Key::Tree(rule, end, parts), &Key::Tree(other, sequent, numbers)) => {
+            end == sequent && are_same_parts(parts, numbers) && is_same_rule(rule, other)
         }
         _ => false,
     }

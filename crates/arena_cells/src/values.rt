@@ -1,8 +1,9 @@
 //! What is stored of a key's item: the value, which shares the values of the parts.
 ghost use Rattle.std.specs.Prelude.{◌≡◌, IfOk};
+ghost use Rattle.fol.specs.Syntax.{plain, pred, defined, atom as atom_of};
 ghost use Rattle.arena_cells.specs.Meaning.{meaning, HasParts};
-ghost use Rattle.arena_cells.specs.Standing.{formula_at, IsFormulaAt};
-ghost use Rattle.arena_cells.specs.Cells.{stored_of, IsFormulaKey};
+ghost use Rattle.arena_cells.specs.Standing.{term_of, terms_of, formula_of, symbol_at, terms_at, formula_at, IsSymbolAt, IsTermsAt, IsFormulaAt};
+ghost use Rattle.arena_cells.specs.Cells.{stored_of, quantified_or_negated, connected};
 
 use crate::cells::{Cells, Stored};
 use crate::key::Key;
@@ -16,17 +17,8 @@ pub(crate) fn stored_for(cells: &Cells, alloc: Global, key: &Key) -> Result<Stor
 {
     Ok(match key {
         Key::Symbol(symbol) => Stored::Symbol(symbol.copy()?),
-        Key::Free(variable) => Stored::Term(Term::free(alloc, variable.copy()?)?),
-        Key::Bound(index) => Stored::Term(Term::bound(alloc, *index)?),
-        Key::App(symbol, terms) => {
-            let symbol = cells.symbol(*symbol).copy()?;
-            Stored::Term(Term::app(alloc, symbol, cells.terms(*terms).copy()?)?)
-        }
-        Key::Nil => Stored::Terms(Terms::empty(alloc)?),
-        Key::Cons(term, terms) => {
-            let term = cells.term(*term).copy()?;
-            Stored::Terms(Terms::cons(alloc, term, cells.terms(*terms).copy()?)?)
-        }
+        Key::Free(_) | Key::Bound(_) | Key::App(..) => Stored::Term(term_for(cells, alloc, key)?),
+        Key::Nil | Key::Cons(..) => Stored::Terms(terms_for(cells, alloc, key)?),
         Key::Variables(_) | Key::Map(..) | Key::Side(_) | Key::Sequent(..) | Key::Tree(..) => {
             Stored::Nothing
         }
@@ -39,44 +31,113 @@ pub(crate) fn stored_for(cells: &Cells, alloc: Global, key: &Key) -> Result<Stor
         | Key::Or(..)
         | Key::Imp(..)
         | Key::All(_)
-        | Key::Ex(_) => formula_for(cells, alloc, key)?,
+        | Key::Ex(_) => Stored::Formula(formula_for(cells, alloc, key)?),
     })
 }
 
-// What is stored of a formula's key. Of other keys it says nothing.
-fn formula_for(cells: &Cells, alloc: Global, key: &Key) -> Result<Stored, AllocError>
+// The key's term, or the default where it is none.
+fn term_for(cells: &Cells, alloc: Global, key: &Key) -> Result<Term, AllocError>
     requires { HasParts cells.now key.now }
-    ensures { IfOk result (λ stored. IsFormulaKey key.now → stored ≡ stored_of (meaning cells.now key.now)) }
+    ensures { IfOk result (λ term. term ≡ term_of (meaning cells.now key.now)) }
 {
-    let formula = match key {
-        Key::Atom(symbol, terms) => {
+    match key {
+        Key::Free(variable) => Term::free(alloc, variable.copy()?),
+        Key::Bound(index) => Term::bound(alloc, *index),
+        Key::App(symbol, terms) => {
             let symbol = cells.symbol(*symbol).copy()?;
-            Formula::atom(alloc, symbol, cells.terms(*terms).copy()?)?
+            Term::app(alloc, symbol, cells.terms(*terms).copy()?)
         }
-        Key::Defined(symbol, body, terms) => {
-            let predicate = Predicate {
-                symbol: cells.symbol(*symbol).copy()?,
-                body: Some(part(cells, *body)?),
-            };
-            Formula::atom_of(alloc, predicate, cells.terms(*terms).copy()?)?
-        }
-        Key::Top => Formula::top(alloc)?,
-        Key::Bot => Formula::bot(alloc)?,
-        Key::Not(body) => Formula::not(alloc, part(cells, *body)?)?,
-        Key::And(first, second) => {
-            Formula::and(alloc, part(cells, *first)?, part(cells, *second)?)?
-        }
-        Key::Or(first, second) => {
-            Formula::or(alloc, part(cells, *first)?, part(cells, *second)?)?
-        }
-        Key::Imp(first, second) => {
-            Formula::imp(alloc, part(cells, *first)?, part(cells, *second)?)?
-        }
-        Key::All(body) => Formula::all(alloc, part(cells, *body)?)?,
-        Key::Ex(body) => Formula::ex(alloc, part(cells, *body)?)?,
-        _ => return Ok(Stored::Nothing),
+        _ => Term::bound(alloc, 0),
+    }
+}
+
+// The key's list of terms, or the default where it is none.
+fn terms_for(cells: &Cells, alloc: Global, key: &Key) -> Result<Terms, AllocError>
+    requires { HasParts cells.now key.now }
+    ensures { IfOk result (λ terms. terms ≡ terms_of (meaning cells.now key.now)) }
+{
+    let Key::Cons(term, terms) = key else {
+        return Terms::empty(alloc);
     };
-    Ok(Stored::Formula(formula))
+    let term = cells.term(*term).copy()?;
+    Terms::cons(alloc, term, cells.terms(*terms).copy()?)
+}
+
+// The key's formula, or the default where it is none.
+fn formula_for(cells: &Cells, alloc: Global, key: &Key) -> Result<Formula, AllocError>
+    requires { HasParts cells.now key.now }
+    ensures { IfOk result (λ formula. formula ≡ formula_of (meaning cells.now key.now)) }
+{
+    match key {
+        Key::Atom(symbol, terms) => atom(cells, alloc, *symbol, *terms),
+        Key::Defined(symbol, body, terms) => defined_atom(cells, alloc, *symbol, *body, *terms),
+        Key::Bot => Formula::bot(alloc),
+        Key::Not(body) | Key::All(body) | Key::Ex(body) => {
+            quantified_or_negated(alloc, key, part(cells, *body)?)
+        }
+        Key::And(first, second) | Key::Or(first, second) | Key::Imp(first, second) => {
+            let first = part(cells, *first)?;
+            connected(alloc, key, first, part(cells, *second)?)
+        }
+        _ => Formula::top(alloc),
+    }
+}
+
+// The atom of the symbol, which has no body, and the list of terms at the numbers.
+fn atom(cells: &Cells, alloc: Global, symbol: u32, terms: u32) -> Result<Formula, AllocError>
+    requires symbol { IsSymbolAt cells.now symbol }
+    requires terms { IsTermsAt cells.now terms }
+    ensures { IfOk result (λ formula. formula ≡ atom_of (plain (symbol_at cells.now symbol)) (terms_at cells.now terms)) }
+{
+    let symbol = cells.symbol(symbol).copy()?;
+    Formula::atom(alloc, symbol, cells.terms(terms).copy()?)
+}
+
+// The atom of the symbol, its body and the list of terms at the numbers.
+fn defined_atom(
+    cells: &Cells,
+    alloc: Global,
+    symbol: u32,
+    body: u32,
+    terms: u32,
+) -> Result<Formula, AllocError>
+    requires symbol { IsSymbolAt cells.now symbol }
+    requires body { IsFormulaAt cells.now body }
+    requires terms { IsTermsAt cells.now terms }
+    ensures { IfOk result (λ formula. formula ≡ atom_of (pred (symbol_at cells.now symbol) (defined (formula_at cells.now body))) (terms_at cells.now terms)) }
+{
+    let predicate = Predicate {
+        symbol: cells.symbol(symbol).copy()?,
+        body: Some(part(cells, body)?),
+    };
+    Formula::atom_of(alloc, predicate, cells.terms(terms).copy()?)
+}
+
+// The formula that the key makes of its only part: a negation, a universal or, of each other key, an existential formula.
+fn quantified_or_negated(alloc: Global, key: &Key, body: Formula) -> Result<Formula, AllocError>
+    ensures { IfOk result (λ formula. formula ≡ quantified_or_negated key.now body) }
+{
+    match key {
+        Key::Not(_) => Formula::not(alloc, body),
+        Key::All(_) => Formula::all(alloc, body),
+        _ => Formula::ex(alloc, body),
+    }
+}
+
+// The formula that the key makes of its two parts: a conjunction, a disjunction or, of each other key, an implication.
+fn connected(
+    alloc: Global,
+    key: &Key,
+    first: Formula,
+    second: Formula,
+) -> Result<Formula, AllocError>
+    ensures { IfOk result (λ formula. formula ≡ connected key.now first second) }
+{
+    match key {
+        Key::And(..) => Formula::and(alloc, first, second),
+        Key::Or(..) => Formula::or(alloc, first, second),
+        _ => Formula::imp(alloc, first, second),
+    }
 }
 
 // Another owner of the formula at the number.

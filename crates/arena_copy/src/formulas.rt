@@ -1,7 +1,9 @@
 //! Copies of formulas.
-ghost use Rattle.std.specs.Prelude.{◌<◌, IfOk};
-ghost use Rattle.arena_cells.specs.Standing.{Extends, HasFormula, formula_at, IsFormulaAt};
+ghost use Rattle.std.specs.Prelude.{◌≡◌, ◌<◌, IfOk};
+ghost use Rattle.fol.specs.Syntax.{atom, plain};
+ghost use Rattle.arena_cells.specs.Standing.{Extends, HasFormula, symbol_at, terms_at, formula_at, IsSymbolAt, IsTermsAt, IsFormulaAt};
 ghost use Rattle.arena_copy.specs.Copied.{AreCopied};
+ghost use Rattle.arena_copy.specs.Over.{over};
 
 use crate::copied::Copied;
 use crate::terms::{copy_symbol, copy_terms};
@@ -58,8 +60,46 @@ fn copy_two(
     Ok((first, second))
 }
 
+// The number of the copy of the atom of a symbol without a body.
+#[tactic(auto, using(arena_cells::proofs::Facts::places))]
+fn copy_atom(
+    alloc: Global,
+    from: &Arena,
+    to: &mut Arena,
+    copied: &mut Copied,
+    symbol: u32,
+    terms: u32,
+) -> Result<u32, AllocError>
+    requires symbol { IsSymbolAt from.now symbol }
+    requires terms { IsTermsAt from.now terms }
+    requires copied { AreCopied from.now to.old copied.old }
+    ensures formula { IfOk result (λ n. HasFormula to.new n (atom (plain (symbol_at from.now symbol)) (terms_at from.now terms))) }
+    ensures grown { Extends to.old to.new }
+    ensures copied { IfOk result (λ _. AreCopied from.now to.new copied.new) }
+{
+    let symbol = copy_symbol(alloc, from, to, symbol)?;
+    let terms = copy_terms(alloc, from, to, copied, terms)?;
+    to.put(alloc, Key::Atom(symbol, terms))
+}
+
+// The key of the same kind over these formulas, of which a negation and a quantified formula take the first alone.
+fn key_over(key: &Key, first: u32, second: u32) -> Key
+    ensures { result ≡ over key.now first second }
+{
+    match key {
+        Key::Not(_) => Key::Not(first),
+        Key::And(..) => Key::And(first, second),
+        Key::Or(..) => Key::Or(first, second),
+        Key::Imp(..) => Key::Imp(first, second),
+        Key::All(_) => Key::All(first),
+        Key::Ex(_) => Key::Ex(first),
+        _ => Key::Top,
+    }
+}
+
 // The number of the copy of a formula that wasn't copied before.
 #[cycle(copy_formula)]
+#[tactic(auto, using(arena_cells::proofs::Facts::places))]
 fn copy_new_formula(
     alloc: Global,
     from: &Arena,
@@ -73,30 +113,20 @@ fn copy_new_formula(
     ensures grown { Extends to.old to.new }
     ensures copied { IfOk result (λ _. AreCopied from.now to.new copied.new) }
 {
-    let key = match from.key(formula) {
-        Key::Atom(symbol, terms) => {
-            let symbol = copy_symbol(alloc, from, to, *symbol)?;
-            Key::Atom(symbol, copy_terms(alloc, from, to, copied, *terms)?)
+    let key = from.key(formula);
+    match key {
+        Key::Atom(symbol, terms) => copy_atom(alloc, from, to, copied, *symbol, *terms),
+        Key::Defined(..) => to.import_formula(alloc, from.formula(formula)),
+        Key::Top => to.put(alloc, Key::Top),
+        Key::Bot => to.put(alloc, Key::Bot),
+        Key::Not(body) | Key::All(body) | Key::Ex(body) => {
+            let copy = copy_formula(alloc, from, to, copied, *body)?;
+            to.put(alloc, key_over(key, copy, copy))
         }
-        Key::Defined(..) => return to.import_formula(alloc, from.formula(formula)),
-        Key::Top => Key::Top,
-        Key::Bot => Key::Bot,
-        Key::Not(body) => Key::Not(copy_formula(alloc, from, to, copied, *body)?),
-        Key::And(first, second) => {
+        Key::And(first, second) | Key::Or(first, second) | Key::Imp(first, second) => {
             let (first, second) = copy_two(alloc, from, to, copied, formula, *first, *second)?;
-            Key::And(first, second)
+            to.put(alloc, key_over(key, first, second))
         }
-        Key::Or(first, second) => {
-            let (first, second) = copy_two(alloc, from, to, copied, formula, *first, *second)?;
-            Key::Or(first, second)
-        }
-        Key::Imp(first, second) => {
-            let (first, second) = copy_two(alloc, from, to, copied, formula, *first, *second)?;
-            Key::Imp(first, second)
-        }
-        Key::All(body) => Key::All(copy_formula(alloc, from, to, copied, *body)?),
-        Key::Ex(body) => Key::Ex(copy_formula(alloc, from, to, copied, *body)?),
         _ => unreachable!(),
-    };
-    to.put(alloc, key)
+    }
 }

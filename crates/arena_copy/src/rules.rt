@@ -1,6 +1,7 @@
 //! Copies of rules.
-ghost use Rattle.std.specs.Prelude.{◌≡◌, IfOk};
-ghost use Rattle.arena_cells.specs.Standing.{Extends};
+ghost use Rattle.std.specs.Prelude.{◌≡◌, IfOk, IfSome};
+ghost use Rattle.lk_rules.specs.RuleOrder.{formula_of, term_of, variable_of};
+ghost use Rattle.arena_cells.specs.Standing.{Extends, HasTerm, HasVariable, HasFormula};
 ghost use Rattle.arena_cells.specs.Meaning.{rule_at, HasRuleParts};
 ghost use Rattle.arena_copy.specs.Copied.{AreCopied};
 
@@ -8,10 +9,54 @@ use crate::copied::Copied;
 use crate::formulas::copy_formula;
 use crate::terms::{copy_term, copy_variable};
 use arena::{Arena, RuleKey};
+use arena_proofs::{rule_formula, rule_with};
 use std::alloc::{AllocError, Global};
 
+// The number of the copy of the formula that a rule names. Of a rule that names none it says nothing.
+fn copy_main(
+    alloc: Global,
+    from: &Arena,
+    to: &mut Arena,
+    copied: &mut Copied,
+    rule: RuleKey,
+) -> Result<u32, AllocError>
+    requires parts { HasRuleParts from.now rule }
+    requires copied { AreCopied from.now to.old copied.old }
+    ensures formula { IfOk result (λ n. IfSome (formula_of (rule_at from.now rule)) (HasFormula to.new n)) }
+    ensures grown { Extends to.old to.new }
+    ensures copied { IfOk result (λ _. AreCopied from.now to.new copied.new) }
+{
+    match rule_formula(rule) {
+        Some(main) => copy_formula(alloc, from, to, copied, main),
+        None => Ok(0),
+    }
+}
+
+// The number of the copy of the term or of the eigenvariable that a rule names. Of a rule that names neither it says nothing.
+fn copy_witness(
+    alloc: Global,
+    from: &Arena,
+    to: &mut Arena,
+    copied: &mut Copied,
+    rule: RuleKey,
+) -> Result<u32, AllocError>
+    requires parts { HasRuleParts from.now rule }
+    requires copied { AreCopied from.now to.old copied.old }
+    ensures term { IfOk result (λ n. IfSome (term_of (rule_at from.now rule)) (HasTerm to.new n)) }
+    ensures eigenvariable { IfOk result (λ n. IfSome (variable_of (rule_at from.now rule)) (HasVariable to.new n)) }
+    ensures grown { Extends to.old to.new }
+    ensures copied { IfOk result (λ _. AreCopied from.now to.new copied.new) }
+{
+    match rule {
+        RuleKey::AllL(_, term) | RuleKey::ExR(_, term) => copy_term(alloc, from, to, copied, term),
+        RuleKey::AllR(_, variable) | RuleKey::ExL(_, variable) => {
+            copy_variable(alloc, from, to, variable)
+        }
+        _ => Ok(0),
+    }
+}
+
 /// The rule with the numbers of the copies of what it names.
-#[tactic(auto, using(arena_cells::proofs::Facts::places))]
 pub(crate) fn copy_rule(
     alloc: Global,
     from: &Arena,
@@ -26,37 +71,7 @@ pub(crate) fn copy_rule(
     ensures grown { Extends to.old to.new }
     ensures copied { IfOk result (λ _. AreCopied from.now to.new copied.new) }
 {
-    Ok(match rule {
-        RuleKey::Ax(main) => RuleKey::Ax(copy_formula(alloc, from, to, copied, main)?),
-        RuleKey::TopR => RuleKey::TopR,
-        RuleKey::BotL => RuleKey::BotL,
-        RuleKey::NegL(main) => RuleKey::NegL(copy_formula(alloc, from, to, copied, main)?),
-        RuleKey::NegR(main) => RuleKey::NegR(copy_formula(alloc, from, to, copied, main)?),
-        RuleKey::AndL(main) => RuleKey::AndL(copy_formula(alloc, from, to, copied, main)?),
-        RuleKey::AndR(main) => RuleKey::AndR(copy_formula(alloc, from, to, copied, main)?),
-        RuleKey::OrL(main) => RuleKey::OrL(copy_formula(alloc, from, to, copied, main)?),
-        RuleKey::OrR(main) => RuleKey::OrR(copy_formula(alloc, from, to, copied, main)?),
-        RuleKey::ImpL(main) => RuleKey::ImpL(copy_formula(alloc, from, to, copied, main)?),
-        RuleKey::ImpR(main) => RuleKey::ImpR(copy_formula(alloc, from, to, copied, main)?),
-        RuleKey::AllL(main, term) => {
-            let main = copy_formula(alloc, from, to, copied, main)?;
-            RuleKey::AllL(main, copy_term(alloc, from, to, copied, term)?)
-        }
-        RuleKey::AllR(main, variable) => {
-            let main = copy_formula(alloc, from, to, copied, main)?;
-            RuleKey::AllR(main, copy_variable(alloc, from, to, variable)?)
-        }
-        RuleKey::ExL(main, variable) => {
-            let main = copy_formula(alloc, from, to, copied, main)?;
-            RuleKey::ExL(main, copy_variable(alloc, from, to, variable)?)
-        }
-        RuleKey::ExR(main, term) => {
-            let main = copy_formula(alloc, from, to, copied, main)?;
-            RuleKey::ExR(main, copy_term(alloc, from, to, copied, term)?)
-        }
-        RuleKey::DefL(main) => RuleKey::DefL(copy_formula(alloc, from, to, copied, main)?),
-        RuleKey::DefR(main) => RuleKey::DefR(copy_formula(alloc, from, to, copied, main)?),
-        RuleKey::Cut(main) => RuleKey::Cut(copy_formula(alloc, from, to, copied, main)?),
-        RuleKey::Weak => RuleKey::Weak,
-    })
+    let main = copy_main(alloc, from, to, copied, rule)?;
+    let witness = copy_witness(alloc, from, to, copied, rule)?;
+    Ok(rule_with(rule, main, witness))
 }

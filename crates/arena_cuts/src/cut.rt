@@ -11,7 +11,7 @@ use std::alloc::{AllocError, Global};
 
 /// A cut by the numbers of its parts: the conclusion, the cut formula, and the premises, of which the left one has the formula on the right
 /// side and the right one on the left side.
-#[derive(Clone, Copy, Debug)]
+#[derive(Clone, Copy)]
 pub(crate) struct Cut {
     pub end: u32,
     pub formula: u32,

@@ -23,14 +23,14 @@ use std::collections::HashMap;
 use std::sync::ledger::Ledger;
 
 // The numbers of proofs without cuts, and how many contractions led to all of them.
-#[derive(Clone, Copy, Drop, Debug)]
+#[derive(Clone, Copy, Drop)]
 pub(crate) struct Several {
     pub proofs: Parts,
     pub reductions: u64,
 }
 
 // What becomes of two proofs, the right one after the left one.
-#[derive(Clone, Copy, Drop, Debug)]
+#[derive(Clone, Copy, Drop)]
 pub(crate) struct Both {
     pub left: Reduced,
     pub right: Reduced,

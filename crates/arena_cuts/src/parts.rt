@@ -15,7 +15,7 @@ use lk_rules::Side;
 use std::alloc::{AllocError, Global};
 
 /// A cut that stands above another one, by its formula and its premises.
-#[derive(Clone, Copy, Debug)]
+#[derive(Clone, Copy)]
 pub(crate) struct Upper {
     pub formula: u32,
     pub left: u32,
@@ -23,7 +23,7 @@ pub(crate) struct Upper {
 }
 
 /// A cut on an instance of a quantified formula's body by a term, which takes the place of the eigenvariable in one premise.
-#[derive(Clone, Copy, Debug)]
+#[derive(Clone, Copy)]
 pub(crate) struct Instantiation {
     pub body: u32,
     pub term: u32,
@@ -33,7 +33,7 @@ pub(crate) struct Instantiation {
 }
 
 /// What takes the place of a cut by the parts of its formula.
-#[derive(Clone, Copy, Debug)]
+#[derive(Clone, Copy)]
 pub(crate) enum Reduction {
     /// The cut stays, since its premises don't fit together.
     Unchanged,

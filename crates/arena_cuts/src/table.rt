@@ -12,7 +12,7 @@ use std::alloc::AllocError;
 use std::collections::HashMap;
 
 /// The number of a proof without cuts, and how many contractions led to it.
-#[derive(Clone, Copy, Drop, Debug)]
+#[derive(Clone, Copy, Drop)]
 pub struct Reduced {
     pub proof: u32,
     pub reductions: u64,

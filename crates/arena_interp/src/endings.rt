@@ -11,7 +11,7 @@ use lk_rules::Side;
 use std::alloc::{AllocError, Global};
 
 /// The last inference of a proof, but for its conclusion: its rule and its premises.
-#[derive(Clone, Copy, Debug)]
+#[derive(Clone, Copy)]
 pub(crate) struct Ending {
     pub rule: RuleKey,
     pub premises: Parts,

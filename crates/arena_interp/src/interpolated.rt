@@ -5,7 +5,7 @@ ghost use Rattle.arena_interp.specs.Partitions.{number_of, other_number, with_nu
 use lk_rules::Side;
 
 /// The number of an interpolant, of the proof of the first part with it on the right, and of that of the second part with it on the left.
-#[derive(Clone, Copy, Drop, Debug)]
+#[derive(Clone, Copy, Drop)]
 pub struct Interpolated {
     pub formula: u32,
     pub first: u32,

@@ -9,7 +9,7 @@ use fol::mix;
 use std::hash::{Hash, Hasher};
 
 /// The number of a proof and those of two sequents, the parts of its end sequent.
-#[derive(Clone, Copy, Debug)]
+#[derive(Clone, Copy)]
 pub(crate) struct Partition {
     pub proof: u32,
     pub first: u32,

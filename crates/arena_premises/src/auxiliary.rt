@@ -13,7 +13,7 @@ use std::alloc::{AllocError, Global};
 
 /// Auxiliary formulas by their numbers and sides: none, one, two, the instance of a quantified formula's body by a term, or what a formula
 /// unfolds to.
-#[derive(Clone, Copy, Debug)]
+#[derive(Clone, Copy)]
 pub(crate) enum Auxiliary {
     Nothing,
     One(Side, u32),

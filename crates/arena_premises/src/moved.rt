@@ -16,7 +16,7 @@ use arena_subst::substitute_in;
 use std::alloc::{AllocError, Global};
 
 /// A rule with the numbers of its premises' proofs.
-#[derive(Clone, Copy, Debug)]
+#[derive(Clone, Copy)]
 pub struct Moved {
     pub rule: RuleKey,
     pub premises: Parts,

@@ -1,22 +1,26 @@
 -- Trees under maps, by what stands in the arenas on the way.
 use Rattle.std.proofs.Common.{◌≡◌, ℕ, List, refl, sym, ap, subst, ◌∙◌}
-use Rattle.std.specs.Prelude.{Some}
+use Rattle.std.specs.Prelude.{Some, IfSome}
 use Rattle.std.specs.FinMap as fin
+use Rattle.substitution.specs.Image.{image, image_term}
 use Rattle.substitution.specs.Maps.{Map}
 use Rattle.substitution.specs.Restriction.{restricted}
 use Rattle.lk_rules.specs.declared.rule.Rule.{Rule}
 use Rattle.lk_rules.specs.declared.sequent.Sequent.{Sequent}
+use Rattle.lk_rules.specs.RuleOrder.{formula_of, term_of, variable_of}
 use Rattle.lk_rules.specs.Sequents.{image_sequent}
 use Rattle.proof_trees.specs.Trees.{Tree, node, Trees, concl, rule_of, below, IsValid, AllValid}
-use Rattle.proof_trees.specs.Substitution.{image_rule, premise_map, sub, sub_all}
+use Rattle.proof_trees.specs.Substitution.{renamed, image_rule, premise_map, sub, sub_all}
 use Rattle.arena_cells.specs.declared.key.RuleKey.{RuleKey}
 use Rattle.arena_cells.specs.declared.key.Parts.{Parts}
 use Rattle.arena_cells.specs.Items.{Item, sequent, tree}
-use Rattle.arena_cells.specs.Standing.{Extends, HasVariables, HasMap, HasSequent, HasTree, variables_at, map_at, sequent_at, tree_at, IsMapAt, IsTreeAt}
-use Rattle.arena_cells.specs.Meaning.{rule_at, trees_at}
-use Rattle.arena_cells.proofs.Staying.{is_map, is_sequent, are_variables, tree_stays}
+use Rattle.arena_cells.specs.Standing.{Extends, HasTerm, HasVariable, HasFormula, HasVariables, HasMap, HasSequent, HasTree, variables_at, map_at, sequent_at, tree_at, IsMapAt, IsSequentAt, IsTreeAt}
+use Rattle.arena_cells.specs.Meaning.{rule_at, trees_at, HasRuleParts}
+use Rattle.arena_cells.proofs.Staying.{is_map, is_sequent, are_variables, rule_stays, sequent_stays, tree_stays}
 use Rattle.arena.specs.TreeVariables.{vars_tree}
 use Rattle.arena.proofs.Results.{map_stays}
+use Rattle.arena_proofs.specs.RuleNumbers.{key_of}
+use Rattle.arena_proofs.proofs.RuleParts.{mapped_there}
 use Rattle.arena_subst.proofs.Needed.{needed_part, nothing_needed}
 
 -- from the variables of a tree
@@ -71,3 +75,17 @@ module _ (a b c d : List Item) (p m e end n : ℕ) (r : RuleKey) (ps us : Parts)
 -- the trees below a valid tree are valid
 pub premises_valid : (t : Tree) (ts : Trees) → below t ≡ ts → IsValid t → AllValid ts
 premises_valid (node r s us) ts same h = subst (λ (x : Trees). AllValid x) same h.1
+
+-- a rule under a map, by the numbers of the images: that of the formula came first, and then that of the term or of the eigenvariable
+pub key_there : (a b d : List Item) (m : ℕ) (r : RuleKey) (e main witness : ℕ) (k : RuleKey) → Extends a b → Extends b d → IsMapAt a m → HasRuleParts a r → IsSequentAt a e → k ≡ key_of (rule_at a r) main witness
+    → IfSome (formula_of (rule_at a r)) (λ x. HasFormula b main (image (fin.get (map_at a m)) x))
+    → IfSome (term_of (rule_at b r)) (λ t. HasTerm d witness (image_term (fin.get (map_at b m)) t))
+    → IfSome (variable_of (rule_at b r)) (λ y. HasVariable d witness (renamed y (sequent_at b e)))
+    → HasRuleParts d k × (rule_at d k ≡ image_rule (map_at a m) (rule_at a r) (sequent_at a e))
+key_there a b d m r e main witness k first second map parts end is formula term variable =
+    let was : rule_at b r ≡ rule_at a r = rule_stays a b first r parts in
+    mapped_there b d second main witness k (rule_at a r) is (image (fin.get (map_at a m))) (image_term (fin.get (map_at a m))) (λ y. renamed y (sequent_at a e)) formula
+    (subst (λ (q : Rule). IfSome (term_of q) (λ t. HasTerm d witness (image_term (fin.get (map_at a m)) t))) was
+    (subst (λ (s : Map). IfSome (term_of (rule_at b r)) (λ t. HasTerm d witness (image_term (fin.get s) t))) (map_stays a b first m map) term))
+    (subst (λ (q : Rule). IfSome (variable_of q) (λ y. HasVariable d witness (renamed y (sequent_at a e)))) was
+    (subst (λ (s : Sequent). IfSome (variable_of (rule_at b r)) (λ y. HasVariable d witness (renamed y s))) (sequent_stays a b first e end) variable))

@@ -1,11 +1,14 @@
 //! The parts of an inference under a map.
-ghost use Rattle.std.specs.Prelude.{◌≡◌, IfOk};
+ghost use Rattle.std.specs.Prelude.{◌≡◌, IfOk, IfSome};
+ghost use Rattle.std.specs.FinMap as fin;
+ghost use Rattle.substitution.specs.Image.{image, image_term};
+ghost use Rattle.lk_rules.specs.RuleOrder.{formula_of, term_of, variable_of};
 ghost use Rattle.proof_trees.specs.Substitution.{renamed, image_rule, premise_map as map_of_premises};
-ghost use Rattle.arena_cells.specs.Standing.{Extends, HasVariable, HasMap, variable_at, map_at, sequent_at, IsVariableAt, IsMapAt, IsSequentAt};
+ghost use Rattle.arena_cells.specs.Standing.{Extends, HasTerm, HasVariable, HasFormula, HasMap, variable_at, map_at, sequent_at, IsVariableAt, IsMapAt, IsSequentAt};
 ghost use Rattle.arena_cells.specs.Meaning.{rule_at, HasRuleParts};
 
 use arena::{Arena, RuleKey};
-use arena_proofs::rule_eigenvariable;
+use arena_proofs::{rule_eigenvariable, rule_formula, rule_with};
 use std::alloc::{AllocError, Global};
 
 // The variable, or where it is free in the sequent the numbered variable of least number that isn't.
@@ -22,9 +25,46 @@ fn rename(arena: &mut Arena, alloc: Global, variable: u32, end: u32) -> Result<u
     arena.fresh_outside(alloc, vars)
 }
 
+// The image of the formula that a rule names. Of a rule that names none it says nothing.
+fn main_image(arena: &mut Arena, alloc: Global, map: u32, rule: RuleKey) -> Result<u32, AllocError>
+    requires map { IsMapAt arena.old map }
+    requires rule { HasRuleParts arena.old rule }
+    ensures formula { IfOk result (λ n. IfSome (formula_of (rule_at arena.old rule)) (λ a. HasFormula arena.new n (image (fin.get (map_at arena.old map)) a))) }
+    ensures grown { Extends arena.old arena.new }
+{
+    match rule_formula(rule) {
+        Some(main) => arena.image(alloc, map, main),
+        None => Ok(0),
+    }
+}
+
+// The image of the term that a rule names, or the name of its eigenvariable under the new conclusion. Of a rule that names neither it says
+// nothing.
+fn witness_image(
+    arena: &mut Arena,
+    alloc: Global,
+    map: u32,
+    rule: RuleKey,
+    end: u32,
+) -> Result<u32, AllocError>
+    requires map { IsMapAt arena.old map }
+    requires rule { HasRuleParts arena.old rule }
+    requires end { IsSequentAt arena.old end }
+    ensures term { IfOk result (λ n. IfSome (term_of (rule_at arena.old rule)) (λ t. HasTerm arena.new n (image_term (fin.get (map_at arena.old map)) t))) }
+    ensures eigenvariable { IfOk result (λ n. IfSome (variable_of (rule_at arena.old rule)) (λ y. HasVariable arena.new n (renamed y (sequent_at arena.old end)))) }
+    ensures grown { Extends arena.old arena.new }
+{
+    match rule {
+        RuleKey::AllL(_, term) | RuleKey::ExR(_, term) => arena.image_of_term(alloc, map, term),
+        RuleKey::AllR(_, variable) | RuleKey::ExL(_, variable) => {
+            rename(arena, alloc, variable, end)
+        }
+        _ => Ok(0),
+    }
+}
+
 /// The rule under a map, where `end` is the image of the conclusion: its formula and its term are replaced by their images, and an
 /// eigenvariable that is free in `end` is renamed.
-#[tactic(auto, using(arena_cells::proofs::Facts::places))]
 pub(crate) fn rule_image(
     arena: &mut Arena,
     alloc: Global,
@@ -39,39 +79,9 @@ pub(crate) fn rule_image(
     ensures rule { IfOk result (λ image. rule_at arena.new image ≡ image_rule (map_at arena.old map) (rule_at arena.old rule) (sequent_at arena.old end)) }
     ensures grown { Extends arena.old arena.new }
 {
-    Ok(match rule {
-        RuleKey::Ax(main) => RuleKey::Ax(arena.image(alloc, map, main)?),
-        RuleKey::TopR => RuleKey::TopR,
-        RuleKey::BotL => RuleKey::BotL,
-        RuleKey::NegL(main) => RuleKey::NegL(arena.image(alloc, map, main)?),
-        RuleKey::NegR(main) => RuleKey::NegR(arena.image(alloc, map, main)?),
-        RuleKey::AndL(main) => RuleKey::AndL(arena.image(alloc, map, main)?),
-        RuleKey::AndR(main) => RuleKey::AndR(arena.image(alloc, map, main)?),
-        RuleKey::OrL(main) => RuleKey::OrL(arena.image(alloc, map, main)?),
-        RuleKey::OrR(main) => RuleKey::OrR(arena.image(alloc, map, main)?),
-        RuleKey::ImpL(main) => RuleKey::ImpL(arena.image(alloc, map, main)?),
-        RuleKey::ImpR(main) => RuleKey::ImpR(arena.image(alloc, map, main)?),
-        RuleKey::AllL(main, term) => {
-            let main = arena.image(alloc, map, main)?;
-            RuleKey::AllL(main, arena.image_of_term(alloc, map, term)?)
-        }
-        RuleKey::AllR(main, variable) => {
-            let main = arena.image(alloc, map, main)?;
-            RuleKey::AllR(main, rename(arena, alloc, variable, end)?)
-        }
-        RuleKey::ExL(main, variable) => {
-            let main = arena.image(alloc, map, main)?;
-            RuleKey::ExL(main, rename(arena, alloc, variable, end)?)
-        }
-        RuleKey::ExR(main, term) => {
-            let main = arena.image(alloc, map, main)?;
-            RuleKey::ExR(main, arena.image_of_term(alloc, map, term)?)
-        }
-        RuleKey::DefL(main) => RuleKey::DefL(arena.image(alloc, map, main)?),
-        RuleKey::DefR(main) => RuleKey::DefR(arena.image(alloc, map, main)?),
-        RuleKey::Cut(main) => RuleKey::Cut(arena.image(alloc, map, main)?),
-        RuleKey::Weak => RuleKey::Weak,
-    })
+    let main = main_image(arena, alloc, map, rule)?;
+    let witness = witness_image(arena, alloc, map, rule, end)?;
+    Ok(rule_with(rule, main, witness))
 }
 
 /// The map for the premises of the rule, where `end` is the image of the conclusion: it sends the eigenvariable to its new name.

@@ -9,7 +9,7 @@ use lk_rules::Side;
 use std::alloc::AllocError;
 
 /// Why a proof has no Herbrand instances.
-#[derive(Drop, Debug)]
+#[derive(Drop)]
 pub enum HerbrandFault {
     /// The proof has a cut. The number is the place of the first one in the list of its steps.
     Cut(u64),
@@ -23,7 +23,7 @@ pub enum HerbrandFault {
 }
 
 /// Why no cut is introduced into a proof.
-#[derive(Drop, Debug)]
+#[derive(Drop)]
 pub enum IntroFault {
     /// The proof has a cut. The number is the place of the first one in the list of its steps.
     Cut(u64),

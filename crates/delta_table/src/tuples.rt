@@ -9,7 +9,7 @@ use std::alloc::{AllocError, Global};
 use std::marker::Model;
 
 /// Tuples of terms, or patterns of them, in rising order and without repeats.
-#[derive(Drop, Debug)]
+#[derive(Drop)]
 pub struct Tuples {
     items: Vec<Terms>,
 }

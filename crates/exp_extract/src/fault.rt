@@ -7,7 +7,7 @@ use lk_rules::Side;
 use std::alloc::AllocError;
 
 /// Why no expansion is extracted.
-#[derive(Drop, Debug)]
+#[derive(Drop)]
 pub enum ExtractFault {
     /// The proof has a cut. The number is the place of the first one in the list of its steps.
     Cut(u64),

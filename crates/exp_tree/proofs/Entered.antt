@@ -1,7 +1,7 @@
 -- The walk over trees that enters them into a table.
 use Rattle.std.proofs.Common.{◌≡◌, ℕ, ◌+◌, ◌<◌, ◌≤◌, zero, suc, Bool, true, false, ◌&&◌, ◌||◌, List, [], ◌∷◌, ◌++◌, map, take, length, get_or, refl, sym, ap, ◌∙◌, subst, append_assoc, append-nil, arith}
 use Rattle.std.specs.Prelude.{Some, None, nat_lt, slice_get, if◌then◌else◌}
-use Rattle.std.specs.List.{All, list_all}
+use Rattle.std.specs.List.{list_all}
 use Rattle.std.specs.Cmp.Derive.{both_true}
 use Rattle.std.proofs.lemmas.Bool.{and_parts}
 use Rattle.std.proofs.lemmas.List.{take_more, map_push, length-append}
@@ -17,14 +17,13 @@ use Rattle.fol.specs.declared.symbols.Var.{Var}
 use Rattle.finite.specs.Finite.{IsRising}
 use Rattle.finite.proofs.Rising.{both, is_less, IsBelow, head_below, below_along}
 use Rattle.lk_rules.specs.declared.sequent.Side.TheVariants.{Left, Right}
-use Rattle.expansion_laws.specs.Expansions.{Exp as Tree, wk, leaf, neg, conj, disj, impl, weak, strong, Insts, none, more, shallow}
-use Rattle.expansion_laws.specs.Building.{is_flat, is_quantified, is_instance, is_built, are_built, is_below}
+use Rattle.expansion_laws.specs.Expansions.{Exp as Tree, wk, leaf, neg, conj, disj, impl, weak, strong, Insts, shallow}
+use Rattle.expansion_laws.specs.Building.{is_quantified, is_instance, is_built, are_built, is_below}
 use Rattle.expansion_laws.specs.Proofs.{is_weak_on, is_strong_on, stands, stand_in}
 use Rattle.exp_tree.specs.Codes.{coded_exp}
 use Rattle.exp_tree.specs.Sizes.{exp_nodes, insts_nodes, is_formed_exp, are_formed_insts, IsProper}
 use Rattle.exp_tree.specs.Shown.{insts_of}
-use Rattle.exp_tree.specs.Sorting.{sorted}
-use Rattle.exp_tree.specs.FlatLists.{children, has_shape, tree_at, inst_at, tree_over, tree_fault, node_fault}
+use Rattle.exp_tree.specs.FlatLists.{has_shape, tree_at, inst_at, tree_over, tree_fault, node_fault}
 use Rattle.exp_tree.specs.Subtrees.{same_tree, subtrees, subtrees_in, below, with_each}
 use Rattle.exp_tree.specs.Tables.{IsNodeOf}
 use Rattle.number_hash.specs.Codes.{same_by_decides}
@@ -103,7 +102,7 @@ pub each_of_both : (ts us vs : List Tree) (d e : Tree) → us ≡ with_each ts (
 each_of_both ts us vs d e first second = second ∙ ap (λ xs. with_each xs (subtrees e)) first ∙ sym (all-append same_tree (same_by_decides coded_exp) ts (subtrees d) (subtrees e))
 
 -- what stood in the table stands there
-still : (ts us : List Tree) (e : Tree) (i : ℕ) (d : Tree) → us ≡ with_each ts (subtrees e) → slice_get ts i ≡ Some d → slice_get us i ≡ Some d
+pub still : (ts us : List Tree) (e : Tree) (i : ℕ) (d : Tree) → us ≡ with_each ts (subtrees e) → slice_get ts i ≡ Some d → slice_get us i ≡ Some d
 still ts us e i d us_is h =
     let more = grows same_tree (same_by_decides coded_exp) ts (subtrees e) in
     ap (λ xs. slice_get xs i) (us_is ∙ more.1) ∙ get_left ts more.0 i d h
@@ -124,21 +123,18 @@ leaf_node ts f proper = record { earlier = refl; shape = proper.built; formed = 
 pub neg_node : (ts : List Tree) (e : Tree) (i : ℕ) → slice_get ts i ≡ Some e → IsNodeOf ts (neg e) (Not i)
 neg_node ts e i h = record { earlier = both_true (within ts i e h) refl; shape = refl; formed = refl; rising = tt; tree = ap neg (there ts i e h) }
 
-module _ (ts us : List Tree) (d e : Tree) (i j : ℕ) (first : slice_get ts i ≡ Some d) (us_is : us ≡ with_each ts (subtrees e)) (second : slice_get us j ≡ Some e) where
-  two_earlier : are_below (length us) (i ∷ j ∷ []) ≡ true
-  two_earlier = both_true (within us i d (still ts us e i d us_is first)) (both_true (within us j e second) refl)
+module _ (ts : List Tree) (d e : Tree) (i j : ℕ) (first : slice_get ts i ≡ Some d) (second : slice_get ts j ≡ Some e) where
+  two_earlier : are_below (length ts) (i ∷ j ∷ []) ≡ true
+  two_earlier = both_true (within ts i d first) (both_true (within ts j e second) refl)
 
-  one_there : tree_at us i ≡ d
-  one_there = there us i d (still ts us e i d us_is first)
+  pub conj_node : IsNodeOf ts (conj d e) (And i j)
+  conj_node = record { earlier = two_earlier; shape = refl; formed = refl; rising = tt; tree = λ k. conj (there ts i d first k) (there ts j e second k) }
 
-  pub conj_node : IsNodeOf us (conj d e) (And i j)
-  conj_node = record { earlier = two_earlier; shape = refl; formed = refl; rising = tt; tree = λ k. conj (one_there k) (there us j e second k) }
+  pub disj_node : IsNodeOf ts (disj d e) (Or i j)
+  disj_node = record { earlier = two_earlier; shape = refl; formed = refl; rising = tt; tree = λ k. disj (there ts i d first k) (there ts j e second k) }
 
-  pub disj_node : IsNodeOf us (disj d e) (Or i j)
-  disj_node = record { earlier = two_earlier; shape = refl; formed = refl; rising = tt; tree = λ k. disj (one_there k) (there us j e second k) }
-
-  pub impl_node : IsNodeOf us (impl d e) (Imp i j)
-  impl_node = record { earlier = two_earlier; shape = refl; formed = refl; rising = tt; tree = λ k. impl (one_there k) (there us j e second k) }
+  pub impl_node : IsNodeOf ts (impl d e) (Imp i j)
+  impl_node = record { earlier = two_earlier; shape = refl; formed = refl; rising = tt; tree = λ k. impl (there ts i d first k) (there ts j e second k) }
 
 quantified : (f : Formula) (t : Term) (g : Formula) → is_instance f t g ≡ true → is_quantified f ≡ true
 quantified (all b) t g h = refl

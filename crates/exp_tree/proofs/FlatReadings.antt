@@ -1,17 +1,13 @@
 -- What a flat list is read as, as a function of it.
-use Rattle.std.proofs.Common.{◌≡◌, ℕ, zero, suc, ◌+◌, ◌-◌, ◌<◌, ◌≤◌, Bool, true, false, cond, if◌then◌else◌, List, length, get_or, refl, sym, ap, ◌∙◌, subst, arith, inl, inr, take, drop, take-append-drop}
-use Rattle.std.specs.Prelude.{nat_lt, slice_get, map, Option, Some, None, option_and_then, Result, Ok, Err}
-use Rattle.std.specs.List.{All, list_all, list_any}
+use Rattle.std.proofs.Common.{◌≡◌, ℕ, zero, suc, ◌+◌, ◌-◌, ◌<◌, ◌≤◌, Bool, true, false, cond, if◌then◌else◌, List, length, refl, sym, ap, ◌∙◌, arith, inl, inr, take}
+use Rattle.std.specs.Prelude.{nat_lt, slice_get, Option, Some, None, option_and_then, Result, Ok, Err}
 use Rattle.std.proofs.lemmas.Bool.{ltb-false, le-ltb}
 use Rattle.std.proofs.lemmas.Option.{slice_get_within}
 use Rattle.std.proofs.Math.Nat.{eq-or-lt_of_le}
 use Rattle.lk_rules.specs.declared.sequent.Side.{Side}
 use Rattle.lk_rules.specs.declared.sequent.Side.TheVariants.{Left, Right}
-use Rattle.fol.specs.Syntax.{top}
-use Rattle.expansion_laws.specs.Expansions.{Exp as Tree, shallow, wk}
-use Rattle.expansion_laws.specs.Building.{is_built}
+use Rattle.expansion_laws.specs.Expansions.{Exp as Tree}
 use Rattle.expansion_laws.specs.Dependency.{Expansion}
-use Rattle.expansion_laws.specs.Proofs.{stands}
 use Rattle.exp_tree.specs.declared.flat.ExpNode.{ExpNode}
 use Rattle.exp_tree.specs.declared.flat.FlatExp.{FlatExp}
 use Rattle.exp_tree.specs.declared.flat.NodeCause.{NodeCause}
@@ -20,9 +16,9 @@ use Rattle.exp_tree.specs.declared.flat.NodesFault.{NodesFault}
 use Rattle.exp_tree.specs.declared.flat.NodesFault.TheVariants as fault
 use Rattle.exp_tree.specs.declared.sequents.ExpSequent.{ExpSequent}
 use Rattle.exp_tree.specs.Sizes.{capped}
-use Rattle.exp_tree.specs.FlatLists.{tree_at, tree_over, trees_of, node_fault, fault_at, IsFirstNodeFault, IsWithoutNodeFault}
-use Rattle.exp_tree.specs.Roots.{root_fault, root_fault_at, side_fault_at, IsFirstRootFault, IsWithoutRootFault, expansion_over, total}
-use Rattle.exp_tree.specs.Reads.{expansion_of, IsWithoutFault, Reads}
+use Rattle.exp_tree.specs.FlatLists.{trees_of, node_fault, fault_at, IsWithoutNodeFault}
+use Rattle.exp_tree.specs.Roots.{root_fault, root_fault_at, side_fault_at, IsWithoutRootFault, expansion_over, total}
+use Rattle.exp_tree.specs.Reads.{IsWithoutFault, Reads}
 use Rattle.exp_tree.proofs.RootWalk.{below_test}
 use Rattle.exp_tree.specs.FlatReading.{earlier_or, first_below, node_fault_in, root_fault_in, within, read_after, reading, IsReading}
 

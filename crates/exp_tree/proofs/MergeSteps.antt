@@ -3,7 +3,7 @@ use Rattle.std.proofs.Common.{◌≡◌, ℕ, zero, suc, ◌+◌, ◌<◌, ◌�
 use Rattle.std.proofs.lemmas.List.{drop_all}
 use Rattle.std.specs.declared.cmp.Ordering.TheVariants.{Less, Equal, Greater}
 use Rattle.fol.specs.Order.{term_cmp}
-use Rattle.expansion_laws.specs.Expansions.{Insts, none, more}
+use Rattle.expansion_laws.specs.Expansions.{Exp as Tree, Insts, none, more}
 use Rattle.exp_tree.specs.declared.expansion.Inst.{Inst}
 use Rattle.exp_tree.specs.Sizes.{exp_nodes, insts_nodes}
 use Rattle.exp_tree.specs.Shown.{insts_of}
@@ -41,22 +41,22 @@ module _ (xs ys : List Inst) (i j : ℕ) (x y : Inst) (here : i < length xs) (th
   opened : both ≡ among x.term x.child (merged x.child) (merged_in rest_x) (more y.term y.child rest_y)
   opened = λ k. merged_in (insts_from xs i x here p k) (insts_from ys j y there q k)
 
-  pub step_less : term_cmp x.term y.term ≡ Less → (u : Inst) → u ≡ x → new ≡ old ++ u ∷ [] → followed new (merged_in rest_x (insts_of (drop j ys))) ≡ followed old both
-  step_less e u same pushed =
-      (λ k. followed ((pushed ∙ ap (λ v. old ++ v ∷ []) same) k) (merged_in rest_x (insts_from ys j y there q k)))
+  pub step_less : term_cmp x.term y.term ≡ Less → new ≡ old ++ x ∷ [] → followed new (merged_in rest_x (insts_of (drop j ys))) ≡ followed old both
+  step_less e pushed =
+      (λ k. followed (pushed k) (merged_in rest_x (insts_from ys j y there q k)))
       ∙ followed_push old x (merged_in rest_x (more y.term y.child rest_y))
       ∙ ap (followed old) (sym (opened ∙ ap (λ r. by_order r (more x.term x.child (merged_in rest_x (more y.term y.child rest_y))) (more x.term (merged x.child y.child) (merged_in rest_x rest_y)) (more y.term y.child (among x.term x.child (merged x.child) (merged_in rest_x) rest_y))) e))
 
-  pub step_equal : term_cmp x.term y.term ≡ Equal → (u : Inst) → u.term ≡ x.term → u.child ≡ merged x.child y.child → new ≡ old ++ u ∷ [] → followed new (merged_in rest_x rest_y) ≡ followed old both
-  step_equal e u term child pushed =
+  pub step_equal : term_cmp x.term y.term ≡ Equal → (d : Tree) → d ≡ merged x.child y.child → new ≡ old ++ record { term = x.term; child = d } ∷ [] → followed new (merged_in rest_x rest_y) ≡ followed old both
+  step_equal e d child pushed =
       ap (λ v. followed v (merged_in rest_x rest_y)) pushed
-      ∙ followed_push old u (merged_in rest_x rest_y)
-      ∙ (λ k. followed old (more (term k) (child k) (merged_in rest_x rest_y)))
+      ∙ followed_push old (record { term = x.term; child = d }) (merged_in rest_x rest_y)
+      ∙ (λ k. followed old (more x.term (child k) (merged_in rest_x rest_y)))
       ∙ ap (followed old) (sym (opened ∙ ap (λ r. by_order r (more x.term x.child (merged_in rest_x (more y.term y.child rest_y))) (more x.term (merged x.child y.child) (merged_in rest_x rest_y)) (more y.term y.child (among x.term x.child (merged x.child) (merged_in rest_x) rest_y))) e))
 
-  pub step_greater : term_cmp x.term y.term ≡ Greater → (u : Inst) → u ≡ y → new ≡ old ++ u ∷ [] → followed new (merged_in (insts_of (drop i xs)) rest_y) ≡ followed old both
-  step_greater e u same pushed =
-      (λ k. followed ((pushed ∙ ap (λ v. old ++ v ∷ []) same) k) (merged_in (insts_from xs i x here p k) rest_y))
+  pub step_greater : term_cmp x.term y.term ≡ Greater → new ≡ old ++ y ∷ [] → followed new (merged_in (insts_of (drop i xs)) rest_y) ≡ followed old both
+  step_greater e pushed =
+      (λ k. followed (pushed k) (merged_in (insts_from xs i x here p k) rest_y))
       ∙ followed_push old y (among x.term x.child (merged x.child) (merged_in rest_x) rest_y)
       ∙ ap (followed old) (sym (opened ∙ ap (λ r. by_order r (more x.term x.child (merged_in rest_x (more y.term y.child rest_y))) (more x.term (merged x.child y.child) (merged_in rest_x rest_y)) (more y.term y.child (among x.term x.child (merged x.child) (merged_in rest_x) rest_y))) e))
 

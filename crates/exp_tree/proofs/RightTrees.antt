@@ -1,6 +1,6 @@
 -- The trees of a flat list without fault are rightly built, each on its side.
-use Rattle.std.proofs.Common.{◌≡◌, ℕ, ◌+◌, ◌-◌, ◌<◌, ◌≤◌, Bool, true, false, ◌||◌, cond, List, [], ◌∷◌, map, take, drop, length, get_or, refl, sym, ap, ◌∙◌, subst, arith}
-use Rattle.std.specs.Prelude.{Some, None, Option, nat_lt, slice_get, option_and_then, if◌then◌else◌}
+use Rattle.std.proofs.Common.{◌≡◌, ℕ, ◌+◌, ◌-◌, Bool, true, false, ◌||◌, cond, List, [], ◌∷◌, map, take, drop, length, get_or, refl, sym, ap, ◌∙◌, arith}
+use Rattle.std.specs.Prelude.{Some, None, nat_lt, slice_get, option_and_then, if◌then◌else◌}
 use Rattle.std.specs.List.{All, list_all, list_any}
 use Rattle.std.specs.declared.cmp.Ordering.{Ordering}
 use Rattle.std.specs.Cmp.Derive.{both_true}
@@ -15,19 +15,16 @@ use Rattle.lk_rules.specs.declared.sequent.Side.{Side}
 use Rattle.lk_rules.specs.declared.sequent.Side.TheVariants.{Left, Right}
 use Rattle.expansion_laws.specs.Expansions.{Exp as Tree, shallow, wk}
 use Rattle.expansion_laws.specs.Building.{is_built}
-use Rattle.expansion_laws.specs.Dependency.{Expansion}
 use Rattle.expansion_laws.specs.Proofs.{stands}
 use Rattle.exp_tree.specs.Sorting.{placed, sorted_onto}
 use Rattle.exp_tree.specs.FlatLists.{children, tree_at, tree_over, trees_of, node_fault, has_shape, IsWithoutNodeFault}
-use Rattle.exp_tree.specs.Roots.{has_same_formula, root_fault, side_fault_at, root_fault_at, IsRightSideBefore, side_over, expansion_over}
+use Rattle.exp_tree.specs.Roots.{has_same_formula, root_fault, side_fault_at, IsRightSideBefore, side_over, expansion_over}
 use Rattle.exp_tree.specs.Reads.{IsWithoutFault}
 use Rattle.exp_tree.specs.FlatReading.{AreRight}
 use Rattle.exp_tree.specs.declared.flat.ExpNode.{ExpNode}
 use Rattle.exp_tree.specs.declared.flat.ExpNode.TheVariants.{Wk}
 use Rattle.exp_tree.specs.declared.flat.FlatExp.{FlatExp}
-use Rattle.exp_tree.specs.declared.flat.NodeCause.{NodeCause}
 use Rattle.exp_tree.specs.declared.flat.NodeCause.TheVariants.{Instance, Shape, Reference as NoNode, Polarity as NoSide}
-use Rattle.exp_tree.specs.declared.flat.RootCause.{RootCause}
 use Rattle.exp_tree.specs.declared.flat.RootCause.TheVariants.{Reference, Polarity, Twice}
 use Rattle.exp_tree.proofs.RootWalk.{all_placed, below_test}
 use Rattle.exp_tree.proofs.TableTrees.{are_below, named_earlier, over_longer, as_many, row_at}

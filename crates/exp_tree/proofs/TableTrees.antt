@@ -1,8 +1,7 @@
 -- The trees of the nodes of a table.
-use Rattle.std.proofs.Common.{◌≡◌, ℕ, ◌+◌, ◌<◌, ◌≤◌, zero, suc, Bool, true, false, ◌&&◌, List, [], ◌∷◌, ◌++◌, map, take, drop, length, get_or, refl, sym, ap, ◌∙◌, subst, append_assoc, append-nil, zero-add, arith, inl, inr}
+use Rattle.std.proofs.Common.{◌≡◌, ℕ, ◌+◌, ◌<◌, ◌≤◌, zero, suc, Bool, true, false, List, [], ◌∷◌, ◌++◌, map, take, drop, length, get_or, refl, sym, ap, ◌∙◌, subst, append_assoc, append-nil, zero-add, arith, inl, inr}
 use Rattle.std.specs.Prelude.{Some, None, nat_lt, slice_get, option_and_then, if◌then◌else◌}
-use Rattle.std.specs.List.{All, list_any, list_all, position_or_len}
-use Rattle.std.specs.Bool.{Decides}
+use Rattle.std.specs.List.{list_any, list_all}
 use Rattle.std.specs.Cmp.Derive.{both_true}
 use Rattle.std.proofs.lemmas.Bool.{and_parts, cases_lt}
 use Rattle.std.proofs.lemmas.List.{get_or_append_left, get_or-map, length_push, length-map, length-take, same_lists, take-append-le, take-append-drop}
@@ -10,7 +9,7 @@ use Rattle.std.proofs.lemmas.List.Elements.{All-get_or, All-push}
 use Rattle.std.proofs.lemmas.List.Folds.{list_all-append}
 use Rattle.std.proofs.lemmas.Option.{slice_get_within, slice_get-get_or, get_or_from_slice_get}
 use Rattle.indexmap.specs.IndexSet.{insert_key}
-use Rattle.fol.specs.Syntax.{Term, Formula, top}
+use Rattle.fol.specs.Syntax.{Term, top}
 use Rattle.fol.specs.Order.{term_cmp}
 use Rattle.finite.specs.Finite.{IsRising}
 use Rattle.expansion_laws.specs.Expansions.{Exp as Tree, wk, neg, conj, disj, impl, weak, strong}
@@ -18,7 +17,7 @@ use Rattle.exp_tree.specs.Codes.{coded_exp}
 use Rattle.number_hash.specs.Codes.{same_by_decides}
 use Rattle.exp_tree.specs.Shown.{insts_of}
 use Rattle.exp_tree.specs.Sorting.{sorted}
-use Rattle.exp_tree.specs.FlatLists.{children, is_formed_node, tree_at, inst_at, tree_over, trees_after, trees_of, node_fault, fault_at, IsRightBefore, IsWithoutNodeFault, has_shape, tree_fault}
+use Rattle.exp_tree.specs.FlatLists.{children, is_formed_node, tree_at, inst_at, tree_over, trees_after, trees_of, node_fault, fault_at, IsWithoutNodeFault, has_shape, tree_fault}
 use Rattle.exp_tree.specs.Subtrees.{same_tree}
 use Rattle.exp_tree.specs.Writing.{place, places_in, node_in, nodes_of}
 use Rattle.exp_tree.specs.Tables.{coded_node, same_node, HasRisingTerms, AreDistinct, IsTable}

@@ -2,18 +2,18 @@
 use Rattle.std.proofs.Common.{◌≡◌, ℕ, ◌+◌, ◌-◌, ◌<◌, ◌≤◌, zero, suc, Bool, true, false, ◌||◌, List, [], ◌∷◌, ◌++◌, map, take, length, get_or, refl, sym, ap, ◌∙◌, subst, arith, inl, inr, append_assoc, append-nil}
 use Rattle.std.specs.Prelude.{Some, None, nat_lt, slice_get, option_and_then, if◌then◌else◌}
 use Rattle.std.specs.List.{All, list_any, list_all}
-use Rattle.std.specs.Ordering.{eq_by_cmp, is_eq}
+use Rattle.std.specs.Ordering.{is_eq}
 use Rattle.std.specs.Cmp.Derive.{both_true}
 use Rattle.std.proofs.lemmas.Bool.{and_parts, cases_lt}
 use Rattle.std.proofs.lemmas.Bool.Decides.{nat_tests}
-use Rattle.std.proofs.lemmas.List.{get_or-map, length-append, length-map, length_push, map_push, take_more}
+use Rattle.std.proofs.lemmas.List.{get_or-map, length-append, length-map, map_push, take_more}
 use Rattle.std.proofs.lemmas.List.Elements.{All-weaker}
 use Rattle.std.proofs.lemmas.List.Folds.{list_all-append}
 use Rattle.std.proofs.lemmas.Option.{slice_get-get_or, slice_get_within, get_or_from_slice_get}
 use Rattle.std.proofs.Math.Bool.{or-true}
 use Rattle.finite.specs.Finite.{IsRising}
 use Rattle.finite.proofs.Rising.{head_below, tail_rises, below_at, turned_less}
-use Rattle.fol.specs.Syntax.{Formula, top}
+use Rattle.fol.specs.Syntax.{top}
 use Rattle.fol.specs.Order.{formula_cmp}
 use Rattle.fol.specs.OrderLaws.{formula_total}
 use Rattle.lk_rules.specs.declared.sequent.Side.{Side}
@@ -26,12 +26,11 @@ use Rattle.exp_tree.specs.Sorting.{sorted}
 use Rattle.number_hash.specs.Codes.{same_by_decides}
 use Rattle.exp_tree.specs.Sequents.{AreArranged}
 use Rattle.exp_tree.specs.FlatLists.{tree_at, trees_of, IsWithoutNodeFault}
-use Rattle.exp_tree.specs.Roots.{has_same_formula, root_fault, side_fault_at, root_fault_at, IsRightSideBefore, IsWithoutRootFault, side_over, expansion_over}
+use Rattle.exp_tree.specs.Roots.{has_same_formula, root_fault, side_fault_at, IsRightSideBefore, IsWithoutRootFault, side_over, expansion_over}
 use Rattle.exp_tree.specs.Reads.{IsWithoutFault}
 use Rattle.exp_tree.specs.Subtrees.{same_tree, subtrees, subtrees_each, with_each, distinct_trees}
 use Rattle.exp_tree.specs.Writing.{place, nodes_of, flat_of}
 use Rattle.exp_tree.specs.Tables.{AreDistinct}
-use Rattle.exp_tree.specs.declared.flat.ExpNode.{ExpNode}
 use Rattle.exp_tree.specs.declared.flat.FlatExp.{FlatExp}
 use Rattle.exp_tree.specs.declared.flat.RootCause.TheVariants.{Reference, Polarity, Twice}
 use Rattle.exp_tree.proofs.Arranged.{each_passes}

@@ -1,6 +1,7 @@
 -- What is read from a flat list.
 --     ReadsNode, Builds      what one node is read as, and one whose children and shape are right
 --     IsWrong      why a node whose children and shape are right is read as no tree
+--     is_propositional      whether a node is none of a quantifier
 --     AreSorted, PutsInstance      instances by rising term, and one more of them
 use Rattle.std.specs.Prelude.{◌≡◌, ℕ, Bool, true, false, List, map, Some, None, Result, Ok, Err}
 use Rattle.fol.specs.Syntax.{Term, Formula}
@@ -14,6 +15,7 @@ use Rattle.exp_tree.specs.Sorting.{placed, sorted}
 use Rattle.exp_tree.specs.FlatLists.{tree_over, inst_at, node_fault, IsFirstNodeFault}
 use Rattle.exp_tree.specs.declared.expansion.Inst.{Inst}
 use Rattle.exp_tree.specs.declared.flat.ExpNode.{ExpNode}
+use Rattle.exp_tree.specs.declared.flat.ExpNode.TheVariants.{Weak, Strong}
 use Rattle.exp_tree.specs.declared.flat.NodesFault.{NodesFault}
 use Rattle.exp_tree.specs.declared.flat.NodesFault.TheVariants as fault
 use Rattle.exp_tree.specs.declared.flat.NodeCause.TheVariants.{Instance}
@@ -35,6 +37,12 @@ IsWrong Memory test = Unit {0}
 abbrev pub Builds : Result Tree NodeFault → Tree → Type 0
 Builds (Ok e) wanted = e ≡ wanted
 Builds (Err fault) wanted = IsWrong fault (is_built wanted)
+
+-- a node is none of a quantifier
+abbrev pub is_propositional : ExpNode → Bool
+is_propositional (Weak f is) = false
+is_propositional (Strong f y m) = false
+is_propositional n = true
 
 -- instances by rising term, with right children
 pub record AreSorted (f : Formula) (terms : List Term) (is : List Inst) : Type 0 where

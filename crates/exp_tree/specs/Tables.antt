@@ -3,7 +3,7 @@
 --     AreDistinct      no tree stands twice in a list
 --     IsTable      what the nodes of a table are
 --     IsNodeOf      a node that stands for a tree over the trees of a list
-use Rattle.std.specs.Prelude.{◌≡◌, ℕ, nat_lt, Bool, true, List, [], ◌∷◌, length, map, fold, Some, slice_get}
+use Rattle.std.specs.Prelude.{◌≡◌, ℕ, nat_lt, Bool, true, List, length, map, fold, Some, slice_get}
 use Rattle.std.specs.List.{All, list_all}
 use Rattle.std.specs.Coded.{Coded}
 use Rattle.fol.specs.Syntax.{Term}

@@ -50,23 +50,36 @@ fn deep_at(alloc: Global, exp: &Exp, side: Side) -> Result<Formula, AllocError>
         ExpRoot::Leaf(formula) => formula.copy(),
         ExpRoot::Not(body) => Formula::not(alloc, deep_at(alloc, body, other(side))?),
         ExpRoot::And(first, second) => {
-            let first = deep_at(alloc, first, side)?;
-            let second = deep_at(alloc, second, side)?;
+            let (first, second) = deep_both(alloc, first, side, second, side)?;
             Formula::and(alloc, first, second)
         }
         ExpRoot::Or(first, second) => {
-            let first = deep_at(alloc, first, side)?;
-            let second = deep_at(alloc, second, side)?;
+            let (first, second) = deep_both(alloc, first, side, second, side)?;
             Formula::or(alloc, first, second)
         }
         ExpRoot::Imp(first, second) => {
-            let first = deep_at(alloc, first, other(side))?;
-            let second = deep_at(alloc, second, side)?;
+            let (first, second) = deep_both(alloc, first, other(side), second, side)?;
             Formula::imp(alloc, first, second)
         }
         ExpRoot::Weak(_, instances) => deep_instances(alloc, instances, side),
         ExpRoot::Strong(_, _, child) => deep_at(alloc, child, side),
     }
+}
+
+// The formulas of two trees, each on a side of its own.
+#[cycle(deep)]
+fn deep_both(
+    alloc: Global,
+    first: &Exp,
+    first_side: Side,
+    second: &Exp,
+    second_side: Side,
+) -> Result<(Formula, Formula), AllocError>
+    ensures { IfOk result (λ p. (p.0 ≡ deep_of first_side first.now) × (p.1 ≡ deep_of second_side second.now)) }
+{
+    let first = deep_at(alloc, first, first_side)?;
+    let second = deep_at(alloc, second, second_side)?;
+    Ok((first, second))
 }
 
 // The formulas of instances, joined in order and chained to the left.

@@ -171,10 +171,28 @@ fn formula_at(alloc: Global, root: &ExpRoot) -> Result<Formula, AllocError>
         | ExpRoot::Weak(formula, _)
         | ExpRoot::Strong(formula, _, _) => formula.copy(),
         ExpRoot::Not(body) => Formula::not(alloc, body.shallow()?),
-        ExpRoot::And(first, second) => Formula::and(alloc, first.shallow()?, second.shallow()?),
-        ExpRoot::Or(first, second) => Formula::or(alloc, first.shallow()?, second.shallow()?),
-        ExpRoot::Imp(first, second) => Formula::imp(alloc, first.shallow()?, second.shallow()?),
+        ExpRoot::And(first, second) => {
+            let (first, second) = formulas_of(first, second)?;
+            Formula::and(alloc, first, second)
+        }
+        ExpRoot::Or(first, second) => {
+            let (first, second) = formulas_of(first, second)?;
+            Formula::or(alloc, first, second)
+        }
+        ExpRoot::Imp(first, second) => {
+            let (first, second) = formulas_of(first, second)?;
+            Formula::imp(alloc, first, second)
+        }
     }
+}
+
+// The formulas of two trees.
+fn formulas_of(first: &Exp, second: &Exp) -> Result<(Formula, Formula), AllocError>
+    ensures { IfOk result (λ p. (p.0 ≡ formula_of first.now) × (p.1 ≡ formula_of second.now)) }
+{
+    let first = first.shallow()?;
+    let second = second.shallow()?;
+    Ok((first, second))
 }
 
 fn is_universal(formula: &Formula) -> bool

@@ -34,7 +34,7 @@ pub struct FlatExp {
 }
 
 /// What is wrong with a node: the first fault in this order.
-#[derive(Clone, Copy, PartialEq, Eq, Debug)]
+#[derive(Clone, Copy, PartialEq, Eq)]
 pub enum NodeCause {
     /// A child is no earlier node.
     Reference,
@@ -47,7 +47,7 @@ pub enum NodeCause {
 }
 
 /// What is wrong with a root: the first fault in this order.
-#[derive(Clone, Copy, PartialEq, Eq, Debug)]
+#[derive(Clone, Copy, PartialEq, Eq)]
 pub enum RootCause {
     /// It is no node.
     Reference,
@@ -58,7 +58,7 @@ pub enum RootCause {
 }
 
 /// Why no expansion trees are read from a flat list.
-#[derive(Clone, Copy, PartialEq, Eq, Debug)]
+#[derive(Clone, Copy, PartialEq, Eq)]
 pub enum NodesFault {
     /// This is the first faulty node, counted from 0, with its first fault.
     Node { node: u64, cause: NodeCause },

@@ -1,11 +1,11 @@
 //! Merging of two trees of one formula.
-ghost use Rattle.std.specs.Prelude.{◌≡◌, ◌<◌, ◌≤◌, ◌+◌, ◌++◌, length, drop, IfOk};
+ghost use Rattle.std.specs.Prelude.{◌≡◌, ◌<◌, ◌≤◌, ◌+◌, [], ◌∷◌, ◌++◌, length, drop, IfOk};
 ghost use Rattle.expansion_laws.specs.Expansions.{neg, conj, disj, impl, weak, strong};
 ghost use Rattle.exp_tree.specs.Shown.{insts_of};
 ghost use Rattle.exp_tree.specs.Merging.{merged, merged_in, followed, CanMerge, CanMergeInsts};
 
 use crate::expansion::{Exp, ExpRoot, Inst};
-use fol::{Formula, Var};
+use fol::{Formula, Term, Var};
 use std::alloc::{AllocError, Global};
 use std::cmp::Ordering;
 
@@ -206,29 +206,35 @@ fn push_next(
     let second = &others[j];
     match first.term.cmp(&second.term) {
         Ordering::Less => {
-            list.push(copy_instance(first)?)?;
+            push_instance(list, first)?;
             Ok((i + 1, j))
         }
         Ordering::Equal => {
             let child = merge(alloc, &first.child, &second.child)?;
-            let term = first.term.copy()?;
-            list.push(Inst { term, child })?;
+            push_child(list, &first.term, child)?;
             Ok((i + 1, j + 1))
         }
         Ordering::Greater => {
-            list.push(copy_instance(second)?)?;
+            push_instance(list, second)?;
             Ok((i, j + 1))
         }
     }
 }
 
-// The same instance, whose tree is shared.
-fn copy_instance(instance: &Inst) -> Result<Inst, AllocError>
-    ensures { IfOk result (λ copy. copy ≡ instance.now) }
+// Appends the instance by a term, with its tree.
+fn push_child(list: &mut Vec<Inst>, term: &Term, child: Exp) -> Result<(), AllocError>
+    ensures { IfOk result (λ _. list.new.items ≡ list.old.items ++ record { term = term.now; child = child } ∷ []) }
 {
-    let term = instance.term.copy()?;
-    let child = instance.child.copy()?;
-    Ok(Inst { term, child })
+    let term = term.copy()?;
+    list.push(Inst { term, child })?;
+    Ok(())
+}
+
+// Appends an instance, whose tree is shared.
+fn push_instance(list: &mut Vec<Inst>, instance: &Inst) -> Result<(), AllocError>
+    ensures { IfOk result (λ _. list.new.items ≡ list.old.items ++ instance.now ∷ []) }
+{
+    push_child(list, &instance.term, instance.child.copy()?)
 }
 
 // Appends instances, whose trees are shared.
@@ -236,7 +242,7 @@ fn push_instances(list: &mut Vec<Inst>, instances: &[Inst]) -> Result<(), AllocE
     ensures { IfOk result (λ _. list.new.items ≡ list.old.items ++ instances.now) }
 {
     for instance in instances {
-        list.push(copy_instance(instance)?)?;
+        push_instance(list, instance)?;
     }
     Ok(())
 }

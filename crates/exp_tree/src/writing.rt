@@ -1,7 +1,8 @@
 //! Writing of expansion trees as flat lists.
-ghost use Rattle.std.specs.Prelude.{◌≡◌, ◌||◌, true, Some, slice_get, length, map, nat_lt, IfOk};
+ghost use Rattle.std.specs.Prelude.{◌≡◌, ◌||◌, ◌++◌, true, Some, slice_get, length, map, nat_lt, IfOk};
 ghost use Rattle.std.specs.List.{All, list_all};
 ghost use Rattle.lk_rules.specs.declared.sequent.Side.TheVariants.{Left, Right};
+ghost use Rattle.expansion_laws.specs.Expansions.{weak, strong};
 ghost use Rattle.expansion_laws.specs.Proofs.{stands as can_stand, stand_in};
 ghost use Rattle.exp_tree.specs.Shown.{insts_of};
 ghost use Rattle.exp_tree.specs.FlatLists.{inst_at, tree_at};
@@ -16,7 +17,7 @@ use crate::flat::{ExpNode, FlatExp};
 use crate::flat_insts::FlatInsts;
 use crate::sequents::ExpSequent;
 use crate::table::Table;
-use fol::Term;
+use fol::{Formula, Var};
 use lk_rules::Numbers;
 use std::alloc::{AllocError, Global};
 
@@ -45,29 +46,80 @@ fn enter_below(table: &mut Table, alloc: Global, exp: &Exp) -> Result<ExpNode, A
         ExpRoot::Leaf(formula) => Ok(ExpNode::Leaf(formula.copy()?)),
         ExpRoot::Not(body) => Ok(ExpNode::Not(enter(table, alloc, body)?)),
         ExpRoot::And(first, second) => {
-            let first = enter(table, alloc, first)?;
-            let second = enter(table, alloc, second)?;
+            let (first, second) = enter_both(table, alloc, first, second)?;
             Ok(ExpNode::And(first, second))
         }
         ExpRoot::Or(first, second) => {
-            let first = enter(table, alloc, first)?;
-            let second = enter(table, alloc, second)?;
+            let (first, second) = enter_both(table, alloc, first, second)?;
             Ok(ExpNode::Or(first, second))
         }
         ExpRoot::Imp(first, second) => {
-            let first = enter(table, alloc, first)?;
-            let second = enter(table, alloc, second)?;
+            let (first, second) = enter_both(table, alloc, first, second)?;
             Ok(ExpNode::Imp(first, second))
         }
-        ExpRoot::Weak(formula, instances) => {
-            let instances = enter_insts(table, alloc, instances)?;
-            Ok(ExpNode::Weak(formula.copy()?, FlatInsts::from_vec(instances)))
-        }
+        ExpRoot::Weak(formula, instances) => enter_weak(table, alloc, exp, formula, instances),
         ExpRoot::Strong(formula, var, child) => {
-            let child = enter(table, alloc, child)?;
-            Ok(ExpNode::Strong(formula.copy()?, var.copy()?, child))
+            enter_strong(table, alloc, exp, formula, var, child)
         }
     }
+}
+
+// Enters the trees of the instances at a weak quantifier, and answers the quantifier's node.
+#[cycle(enter)]
+fn enter_weak(
+    table: &mut Table,
+    alloc: Global,
+    exp: &Exp,
+    formula: &Formula,
+    instances: &[Inst],
+) -> Result<ExpNode, AllocError>
+    requires root { exp.now ≡ weak formula.now (insts_of instances.now) }
+    requires stand { (stand_in Left (insts_of instances.now) || stand_in Right (insts_of instances.now)) ≡ true }
+    ensures trees { IfOk result (λ _. table.new ≡ with_each table.old (subtrees_in (insts_of instances.now))) }
+    ensures node { IfOk result (λ node. IsNodeOf table.new exp.now node) }
+{
+    exp.known();
+    let instances = enter_insts(table, alloc, instances)?;
+    Ok(ExpNode::Weak(formula.copy()?, instances))
+}
+
+// Enters the tree of the instance at a strong quantifier, and answers the quantifier's node.
+#[cycle(enter)]
+fn enter_strong(
+    table: &mut Table,
+    alloc: Global,
+    exp: &Exp,
+    formula: &Formula,
+    var: &Var,
+    child: &Exp,
+) -> Result<ExpNode, AllocError>
+    requires root { exp.now ≡ strong formula.now var.now child.now }
+    requires stands { (can_stand Left child.now || can_stand Right child.now) ≡ true }
+    ensures trees { IfOk result (λ _. table.new ≡ with_each table.old (subtrees child.now)) }
+    ensures node { IfOk result (λ node. IsNodeOf table.new exp.now node) }
+{
+    exp.known();
+    let child = enter(table, alloc, child)?;
+    Ok(ExpNode::Strong(formula.copy()?, var.copy()?, child))
+}
+
+// Enters the trees that two trees are made of, and answers the places of these.
+#[cycle(enter)]
+fn enter_both(
+    table: &mut Table,
+    alloc: Global,
+    first: &Exp,
+    second: &Exp,
+) -> Result<(u64, u64), AllocError>
+    requires first { (can_stand Left first.now || can_stand Right first.now) ≡ true }
+    requires second { (can_stand Left second.now || can_stand Right second.now) ≡ true }
+    ensures trees { IfOk result (λ _. table.new ≡ with_each table.old (subtrees first.now ++ subtrees second.now)) }
+    ensures first { IfOk result (λ p. slice_get table.new p.0 ≡ Some first.now) }
+    ensures second { IfOk result (λ p. slice_get table.new p.1 ≡ Some second.now) }
+{
+    let first = enter(table, alloc, first)?;
+    let second = enter(table, alloc, second)?;
+    Ok((first, second))
 }
 
 // Enters the trees of instances, and answers their terms with the places of the trees.
@@ -76,18 +128,18 @@ fn enter_insts(
     table: &mut Table,
     alloc: Global,
     instances: &[Inst],
-) -> Result<Vec<(Term, u64)>, AllocError>
+) -> Result<FlatInsts, AllocError>
     requires { (stand_in Left (insts_of instances.now) || stand_in Right (insts_of instances.now)) ≡ true }
     ensures trees { IfOk result (λ _. table.new ≡ with_each table.old (subtrees_in (insts_of instances.now))) }
-    ensures earlier { IfOk result (λ places. list_all (λ i. nat_lt i.1 (length table.new)) places.items ≡ true) }
-    ensures insts { IfOk result (λ places. map (inst_at table.new) places.items ≡ instances.now) }
+    ensures earlier { IfOk result (λ places. list_all (λ i. nat_lt i.1 (length table.new)) places ≡ true) }
+    ensures insts { IfOk result (λ places. map (inst_at table.new) places ≡ instances.now) }
 {
     let mut places = Vec::with_capacity(alloc, instances.len())?;
     for instance in instances {
         let place = enter(table, alloc, &instance.child)?;
         places.push((instance.term.copy()?, place))?;
     }
-    Ok(places)
+    Ok(FlatInsts::from_vec(places))
 }
 
 // Enters the distinct trees that some trees are made of, and answers the places of these.

@@ -12,7 +12,7 @@ use std::marker::Model;
 
 /// How much an operation may do, as reductions of an elimination of cuts, sequents that a search visits, nodes of unfolded expansion
 /// trees or inferences of a proof as a tree: from 1 to 1,000,000,000.
-#[derive(Debug, Drop)]
+#[derive(Drop)]
 pub struct Budget {
     amount: u64,
 }

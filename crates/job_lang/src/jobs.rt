@@ -118,7 +118,7 @@ pub struct Job {
 }
 
 /// Why a line isn't read.
-#[derive(Debug, Drop)]
+#[derive(Drop)]
 pub enum JobError {
     Memory,
     /// The first fault, and the job's name where its field is well formed.

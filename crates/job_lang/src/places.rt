@@ -7,7 +7,7 @@ use job_words::Utf8Text;
 use std::alloc::{AllocError, Global};
 
 /// The object whose members are read.
-#[derive(Clone, Copy, Debug, PartialEq, Eq)]
+#[derive(Clone, Copy, PartialEq, Eq)]
 pub enum Place {
     /// The job itself.
     Top,

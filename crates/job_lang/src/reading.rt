@@ -13,7 +13,7 @@ use std::alloc::{AllocError, AllocFailed, Global};
 use tptp_tokens::TextFault;
 
 /// Why a field isn't read.
-#[derive(Debug, Drop)]
+#[derive(Drop)]
 pub enum ReadError {
     Memory,
     Fault(JobCause),

@@ -11,7 +11,7 @@ use std::alloc::Global;
 use std::marker::Model;
 
 /// How many tuples at most have a row of a delta table: from 2 to 4.
-#[derive(Debug, Drop)]
+#[derive(Drop)]
 pub struct Width {
     tuples: u64,
 }

@@ -7,7 +7,7 @@ use lk_rules::Side;
 use std::alloc::AllocError;
 
 /// Why there is no interpolation.
-#[derive(Drop, Debug)]
+#[derive(Drop)]
 pub enum InterpFault {
     /// The proof has a cut. The number is the place of the first one in the list of its steps.
     Cut(u64),

@@ -1,9 +1,10 @@
 //! The auxiliary formulas of a premise.
-ghost use Rattle.std.specs.Prelude.{◌≡◌, ◌<◌, true, IfOk};
+ghost use Rattle.std.specs.Prelude.{◌≡◌, ◌<◌, true, IsSome, IfOk};
 ghost use Rattle.fol.specs.Syntax.{free};
 ghost use Rattle.fol.specs.Formed.{IsFormed, IsFormedVar};
 ghost use Rattle.substitution.specs.Instance.{inst, IsOpenBody};
 ghost use Rattle.lk_rules.specs.Rules.{IsFormedRule, is_unfolding_rule, has_shape, needs, aux as auxiliary_formulas};
+ghost use Rattle.lk_rules.specs.RuleOrder.{term_of, variable_of};
 ghost use Rattle.lk_rules.specs.Sequents.{empty as empty_sequent, adds_to, extended};
 
 use crate::rule::Rule;
@@ -40,30 +41,8 @@ pub fn aux(alloc: Global, rule: &Rule, premise: u64) -> Result<Sequent, AllocErr
             FormulaNode::Imp(a, b) => two(alloc, Side::Left, a, Side::Right, b),
             _ => Ok(Sequent::empty(alloc)),
         },
-        Rule::AllL(main, term) => match main.node() {
-            FormulaNode::All(body) => one(alloc, Side::Left, &instance(alloc, body, term)?),
-            _ => Ok(Sequent::empty(alloc)),
-        },
-        Rule::AllR(main, variable) => match main.node() {
-            FormulaNode::All(body) => one(
-                alloc,
-                Side::Right,
-                &variable_instance(alloc, body, variable)?,
-            ),
-            _ => Ok(Sequent::empty(alloc)),
-        },
-        Rule::ExL(main, variable) => match main.node() {
-            FormulaNode::Ex(body) => one(
-                alloc,
-                Side::Left,
-                &variable_instance(alloc, body, variable)?,
-            ),
-            _ => Ok(Sequent::empty(alloc)),
-        },
-        Rule::ExR(main, term) => match main.node() {
-            FormulaNode::Ex(body) => one(alloc, Side::Right, &instance(alloc, body, term)?),
-            _ => Ok(Sequent::empty(alloc)),
-        },
+        Rule::AllL(..) | Rule::ExR(..) => term_aux(alloc, rule),
+        Rule::AllR(..) | Rule::ExL(..) => eigenvariable_aux(alloc, rule),
         Rule::DefL(_) | Rule::DefR(_) => unfolding_aux(alloc, rule),
         Rule::AndR(_) | Rule::OrL(_) | Rule::ImpL(_) | Rule::Cut(_) => {
             branch_aux(alloc, rule, premise)
@@ -105,6 +84,52 @@ fn branch_aux(alloc: Global, rule: &Rule, premise: u64) -> Result<Sequent, Alloc
         },
         (Rule::Cut(cut), 0) => one(alloc, Side::Right, cut),
         (Rule::Cut(cut), 1) => one(alloc, Side::Left, cut),
+        _ => Ok(Sequent::empty(alloc)),
+    }
+}
+
+// The auxiliary formulas of the premise, by a rule that instantiates a quantifier by a term.
+fn term_aux(alloc: Global, rule: &Rule) -> Result<Sequent, AllocError>
+    requires formed { IsFormedRule rule.now }
+    requires instantiates { IsSome (term_of rule.now) }
+    ensures { IfOk result (λ sequent. sequent ≡ extended empty_sequent (auxiliary_formulas rule.now 0)) }
+{
+    match rule {
+        Rule::AllL(main, term) => match main.node() {
+            FormulaNode::All(body) => one(alloc, Side::Left, &instance(alloc, body, term)?),
+            _ => Ok(Sequent::empty(alloc)),
+        },
+        Rule::ExR(main, term) => match main.node() {
+            FormulaNode::Ex(body) => one(alloc, Side::Right, &instance(alloc, body, term)?),
+            _ => Ok(Sequent::empty(alloc)),
+        },
+        _ => Ok(Sequent::empty(alloc)),
+    }
+}
+
+// The auxiliary formulas of the premise, by a rule that instantiates a quantifier by an eigenvariable.
+fn eigenvariable_aux(alloc: Global, rule: &Rule) -> Result<Sequent, AllocError>
+    requires formed { IsFormedRule rule.now }
+    requires instantiates { IsSome (variable_of rule.now) }
+    ensures { IfOk result (λ sequent. sequent ≡ extended empty_sequent (auxiliary_formulas rule.now 0)) }
+{
+    match rule {
+        Rule::AllR(main, variable) => match main.node() {
+            FormulaNode::All(body) => one(
+                alloc,
+                Side::Right,
+                &variable_instance(alloc, body, variable)?,
+            ),
+            _ => Ok(Sequent::empty(alloc)),
+        },
+        Rule::ExL(main, variable) => match main.node() {
+            FormulaNode::Ex(body) => one(
+                alloc,
+                Side::Left,
+                &variable_instance(alloc, body, variable)?,
+            ),
+            _ => Ok(Sequent::empty(alloc)),
+        },
         _ => Ok(Sequent::empty(alloc)),
     }
 }

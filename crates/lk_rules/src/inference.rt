@@ -6,6 +6,7 @@ ghost use Rattle.fol.specs.Syntax.{top, bot};
 ghost use Rattle.fol.specs.Order.{formula_cmp};
 ghost use Rattle.finite.specs.Finite as set;
 ghost use Rattle.substitution.specs.Unfolding.{unf};
+ghost use Rattle.lk_rules.specs.declared.sequent.Side.TheVariants.{Left, Right};
 ghost use Rattle.lk_rules.specs.Rules.{IsFormedRule, needs, has_shape, main_stands, eigen_free, aux, fits_side, fits, verdict_of, Row};
 
 use crate::formulas::Formulas;
@@ -176,62 +177,92 @@ fn eigenvariable_is_free(rule: &Rule, end: &Sequent) -> bool
 }
 
 // Whether the formula is an auxiliary one of the premise on that side.
-#[tactic(auto, using(crate::proofs::Listings::equal_either_way))]
 fn is_auxiliary(rule: &Rule, premise: u64, side: Side, formula: &Formula) -> bool
-    requires { IsFormedRule rule.now }
+    requires formed { IsFormedRule rule.now }
+    requires premise { premise ≤ 1 }
     ensures { result ≡ list_any (eq_by_cmp formula_cmp formula.now) (aux rule.now premise side) }
 {
-    match (rule, premise, side) {
-        (Rule::NegL(main), 0, Side::Right) | (Rule::NegR(main), 0, Side::Left) => {
-            matches!(main.node(), FormulaNode::Not(a) if formula == a)
-        }
-        (Rule::AndL(main), 0, Side::Left) => {
+    match (premise, side) {
+        (0, Side::Left) => is_auxiliary_on_left(rule, formula),
+        (0, Side::Right) => is_auxiliary_on_right(rule, formula),
+        _ => is_auxiliary_of_second(rule, side, formula),
+    }
+}
+
+// Whether the formula is an auxiliary one of the first premise on the left.
+#[tactic(auto, using(crate::proofs::Listings::equal_either_way))]
+fn is_auxiliary_on_left(rule: &Rule, formula: &Formula) -> bool
+    requires { IsFormedRule rule.now }
+    ensures { result ≡ list_any (eq_by_cmp formula_cmp formula.now) (aux rule.now 0 Left) }
+{
+    match rule {
+        Rule::NegR(main) => matches!(main.node(), FormulaNode::Not(a) if formula == a),
+        Rule::AndL(main) => {
             matches!(main.node(), FormulaNode::And(a, b) if formula == a || formula == b)
         }
-        (Rule::AndR(main), 0, Side::Right) => {
-            matches!(main.node(), FormulaNode::And(a, _) if formula == a)
-        }
-        (Rule::AndR(main), 1, Side::Right) => {
-            matches!(main.node(), FormulaNode::And(_, b) if formula == b)
-        }
-        (Rule::OrL(main), 0, Side::Left) => {
-            matches!(main.node(), FormulaNode::Or(a, _) if formula == a)
-        }
-        (Rule::OrL(main), 1, Side::Left) => {
-            matches!(main.node(), FormulaNode::Or(_, b) if formula == b)
-        }
-        (Rule::OrR(main), 0, Side::Right) => {
-            matches!(main.node(), FormulaNode::Or(a, b) if formula == a || formula == b)
-        }
-        (Rule::ImpL(main), 0, Side::Right) | (Rule::ImpR(main), 0, Side::Left) => {
-            matches!(main.node(), FormulaNode::Imp(a, _) if formula == a)
-        }
-        (Rule::ImpL(main), 1, Side::Left) | (Rule::ImpR(main), 0, Side::Right) => {
-            matches!(main.node(), FormulaNode::Imp(_, b) if formula == b)
-        }
-        (Rule::AllL(main, term), 0, Side::Left) => {
+        Rule::OrL(main) => matches!(main.node(), FormulaNode::Or(a, _) if formula == a),
+        Rule::ImpR(main) => matches!(main.node(), FormulaNode::Imp(a, _) if formula == a),
+        Rule::AllL(main, term) => {
             matches!(main.node(), FormulaNode::All(body) if is_instance(body, term, formula))
         }
-        (Rule::AllR(main, variable), 0, Side::Right) => {
-            matches!(main.node(), FormulaNode::All(body) if is_variable_instance(body, variable, formula))
-        }
-        (Rule::ExL(main, variable), 0, Side::Left) => {
+        Rule::ExL(main, variable) => {
             matches!(main.node(), FormulaNode::Ex(body) if is_variable_instance(body, variable, formula))
         }
-        (Rule::ExR(main, term), 0, Side::Right) => {
+        Rule::DefL(main) => is_unfolding(main, formula),
+        _ => false,
+    }
+}
+
+// Whether the formula is an auxiliary one of the first premise on the right.
+#[tactic(auto, using(crate::proofs::Listings::equal_either_way))]
+fn is_auxiliary_on_right(rule: &Rule, formula: &Formula) -> bool
+    requires { IsFormedRule rule.now }
+    ensures { result ≡ list_any (eq_by_cmp formula_cmp formula.now) (aux rule.now 0 Right) }
+{
+    match rule {
+        Rule::NegL(main) => matches!(main.node(), FormulaNode::Not(a) if formula == a),
+        Rule::AndR(main) => matches!(main.node(), FormulaNode::And(a, _) if formula == a),
+        Rule::OrR(main) => {
+            matches!(main.node(), FormulaNode::Or(a, b) if formula == a || formula == b)
+        }
+        Rule::ImpL(main) => matches!(main.node(), FormulaNode::Imp(a, _) if formula == a),
+        Rule::ImpR(main) => matches!(main.node(), FormulaNode::Imp(_, b) if formula == b),
+        Rule::AllR(main, variable) => {
+            matches!(main.node(), FormulaNode::All(body) if is_variable_instance(body, variable, formula))
+        }
+        Rule::ExR(main, term) => {
             matches!(main.node(), FormulaNode::Ex(body) if is_instance(body, term, formula))
         }
-        (Rule::DefL(main), 0, Side::Left) | (Rule::DefR(main), 0, Side::Right) => {
-            is_unfolding(main, formula)
+        Rule::DefR(main) => is_unfolding(main, formula),
+        Rule::Cut(main) => formula == main,
+        _ => false,
+    }
+}
+
+// Whether the formula is an auxiliary one of the second premise on that side.
+#[tactic(auto, using(crate::proofs::Listings::equal_either_way))]
+fn is_auxiliary_of_second(rule: &Rule, side: Side, formula: &Formula) -> bool
+    ensures { result ≡ list_any (eq_by_cmp formula_cmp formula.now) (aux rule.now 1 side) }
+{
+    match (rule, side) {
+        (Rule::AndR(main), Side::Right) => {
+            matches!(main.node(), FormulaNode::And(_, b) if formula == b)
         }
-        (Rule::Cut(main), 0, Side::Right) | (Rule::Cut(main), 1, Side::Left) => formula == main,
+        (Rule::OrL(main), Side::Left) => {
+            matches!(main.node(), FormulaNode::Or(_, b) if formula == b)
+        }
+        (Rule::ImpL(main), Side::Left) => {
+            matches!(main.node(), FormulaNode::Imp(_, b) if formula == b)
+        }
+        (Rule::Cut(main), Side::Left) => formula == main,
         _ => false,
     }
 }
 
 // Whether the end sequent of a premise, where there is one, fits the conclusion.
 fn premise_fits(rule: &Rule, end: &Sequent, premise: u64, sequent: Option<&Sequent>) -> bool
-    requires { IsFormedRule rule.now }
+    requires formed { IsFormedRule rule.now }
+    requires premise { premise ≤ 1 }
     ensures { result ≡ fits rule.now end.now premise (option_copied sequent.entry) }
 {
     match sequent {
@@ -245,7 +276,8 @@ fn premise_fits(rule: &Rule, end: &Sequent, premise: u64, sequent: Option<&Seque
 
 // Whether each formula of a premise's side stands in the conclusion or is an auxiliary one.
 fn side_fits(rule: &Rule, premise: u64, side: Side, formulas: &Formulas, end: &Formulas) -> bool
-    requires { IsFormedRule rule.now }
+    requires formed { IsFormedRule rule.now }
+    requires premise { premise ≤ 1 }
     ensures { result ≡ fits_side formulas.now end.now (aux rule.now premise side) }
 {
     for formula in formulas.as_slice() {

@@ -1,6 +1,7 @@
 //! Rules, and the steps of a proof.
-ghost use Rattle.std.specs.Prelude.{◌≡◌, IfOk};
+ghost use Rattle.std.specs.Prelude.{◌≡◌, Some, None, IfOk};
 ghost use Rattle.lk_rules.specs.Rules.{is_formed_rule};
+ghost use Rattle.lk_rules.specs.RuleOrder.{formula_of, term_of, variable_of};
 
 use crate::numbers::Numbers;
 use crate::sequent::Sequent;
@@ -111,25 +112,77 @@ impl Rule {
         ensures { IfOk result (λ copy. copy ≡ self.now) }
     {
         match self {
-            Rule::Ax(main) => Ok(Rule::Ax(main.copy()?)),
             Rule::TopR => Ok(Rule::TopR),
             Rule::BotL => Ok(Rule::BotL),
-            Rule::NegL(main) => Ok(Rule::NegL(main.copy()?)),
-            Rule::NegR(main) => Ok(Rule::NegR(main.copy()?)),
-            Rule::AndL(main) => Ok(Rule::AndL(main.copy()?)),
-            Rule::AndR(main) => Ok(Rule::AndR(main.copy()?)),
-            Rule::OrL(main) => Ok(Rule::OrL(main.copy()?)),
-            Rule::OrR(main) => Ok(Rule::OrR(main.copy()?)),
-            Rule::ImpL(main) => Ok(Rule::ImpL(main.copy()?)),
-            Rule::ImpR(main) => Ok(Rule::ImpR(main.copy()?)),
-            Rule::AllL(main, term) => Ok(Rule::AllL(main.copy()?, term.copy()?)),
-            Rule::AllR(main, variable) => Ok(Rule::AllR(main.copy()?, variable.copy()?)),
-            Rule::ExL(main, variable) => Ok(Rule::ExL(main.copy()?, variable.copy()?)),
-            Rule::ExR(main, term) => Ok(Rule::ExR(main.copy()?, term.copy()?)),
-            Rule::DefL(main) => Ok(Rule::DefL(main.copy()?)),
-            Rule::DefR(main) => Ok(Rule::DefR(main.copy()?)),
-            Rule::Cut(main) => Ok(Rule::Cut(main.copy()?)),
             Rule::Weak => Ok(Rule::Weak),
+            Rule::AllL(main, term) | Rule::ExR(main, term) => {
+                Ok(self.with_term(main.copy()?, term.copy()?))
+            }
+            Rule::AllR(main, variable) | Rule::ExL(main, variable) => {
+                Ok(self.with_variable(main.copy()?, variable.copy()?))
+            }
+            Rule::Ax(main)
+            | Rule::NegL(main)
+            | Rule::NegR(main)
+            | Rule::AndL(main)
+            | Rule::AndR(main)
+            | Rule::OrL(main)
+            | Rule::OrR(main)
+            | Rule::ImpL(main)
+            | Rule::ImpR(main)
+            | Rule::DefL(main)
+            | Rule::DefR(main)
+            | Rule::Cut(main) => Ok(self.with_main(main.copy()?)),
+        }
+    }
+
+    // The rule that is made of a copy of its formula. It names nothing else.
+    fn with_main(&self, main: Formula) -> Rule
+        requires main { formula_of self.now ≡ Some main }
+        requires no_term { term_of self.now ≡ None }
+        requires no_variable { variable_of self.now ≡ None }
+        ensures { result ≡ self.now }
+    {
+        match self {
+            Rule::Ax(_) => Rule::Ax(main),
+            Rule::NegL(_) => Rule::NegL(main),
+            Rule::NegR(_) => Rule::NegR(main),
+            Rule::AndL(_) => Rule::AndL(main),
+            Rule::AndR(_) => Rule::AndR(main),
+            Rule::OrL(_) => Rule::OrL(main),
+            Rule::OrR(_) => Rule::OrR(main),
+            Rule::ImpL(_) => Rule::ImpL(main),
+            Rule::ImpR(_) => Rule::ImpR(main),
+            Rule::DefL(_) => Rule::DefL(main),
+            Rule::DefR(_) => Rule::DefR(main),
+            Rule::Cut(_) => Rule::Cut(main),
+            _ => unreachable!(),
+        }
+    }
+
+    // The rule that is made of copies of its formula and its term.
+    fn with_term(&self, main: Formula, term: Term) -> Rule
+        requires main { formula_of self.now ≡ Some main }
+        requires term { term_of self.now ≡ Some term }
+        ensures { result ≡ self.now }
+    {
+        match self {
+            Rule::AllL(..) => Rule::AllL(main, term),
+            Rule::ExR(..) => Rule::ExR(main, term),
+            _ => unreachable!(),
+        }
+    }
+
+    // The rule that is made of copies of its formula and its eigenvariable.
+    fn with_variable(&self, main: Formula, variable: Var) -> Rule
+        requires main { formula_of self.now ≡ Some main }
+        requires variable { variable_of self.now ≡ Some variable }
+        ensures { result ≡ self.now }
+    {
+        match self {
+            Rule::AllR(..) => Rule::AllR(main, variable),
+            Rule::ExL(..) => Rule::ExL(main, variable),
+            _ => unreachable!(),
         }
     }
 }

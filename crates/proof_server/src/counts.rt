@@ -11,7 +11,7 @@ use std::alloc::{AllocError, Global};
 
 /// The bytes of reply lines with their newlines, how many jobs there were, how many replies are no error, how many reductions the replies
 /// tell of, and how many replies are errors. A count stays at the greatest `u64`.
-#[derive(Clone, Copy, Debug, PartialEq, Eq)]
+#[derive(Clone, Copy, PartialEq, Eq)]
 pub struct Counts {
     pub bytes: u64,
     pub jobs: u64,

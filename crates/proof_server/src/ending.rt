@@ -1,5 +1,5 @@
 /// How a session ended.
-#[derive(Clone, Copy, Debug, PartialEq, Eq)]
+#[derive(Clone, Copy, PartialEq, Eq)]
 pub enum Ended {
     /// The input was read to its end and all replies were written; true where none of them is an error.
     Done(bool),

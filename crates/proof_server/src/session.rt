@@ -49,7 +49,7 @@ pub enum Storage {
 }
 
 /// Why a session can't go on.
-#[derive(Clone, Copy, Debug, PartialEq, Eq)]
+#[derive(Clone, Copy, PartialEq, Eq)]
 pub enum Stop {
     WriteFault,
     Memory,

@@ -23,7 +23,7 @@ pub struct ExpSummary {
 }
 
 /// What is wrong with a step.
-#[derive(Clone, Copy, Debug, PartialEq, Eq)]
+#[derive(Clone, Copy, PartialEq, Eq)]
 pub enum StepShown {
     /// A premise is not an earlier step.
     Reference,
@@ -32,7 +32,7 @@ pub enum StepShown {
 }
 
 /// What is wrong with a step of a refutation.
-#[derive(Clone, Copy, Debug, PartialEq, Eq)]
+#[derive(Clone, Copy, PartialEq, Eq)]
 pub enum RefutationShown {
     /// It names no clause, or no earlier step.
     Reference,

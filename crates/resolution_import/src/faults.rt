@@ -7,7 +7,7 @@ use refutations::ResCause;
 use std::alloc::AllocError;
 
 /// Why a refutation has no proof.
-#[derive(Clone, Copy, PartialEq, Eq, Debug)]
+#[derive(Clone, Copy, PartialEq, Eq)]
 pub enum ImportFault {
     /// This is the first faulty step, counted from 0. Where there is no step, it is 0.
     Step { step: u64, cause: ResCause },
@@ -24,7 +24,7 @@ impl From<AllocError> for ImportFault {
 }
 
 /// Why a step derives nothing.
-#[derive(Clone, Copy, PartialEq, Eq, Debug)]
+#[derive(Clone, Copy, PartialEq, Eq)]
 pub(crate) enum StepFault {
     Cause(ResCause),
     Memory,

@@ -24,7 +24,7 @@ use std::collections::BTreeMap;
 use substitution::Subst;
 
 /// A clause that was derived, as a sequent, with the tree of its proof, by numbers.
-#[derive(Clone, Copy, Drop, Debug)]
+#[derive(Clone, Copy, Drop)]
 pub(crate) struct Numbered {
     pub clause: u32,
     pub tree: u32,

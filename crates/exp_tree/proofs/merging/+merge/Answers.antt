@@ -43,17 +43,17 @@ push_next-merge-requires t c =
           (term_ties c.index-some-i.result.term c.index-others-j.result.term (sym c.cmp.ensures.value ∙ c.in-Equal.is)),
     )
 
-pub push_next-returns-in_ok-push-in-Less-clause-next : goal.push_next-returns-in_ok-push-in-Less-clause-next
-push_next-returns-in_ok-push-in-Less-clause-next t c =
-    step_less c.args.some.now c.args.others.now c.args.i c.args.j c.index-some-i.result c.index-others-j.result c.requires.first c.requires.second c.index-some-i.is c.index-others-j.is c.args.list.now.items c.push.new.self.items
-    (sym c.cmp.ensures.value ∙ c.in-Less.is) c.in_ok-copy_instance-in-Less.field-0 c.in_ok-copy_instance-in-Less.ensures c.in_ok-push-in-Less.ensures.items
+pub push_next-returns-in_ok-push_instance-in-Less-clause-next : goal.push_next-returns-in_ok-push_instance-in-Less-clause-next
+push_next-returns-in_ok-push_instance-in-Less-clause-next t c =
+    step_less c.args.some.now c.args.others.now c.args.i c.args.j c.index-some-i.result c.index-others-j.result c.requires.first c.requires.second c.index-some-i.is c.index-others-j.is c.args.list.now.items c.push_instance.new.list.items
+    (sym c.cmp.ensures.value ∙ c.in-Less.is) c.in_ok-push_instance-in-Less.ensures
 
-pub push_next-returns-in_ok-push-in-Equal-clause-next : goal.push_next-returns-in_ok-push-in-Equal-clause-next
-push_next-returns-in_ok-push-in-Equal-clause-next t c =
-    step_equal c.args.some.now c.args.others.now c.args.i c.args.j c.index-some-i.result c.index-others-j.result c.requires.first c.requires.second c.index-some-i.is c.index-others-j.is c.args.list.now.items c.push-in-Equal.new.self.items
-    (sym c.cmp.ensures.value ∙ c.in-Equal.is) (record { term = c.in_ok-term-in-Equal.term; child = c.in_ok-child-in-Equal.child }) c.in_ok-term-in-Equal.ensures c.in_ok-child-in-Equal.ensures c.in_ok-push-in-Equal.ensures.items
+pub push_next-returns-in_ok-push_child-in-Equal-clause-next : goal.push_next-returns-in_ok-push_child-in-Equal-clause-next
+push_next-returns-in_ok-push_child-in-Equal-clause-next t c =
+    step_equal c.args.some.now c.args.others.now c.args.i c.args.j c.index-some-i.result c.index-others-j.result c.requires.first c.requires.second c.index-some-i.is c.index-others-j.is c.args.list.now.items c.push_child.new.list.items
+    (sym c.cmp.ensures.value ∙ c.in-Equal.is) c.in_ok-child-in-Equal.child c.in_ok-child-in-Equal.ensures c.in_ok-push_child-in-Equal.ensures
 
-pub push_next-returns-in_ok-push-in-Greater-clause-next : goal.push_next-returns-in_ok-push-in-Greater-clause-next
-push_next-returns-in_ok-push-in-Greater-clause-next t c =
-    step_greater c.args.some.now c.args.others.now c.args.i c.args.j c.index-some-i.result c.index-others-j.result c.requires.first c.requires.second c.index-some-i.is c.index-others-j.is c.args.list.now.items c.push-in-Greater.new.self.items
-    (sym c.cmp.ensures.value ∙ c.in-Greater.is) c.in_ok-copy_instance-in-Greater.field-0 c.in_ok-copy_instance-in-Greater.ensures c.in_ok-push-in-Greater.ensures.items
+pub push_next-returns-in_ok-push_instance-in-Greater-clause-next : goal.push_next-returns-in_ok-push_instance-in-Greater-clause-next
+push_next-returns-in_ok-push_instance-in-Greater-clause-next t c =
+    step_greater c.args.some.now c.args.others.now c.args.i c.args.j c.index-some-i.result c.index-others-j.result c.requires.first c.requires.second c.index-some-i.is c.index-others-j.is c.args.list.now.items c.push_instance-in-Greater.new.list.items
+    (sym c.cmp.ensures.value ∙ c.in-Greater.is) c.in_ok-push_instance-in-Greater.ensures

@@ -5,51 +5,51 @@ use Rattle.exp_tree.specs.Sizes.{IsProper}
 use Rattle.exp_tree.specs.Shown.{exp_of, insts_of}
 use Rattle.exp_tree.specs.Tables.{IsNodeOf}
 use Rattle.exp_tree.specs.declared.flat.ExpNode.TheVariants.{And, Or, Imp, Weak, Strong}
-use Rattle.exp_tree.proofs.Entered.{conj_node, disj_node, impl_node, weak_node, strong_node, inst_stands, inst_smaller, insts_next, earlier_next, placed_next}
+use Rattle.exp_tree.proofs.Entered.{still, conj_node, disj_node, impl_node, weak_node, strong_node, inst_stands, inst_smaller, insts_next, earlier_next, placed_next}
 use Rattle.exp_tree.proofs.writing.+enter.Goals as goal
 
-pub enter_below-returns-in_ok-second-in-And-clause-node : goal.enter_below-returns-in_ok-second-in-And-clause-node
-enter_below-returns-in_ok-second-in-And-clause-node t c =
-    subst (λ e. IsNodeOf c.enter-in-And-2.new.table e (And c.in_ok-first-in-And.first c.in_ok-second-in-And.second)) (ap exp_of (sym c.in-And.is) ∙ c.root.ensures)
-    (conj_node c.enter-in-And.new.table c.enter-in-And-2.new.table c.in-And.first c.in-And.second c.in_ok-first-in-And.first c.in_ok-second-in-And.second
-    c.in_ok-first-in-And.ensures.place c.in_ok-second-in-And.ensures.trees c.in_ok-second-in-And.ensures.place)
+pub enter_below-returns-in_ok-first-in-And-clause-node : goal.enter_below-returns-in_ok-first-in-And-clause-node
+enter_below-returns-in_ok-first-in-And-clause-node t c =
+    let h = c.in_ok-first-in-And.ensures in
+    subst (λ e. IsNodeOf c.enter_both.new.table e (And c.in_ok-first-in-And.first c.in_ok-first-in-And.second)) (ap exp_of (sym c.in-And.is) ∙ c.root.ensures)
+    (conj_node c.enter_both.new.table c.in-And.first c.in-And.second c.in_ok-first-in-And.first c.in_ok-first-in-And.second h.first h.second)
 
-pub enter_below-returns-in_ok-second-in-Or-clause-node : goal.enter_below-returns-in_ok-second-in-Or-clause-node
-enter_below-returns-in_ok-second-in-Or-clause-node t c =
-    subst (λ e. IsNodeOf c.enter-in-Or-2.new.table e (Or c.in_ok-first-in-Or.first c.in_ok-second-in-Or.second)) (ap exp_of (sym c.in-Or.is) ∙ c.root.ensures)
-    (disj_node c.enter-in-Or.new.table c.enter-in-Or-2.new.table c.in-Or.first c.in-Or.second c.in_ok-first-in-Or.first c.in_ok-second-in-Or.second
-    c.in_ok-first-in-Or.ensures.place c.in_ok-second-in-Or.ensures.trees c.in_ok-second-in-Or.ensures.place)
+pub enter_below-returns-in_ok-first-in-Or-clause-node : goal.enter_below-returns-in_ok-first-in-Or-clause-node
+enter_below-returns-in_ok-first-in-Or-clause-node t c =
+    let h = c.in_ok-first-in-Or.ensures in
+    subst (λ e. IsNodeOf c.enter_both-in-Or.new.table e (Or c.in_ok-first-in-Or.first c.in_ok-first-in-Or.second)) (ap exp_of (sym c.in-Or.is) ∙ c.root.ensures)
+    (disj_node c.enter_both-in-Or.new.table c.in-Or.first c.in-Or.second c.in_ok-first-in-Or.first c.in_ok-first-in-Or.second h.first h.second)
 
-pub enter_below-returns-in_ok-second-in-Imp-clause-node : goal.enter_below-returns-in_ok-second-in-Imp-clause-node
-enter_below-returns-in_ok-second-in-Imp-clause-node t c =
-    subst (λ e. IsNodeOf c.enter-in-Imp-2.new.table e (Imp c.in_ok-first-in-Imp.first c.in_ok-second-in-Imp.second)) (ap exp_of (sym c.in-Imp.is) ∙ c.root.ensures)
-    (impl_node c.enter-in-Imp.new.table c.enter-in-Imp-2.new.table c.in-Imp.first c.in-Imp.second c.in_ok-first-in-Imp.first c.in_ok-second-in-Imp.second
-    c.in_ok-first-in-Imp.ensures.place c.in_ok-second-in-Imp.ensures.trees c.in_ok-second-in-Imp.ensures.place)
+pub enter_below-returns-in_ok-first-in-Imp-clause-node : goal.enter_below-returns-in_ok-first-in-Imp-clause-node
+enter_below-returns-in_ok-first-in-Imp-clause-node t c =
+    let h = c.in_ok-first-in-Imp.ensures in
+    subst (λ e. IsNodeOf c.enter_both-in-Imp.new.table e (Imp c.in_ok-first-in-Imp.first c.in_ok-first-in-Imp.second)) (ap exp_of (sym c.in-Imp.is) ∙ c.root.ensures)
+    (impl_node c.enter_both-in-Imp.new.table c.in-Imp.first c.in-Imp.second c.in_ok-first-in-Imp.first c.in_ok-first-in-Imp.second h.first h.second)
 
-pub enter_below-returns-in_ok-copy-in-Weak-clause-node : goal.enter_below-returns-in_ok-copy-in-Weak-clause-node
-enter_below-returns-in_ok-copy-in-Weak-clause-node t c =
-    let f = c.in-Weak.formula in
-    let is = c.in-Weak.instances.items in
+pub enter_weak-returns-clause-node : goal.enter_weak-returns-clause-node
+enter_weak-returns-clause-node t c =
+    let f = c.args.formula.now in
+    let is = c.args.instances.now in
     let ts = c.enter_insts.new.table in
-    let ps = c.in_ok-instances-in-Weak.instances.items in
-    let tree : weak f (insts_of is) ≡ c.args.exp.now = ap exp_of (sym c.in-Weak.is) ∙ c.root.ensures in
-    let node : Weak f ps ≡ Weak c.in_ok-copy-in-Weak.field-0 c.from_vec.result = λ k. Weak (sym c.in_ok-copy-in-Weak.ensures k) (sym c.from_vec.ensures k) in
-    let proper : IsProper (weak f (insts_of is)) = subst IsProper (sym tree) c.known.ensures in
-    subst (λ e. IsNodeOf ts e (Weak c.in_ok-copy-in-Weak.field-0 c.from_vec.result)) tree
-    (subst (IsNodeOf ts (weak f (insts_of is))) node
-    (weak_node ts f is ps proper c.in_ok-instances-in-Weak.ensures.earlier (c.in_ok-instances-in-Weak.ensures.insts ∙ c.deref.ensures.value)))
+    let ps = c.in_ok-instances.instances in
+    subst (λ e. IsNodeOf ts e (Weak c.in_ok-copy.field-0 ps)) (sym c.requires.root)
+    (subst (λ g. IsNodeOf ts (weak f (insts_of is)) (Weak g ps)) (sym c.in_ok-copy.ensures)
+    (weak_node ts f is ps (subst IsProper c.requires.root c.known.ensures) c.in_ok-instances.ensures.earlier c.in_ok-instances.ensures.insts))
 
-pub enter_below-returns-in_ok-copy-in-Strong-2-clause-node : goal.enter_below-returns-in_ok-copy-in-Strong-2-clause-node
-enter_below-returns-in_ok-copy-in-Strong-2-clause-node t c =
-    let f = c.in-Strong.formula in
-    let y = c.in-Strong.var in
-    let d = c.in-Strong.child in
-    let ts = c.enter-in-Strong.new.table in
-    let i = c.in_ok-child-in-Strong.child in
-    let tree : strong f y d ≡ c.args.exp.now = ap exp_of (sym c.in-Strong.is) ∙ c.root.ensures in
-    let node : Strong f y i ≡ Strong c.in_ok-copy-in-Strong.field-0 c.in_ok-copy-in-Strong-2.field-0 i = λ k. Strong (sym c.in_ok-copy-in-Strong.ensures k) (sym c.in_ok-copy-in-Strong-2.ensures k) i in
-    subst (λ e. IsNodeOf ts e (Strong c.in_ok-copy-in-Strong.field-0 c.in_ok-copy-in-Strong-2.field-0 i)) tree
-    (subst (IsNodeOf ts (strong f y d)) node (strong_node ts f y d i (subst IsProper (sym tree) c.known.ensures) c.in_ok-child-in-Strong.ensures.place))
+pub enter_strong-returns-clause-node : goal.enter_strong-returns-clause-node
+enter_strong-returns-clause-node t c =
+    let f = c.args.formula.now in
+    let y = c.args.var.now in
+    let d = c.args.child.now in
+    let ts = c.enter.new.table in
+    let i = c.in_ok-child.child in
+    let node : Strong f y i ≡ Strong c.in_ok-copy.field-0 c.in_ok-copy-2.field-0 i = λ k. Strong (sym c.in_ok-copy.ensures k) (sym c.in_ok-copy-2.ensures k) i in
+    subst (λ e. IsNodeOf ts e (Strong c.in_ok-copy.field-0 c.in_ok-copy-2.field-0 i)) (sym c.requires.root)
+    (subst (IsNodeOf ts (strong f y d)) node (strong_node ts f y d i (subst IsProper c.requires.root c.known.ensures) c.in_ok-child.ensures.place))
+
+pub enter_both-returns-clause-first : goal.enter_both-returns-clause-first
+enter_both-returns-clause-first t c =
+    still c.enter.new.table c.enter-2.new.table c.args.second.now c.in_ok-first.first c.args.first.now c.in_ok-second.ensures.trees c.in_ok-first.ensures.place
 
 pub enter_insts-enter-requires : goal.enter_insts-enter-requires
 enter_insts-enter-requires t c =

@@ -1,7 +1,7 @@
 -- What is written is read as the same trees.
-use Rattle.std.proofs.Common.{◌≡◌, ◌++◌, [], sym, ap, ◌∙◌}
+use Rattle.std.proofs.Common.{ap, ◌∙◌}
 use Rattle.exp_tree.specs.Reads.{expansion_of}
-use Rattle.exp_tree.specs.Subtrees.{subtrees_each, with_each, distinct_trees}
+use Rattle.exp_tree.specs.Subtrees.{subtrees_each, with_each}
 use Rattle.exp_tree.proofs.Written.{IsWritten, written_roots}
 use Rattle.exp_tree.proofs.writing.write_nodes.Goals as goal
 
