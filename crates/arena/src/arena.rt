@@ -23,7 +23,6 @@ pub(crate) struct Imported {
 }
 
 /// An arena: what stands at the numbers of one call, each thing once, and the results of what has been asked of it.
-#[derive(Drop)]
 pub struct Arena {
     cells: Cells,
     results: HashMap<Task, u32, ByNumber>,
@@ -33,6 +32,22 @@ pub struct Arena {
     no_variables: Option<u32>,
     // By fingerprint. Of two formulas with one fingerprint the later one is kept.
     imported: HashMap<u64, Imported, ByNumber>,
+}
+
+impl Drop for Arena {
+    fn drop(self) {
+        let Arena {
+            cells,
+            results,
+            variables,
+            no_variables: _,
+            imported,
+        } = self;
+        drop(cells);
+        drop(results);
+        drop(variables);
+        drop(imported);
+    }
 }
 
 impl Model for Arena {

@@ -18,7 +18,7 @@ use lk_rules::{Sequent, Side};
 use proof_graph::{Graph, Inference, ProofRef};
 use std::alloc::{AllocError, Global};
 
-// The list of one reference.
+/// The list of one reference.
 pub(crate) fn one(alloc: Global, only: ProofRef) -> Result<Vec<ProofRef>, AllocError>
     ensures { IfOk result (λ list. list.items ≡ only ∷ []) }
 {
@@ -27,7 +27,7 @@ pub(crate) fn one(alloc: Global, only: ProofRef) -> Result<Vec<ProofRef>, AllocE
     Ok(list)
 }
 
-// The list of two references.
+/// The list of two references.
 pub(crate) fn two(
     alloc: Global,
     first: ProofRef,
@@ -41,7 +41,7 @@ pub(crate) fn two(
     Ok(list)
 }
 
-// A sequent of well-formed formulas.
+/// A sequent of well-formed formulas.
 #[tactic(auto, using(arena_cells::proofs::Facts::sequents))]
 pub(crate) fn export_end(
     alloc: Global,

@@ -36,7 +36,6 @@ pub(crate) struct NumberedSide {
 
 /// Which proofs of a graph stand at which numbers of an arena: those that came in and those that went out. The sides of sequents that went
 /// out are kept as well, and the order of the formulas that went out last, with the last side on the left and the last one on the right.
-#[derive(Drop)]
 pub struct ProofNumbers {
     proofs: Vec<Numbered>,
     // The places of the proofs by their numbers in the graph. Whoever takes one looks whether the proof stands there.
@@ -47,6 +46,25 @@ pub struct ProofNumbers {
     ranks: Ranks,
     left: LastSide,
     right: LastSide,
+}
+
+impl Drop for ProofNumbers {
+    fn drop(self) {
+        let ProofNumbers {
+            proofs,
+            places,
+            sides,
+            ranks,
+            left,
+            right,
+        } = self;
+        drop(proofs);
+        drop(places);
+        drop(sides);
+        drop(ranks);
+        drop(left);
+        drop(right);
+    }
 }
 
 impl ProofNumbers {

@@ -5,7 +5,7 @@ use lk_rules::Side;
 /// How a cut is replaced: the first of these that fits. A case names a premise by the side on which it has the cut formula: the left premise
 /// has it on the right, and the right one on the left. A rule introduces the cut formula where that is its main formula on this side. Where
 /// both premises fit, it is the case of the left one.
-#[derive(Clone, Copy, PartialEq, Eq, Debug)]
+#[derive(Clone, Copy, PartialEq, Eq)]
 pub enum Case {
     /// The premise proves the conclusion already, but for a weakening.
     Weaken(Side),

@@ -9,7 +9,7 @@ use fol::{Term, Terms};
 use std::alloc::{AllocError, Global};
 
 /// A pattern of tuples, whose variable is `Bound(0)`, and the set of the values that give them back.
-#[derive(Drop, Debug)]
+#[derive(Drop)]
 pub struct Row {
     pub pattern: Terms,
     pub values: Values,

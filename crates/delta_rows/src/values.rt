@@ -9,7 +9,7 @@ use std::alloc::{AllocError, Global};
 use std::marker::Model;
 
 /// A finite set of terms, kept in rising order.
-#[derive(Drop, Debug)]
+#[derive(Drop)]
 pub struct Values {
     // A number in which unequal sets mostly differ.
     fingerprint: u64,

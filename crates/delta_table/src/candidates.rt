@@ -26,12 +26,25 @@ use std::thread::Threads;
 
 /// A candidate for a cut: a set of values, the patterns of each item whose rows have just these values, the tuples of each item that these
 /// don't cover, and how many quantifier inferences the proof with the cut has.
-#[derive(Drop)]
 pub struct Candidate {
     pub values: Values,
     pub patterns: Patterns,
     pub rest: Instances,
     pub cost: u128,
+}
+
+impl Drop for Candidate {
+    fn drop(self) {
+        let Candidate {
+            values,
+            patterns,
+            rest,
+            cost: _,
+        } = self;
+        drop(values);
+        drop(patterns);
+        drop(rest);
+    }
 }
 
 // The pattern of a row's tuples.

@@ -16,11 +16,22 @@ use std::marker::Model;
 
 /// A formula of one side of a sequent, and tuples of terms for its quantifiers. The formula is well formed: weak quantifiers, `All` on the
 /// left and `Ex` on the right, over a formula without quantifiers. The tuples rise, are well formed, and have a term for each quantifier.
-#[derive(Drop)]
 pub struct Item {
     pub side: Side,
     pub formula: Formula,
     pub tuples: Tuples,
+}
+
+impl Drop for Item {
+    fn drop(self) {
+        let Item {
+            side: _,
+            formula,
+            tuples,
+        } = self;
+        drop(formula);
+        drop(tuples);
+    }
 }
 
 impl Model for Item {

@@ -122,11 +122,19 @@ fn keys(alloc: Global, tables: &[Rows]) -> Result<NumberSets, AllocError>
 }
 
 /// A delta table: the rows of each item, the sets of values that they have, each once, and the cells in which the terms are numbered.
-#[derive(Drop)]
 pub(crate) struct Table {
     pub cells: Cells,
     pub rows: Vec<Rows>,
     pub keys: NumberSets,
+}
+
+impl Drop for Table {
+    fn drop(self) {
+        let Table { cells, rows, keys } = self;
+        drop(cells);
+        drop(rows);
+        drop(keys);
+    }
 }
 
 /// The delta table of items.

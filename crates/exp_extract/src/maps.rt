@@ -12,12 +12,24 @@ use std::marker::Model;
 use substitution::{Subst, laws};
 
 /// How a map is made: another one with one more variable.
-#[derive(Drop)]
 pub(crate) struct Extension {
     pub parent: u32,
     pub eigenvariable: Var,
     pub variable: Term,
     pub number: u32,
+}
+
+impl Drop for Extension {
+    fn drop(self) {
+        let Extension {
+            parent: _,
+            eigenvariable,
+            variable,
+            number: _,
+        } = self;
+        drop(eigenvariable);
+        drop(variable);
+    }
 }
 
 /// Maps from eigenvariables to the variables of addresses. The first has no variable, and each other one is made of one before. One that is

@@ -23,11 +23,19 @@ use proof_trees::laws;
 use std::alloc::{AllocError, Global};
 
 /// What a proof uses, with the numbers of the addresses of its conclusion's formulas, in the order of each side.
-#[derive(Drop)]
 pub(crate) struct MarkedProof {
     pub marks: Marks,
     pub left: Vec<u32>,
     pub right: Vec<u32>,
+}
+
+impl Drop for MarkedProof {
+    fn drop(self) {
+        let MarkedProof { marks, left, right } = self;
+        drop(marks);
+        drop(left);
+        drop(right);
+    }
 }
 
 /// Marks what a proof without cuts and unfoldings uses. The variables of `outside` are those of the proof. A proof that is met again with

@@ -14,7 +14,6 @@ use std::collections::HashMap;
 use std::marker::Model;
 
 /// The numbered variables outside a set that are given to places, by rising number, as terms.
-#[derive(Drop)]
 pub(crate) struct Names {
     outside: Vars,
     // The places that have a variable, in the order in which they got them.
@@ -23,6 +22,22 @@ pub(crate) struct Names {
     // The next variable, and its number.
     next: Term,
     number: u64,
+}
+
+impl Drop for Names {
+    fn drop(self) {
+        let Names {
+            outside,
+            named,
+            variables,
+            next,
+            number: _,
+        } = self;
+        drop(outside);
+        drop(named);
+        drop(variables);
+        drop(next);
+    }
 }
 
 impl Model for Names {
@@ -57,8 +72,8 @@ fn next_number(outside: &Vars, number: u64) -> Result<u64, AllocError>
 fn first_number(outside: &Vars) -> u64
     ensures { Num result ≡ nth_outside (set.listing outside.now) 0 }
 {
-    match fresh(outside.as_slice()) {
-        Var::Num(number) => number,
+    match &fresh(outside.as_slice()) {
+        Var::Num(number) => *number,
         Var::Word(_) => unreachable!(),
     }
 }

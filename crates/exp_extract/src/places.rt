@@ -29,7 +29,6 @@ pub(crate) enum Origin {
 }
 
 /// An address: the formula there, its side, and the numbers of its parts and instances.
-#[derive(Drop)]
 pub(crate) struct Entry {
     pub origin: Origin,
     pub formula: Formula,
@@ -37,6 +36,22 @@ pub(crate) struct Entry {
     pub first: Option<u32>,
     pub second: Option<u32>,
     pub vias: Markings,
+}
+
+impl Drop for Entry {
+    fn drop(self) {
+        let Entry {
+            origin,
+            formula,
+            side: _,
+            first: _,
+            second: _,
+            vias,
+        } = self;
+        drop(origin);
+        drop(formula);
+        drop(vias);
+    }
 }
 
 /// A table of addresses, which differ.

@@ -22,7 +22,6 @@ pub(crate) struct Sides {
 }
 
 /// The numbers of the addresses of a rule's auxiliary formulas.
-#[derive(Drop)]
 pub(crate) enum Auxiliary {
     /// There is none.
     Absent,
@@ -34,6 +33,18 @@ pub(crate) enum Auxiliary {
     BySide(u32, u32),
     /// One for this formula, and one for others.
     ByFormula(Formula, u32, u32),
+}
+
+impl Drop for Auxiliary {
+    fn drop(self) {
+        match self {
+            Auxiliary::Absent
+            | Auxiliary::Only(_)
+            | Auxiliary::ByPremise(_, _)
+            | Auxiliary::BySide(_, _) => {}
+            Auxiliary::ByFormula(formula, _, _) => drop(formula),
+        }
+    }
 }
 
 impl Auxiliary {

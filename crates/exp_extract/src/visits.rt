@@ -15,11 +15,22 @@ use std::alloc::{AllocError, Global};
 use std::collections::HashMap;
 
 /// A proof that was gone through, with the number of the map and those of the addresses of its conclusion's formulas.
-#[derive(Drop)]
 pub(crate) struct Visit {
     pub proof: ProofRef,
     pub map: u32,
     pub sides: Sides,
+}
+
+impl Drop for Visit {
+    fn drop(self) {
+        let Visit {
+            proof,
+            map: _,
+            sides,
+        } = self;
+        drop(proof);
+        drop(sides);
+    }
 }
 
 /// Proofs that were gone through. Of two with one fingerprint the later is kept.

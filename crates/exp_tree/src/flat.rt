@@ -26,11 +26,19 @@ pub enum ExpNode {
 }
 
 /// Expansion trees for the two sides of a sequent: a list of nodes, and which of them are the roots on the left and on the right.
-#[derive(Drop)]
 pub struct FlatExp {
     pub nodes: ExpNodes,
     pub left: Numbers,
     pub right: Numbers,
+}
+
+impl Drop for FlatExp {
+    fn drop(self) {
+        let FlatExp { nodes, left, right } = self;
+        drop(nodes);
+        drop(left);
+        drop(right);
+    }
 }
 
 /// What is wrong with a node: the first fault in this order.

@@ -60,10 +60,17 @@ impl Exps {
 }
 
 /// Expansion trees for the formulas of a sequent: for the antecedent on the left, and for the succedent on the right.
-#[derive(Drop)]
 pub struct ExpSequent {
     pub left: Exps,
     pub right: Exps,
+}
+
+impl Drop for ExpSequent {
+    fn drop(self) {
+        let ExpSequent { left, right } = self;
+        drop(left);
+        drop(right);
+    }
 }
 
 impl ExpSequent {

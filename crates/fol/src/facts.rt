@@ -8,7 +8,7 @@ pub const MAX_SIZE: u32 = 0x400_0000;
 
 /// The number of nodes, whether a variable is free, how many quantifiers around it the tree may need, whether a predicate symbol with a
 /// body stands in it, and a fingerprint.
-#[derive(Clone, Copy, Debug)]
+#[derive(Clone, Copy)]
 pub struct Facts {
     pub size: u32,
     pub has_free: bool,

@@ -8,17 +8,25 @@ use std::alloc::AllocError;
 
 /// A function symbol, or a predicate symbol without its body: a name with a number of arguments. Two symbols of one name and different
 /// numbers of arguments are different symbols.
-#[derive(Drop, Debug)]
+#[derive(Drop)]
 pub struct Sym {
     pub name: Text,
     pub arity: u32,
 }
 
 /// A free variable: one that is written as a word, or one of the numbered variables, which are written `V0`, `V1` and so on.
-#[derive(Drop, Debug)]
 pub enum Var {
     Word(Text),
     Num(u64),
+}
+
+impl Drop for Var {
+    fn drop(self) {
+        match self {
+            Var::Word(text) => drop(text),
+            Var::Num(_) => {}
+        }
+    }
 }
 
 impl Sym {

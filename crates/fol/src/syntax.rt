@@ -16,14 +16,13 @@ use std::sync::Arc;
 
 /// A term, of at most 2^26 nodes as a tree.
 #[cycle(term)]
-#[derive(Debug)]
 pub struct Term {
     cell: Arc<TermCell>,
 }
 
 // The root of a term with the facts of the whole.
 #[cycle(term)]
-#[derive(Drop, Debug)]
+#[derive(Drop)]
 struct TermCell {
     facts: Facts,
     node: TermNode,
@@ -31,7 +30,7 @@ struct TermCell {
 
 /// What stands at the root of a term.
 #[cycle(term)]
-#[derive(Drop, Debug)]
+#[derive(Drop)]
 pub enum TermNode {
     /// A free variable.
     Free(Var),
@@ -43,14 +42,13 @@ pub enum TermNode {
 
 /// A list of terms, the arguments of a symbol, of at most 2^26 nodes as a tree.
 #[cycle(term)]
-#[derive(Debug)]
 pub struct Terms {
     cell: Arc<TermsCell>,
 }
 
 // The root of a list with the facts of the whole.
 #[cycle(term)]
-#[derive(Drop, Debug)]
+#[derive(Drop)]
 struct TermsCell {
     facts: Facts,
     link: TermsLink,
@@ -58,7 +56,7 @@ struct TermsCell {
 
 /// How a list of terms begins.
 #[cycle(term)]
-#[derive(Drop, Debug)]
+#[derive(Drop)]
 pub enum TermsLink {
     Nil,
     Cons(Term, Terms),
@@ -68,7 +66,6 @@ pub enum TermsLink {
 /// free variables that begins with a universal quantifier for each argument, the outermost for the first. Predicate symbols are equal
 /// where their names, numbers of arguments and bodies are.
 #[cycle(formula)]
-#[derive(Debug)]
 pub struct Predicate {
     pub symbol: Sym,
     pub body: Option<Formula>,
@@ -76,14 +73,13 @@ pub struct Predicate {
 
 /// A formula, of at most 2^26 nodes as a tree, those of bodies included.
 #[cycle(formula)]
-#[derive(Debug)]
 pub struct Formula {
     cell: Arc<FormulaCell>,
 }
 
 // The root of a formula with the facts of the whole.
 #[cycle(formula)]
-#[derive(Drop, Debug)]
+#[derive(Drop)]
 struct FormulaCell {
     facts: Facts,
     node: FormulaNode,
@@ -91,7 +87,7 @@ struct FormulaCell {
 
 /// What stands at the root of a formula. The body of a quantifier has the quantified variable as `Bound(0)`.
 #[cycle(formula)]
-#[derive(Drop, Debug)]
+#[derive(Drop)]
 pub enum FormulaNode {
     Atom(Predicate, Terms),
     Top,

@@ -8,13 +8,13 @@ use std::marker::Model;
 use std::sync::Arc;
 
 /// A text of bytes that cannot be changed and is shared by its copies.
-#[derive(Drop, Debug)]
+#[derive(Drop)]
 pub struct Text {
     cell: Arc<TextCell>,
 }
 
 // The bytes with their fingerprint.
-#[derive(Drop, Debug)]
+#[derive(Drop)]
 struct TextCell {
     fingerprint: u64,
     bytes: Vec<u8>,

@@ -10,7 +10,7 @@ use std::alloc::{AllocError, Global};
 use std::marker::Model;
 
 /// A finite set of predicate symbols with their bodies, kept in rising order.
-#[derive(Drop, Debug)]
+#[derive(Drop)]
 pub struct Syms {
     items: Vec<Predicate>,
 }

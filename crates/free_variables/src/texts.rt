@@ -7,7 +7,7 @@ use std::alloc::{AllocError, Global};
 use std::marker::Model;
 
 /// A list of texts.
-#[derive(Drop, Debug)]
+#[derive(Drop)]
 pub struct Texts {
     items: Vec<Text>,
 }

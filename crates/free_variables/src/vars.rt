@@ -13,7 +13,7 @@ use std::alloc::{AllocError, Global};
 use std::marker::Model;
 
 /// A finite set of variables, kept in rising order.
-#[derive(Drop, Debug)]
+#[derive(Drop)]
 pub struct Vars {
     items: Vec<Var>,
 }

@@ -27,7 +27,6 @@ use tptp_problem::Problem;
 const LONGEST_KEPT: usize = 1 << 20;
 
 /// What a job asks for.
-#[derive(Drop)]
 pub enum Op {
     /// The steps of a proof, to be checked.
     Lk {
@@ -108,6 +107,62 @@ pub enum Op {
         width: Width,
         budget: Budget,
     },
+}
+
+impl Drop for Op {
+    fn drop(self) {
+        match self {
+            Op::Lk { steps } => drop(steps),
+            Op::Problem { problem } => drop(problem),
+            Op::Proves { proof, problem } => {
+                drop(proof);
+                drop(problem);
+            }
+            Op::Show { of: name }
+            | Op::Measure { proof: name }
+            | Op::Cutelim {
+                proof: name,
+                budget: _,
+            }
+            | Op::Expand {
+                proof: name,
+                budget: _,
+            }
+            | Op::Fromexp {
+                expansion: name,
+                budget: _,
+            }
+            | Op::Herbrand {
+                proof: name,
+                budget: _,
+            }
+            | Op::Cutintro {
+                proof: name,
+                width: _,
+                budget: _,
+            } => drop(name),
+            Op::Subst { proof, map } => {
+                drop(proof);
+                drop(map);
+            }
+            Op::Resolution { problem, steps } => {
+                drop(problem);
+                drop(steps);
+            }
+            Op::Tautology { sequent, budget: _ } => drop(sequent),
+            Op::Expansion { flat, budget: _ } => drop(flat),
+            Op::Interpolate {
+                proof,
+                first,
+                second,
+                budget: _,
+            } => {
+                drop(proof);
+                drop(first);
+                drop(second);
+            }
+        }
+    }
 }
 
 /// A job: what it asks for, under a name.

@@ -4,7 +4,7 @@ use tptp_problem::ProblemKind;
 use tptp_tokens::TextFault;
 
 /// Why a line isn't read as a job: its first fault in the order of reading.
-#[derive(Debug, Drop)]
+#[derive(Drop)]
 pub enum JobCause {
     /// The line has no JSON value.
     Json,

@@ -7,7 +7,7 @@ use fol::{Formula, Var};
 use std::marker::Model;
 
 /// A well-formed formula.
-#[derive(Debug, Drop)]
+#[derive(Drop)]
 pub struct FormedFormula {
     formula: Formula,
 }
@@ -45,7 +45,7 @@ impl FormedFormula {
 }
 
 /// A well-formed variable.
-#[derive(Debug, Drop)]
+#[derive(Drop)]
 pub struct FormedVar {
     var: Var,
 }
@@ -83,7 +83,7 @@ impl FormedVar {
 }
 
 /// A list of well-formed variables.
-#[derive(Debug, Drop)]
+#[derive(Drop)]
 pub struct FormedVars {
     items: Vec<Var>,
 }

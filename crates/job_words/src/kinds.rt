@@ -5,7 +5,7 @@ ghost use Rattle.job_words.specs.RuleKinds.{kind_name, kind_of as rule_kind, kin
 use lk_rules::Rule;
 
 /// The rules without what they name.
-#[derive(Clone, Copy, Debug, PartialEq, Eq)]
+#[derive(Clone, Copy, PartialEq, Eq)]
 pub enum RuleKind {
     Ax,
     TopR,

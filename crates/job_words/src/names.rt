@@ -6,7 +6,7 @@ ghost use Rattle.job_words.specs.Names.{is_job_name, is_name_byte as is_in_name}
 use std::marker::Model;
 
 /// The name of a job: 1 to 64 bytes, each an ASCII letter, a digit, `_` or `-`.
-#[derive(Debug, Drop)]
+#[derive(Drop)]
 pub struct Name {
     text: String,
 }

@@ -3,7 +3,7 @@ ghost use Rattle.std.specs.Prelude.{◌≡◌};
 ghost use Rattle.job_words.specs.NodeKinds.{node_name, node_named, node_named_among as first_named};
 
 /// The nodes of expansion trees without what they name.
-#[derive(Clone, Copy, Debug, PartialEq, Eq)]
+#[derive(Clone, Copy, PartialEq, Eq)]
 pub enum NodeKind {
     Wk,
     Leaf,

@@ -4,7 +4,7 @@ ghost use Rattle.std.specs.Prelude.{◌≡◌, string_bytes};
 use std::marker::Model;
 
 /// A text in UTF-8, which contracts see as its bytes: a text of a reply, as a field's path.
-#[derive(Debug, Drop)]
+#[derive(Drop)]
 pub struct Utf8Text {
     text: String,
 }

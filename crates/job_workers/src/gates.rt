@@ -12,7 +12,7 @@ pub trait Gate: Sync {
 }
 
 /// The gate that holds nothing.
-#[derive(Clone, Copy, Debug)]
+#[derive(Clone, Copy)]
 pub struct NoGate;
 
 impl Gate for NoGate {

@@ -7,7 +7,7 @@ ghost use Rattle.line_values.specs.View.{number_view};
 use fast_float::Numeral;
 
 /// A whole number of 64 bits, or else the nearest float.
-#[derive(Clone, Copy, Debug, Drop)]
+#[derive(Clone, Copy, Drop)]
 pub enum Number {
     /// A whole number from 0 to 2^64 - 1.
     Unsigned(u64),

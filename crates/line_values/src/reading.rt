@@ -15,7 +15,7 @@ use std::alloc::{AllocError, AllocFailed, Global};
 const MAX_DEPTH: usize = 127;
 
 /// Why no value is read.
-#[derive(Clone, Copy, Debug, Drop, PartialEq, Eq)]
+#[derive(Clone, Copy, Drop, PartialEq, Eq)]
 pub enum ValueError {
     Memory,
     /// The bytes aren't UTF-8 or aren't JSON, or a number is too large for a float.

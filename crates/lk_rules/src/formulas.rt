@@ -20,9 +20,15 @@ use std::marker::Model;
 use substitution::{Subst, apply};
 
 /// A finite set of well-formed formulas, kept in rising order. Copies share the list.
-#[derive(Drop, Debug)]
 pub struct Formulas {
     items: Items,
+}
+
+impl Drop for Formulas {
+    fn drop(self) {
+        let Formulas { items } = self;
+        drop(items);
+    }
 }
 
 impl Model for Formulas {

@@ -8,14 +8,20 @@ use std::marker::Model;
 use std::sync::Arc;
 
 /// A list of formulas that cannot be changed and is shared by its copies.
-#[derive(Drop, Debug)]
 pub(crate) struct Items {
     alloc: Global,
     list: Option<Arc<Listing>>,
 }
 
+impl Drop for Items {
+    fn drop(self) {
+        let Items { alloc: _, list } = self;
+        drop(list);
+    }
+}
+
 // The formulas with the fingerprint of their list.
-#[derive(Drop, Debug)]
+#[derive(Drop)]
 pub(crate) struct Listing {
     fingerprint: u64,
     items: Vec<Formula>,

@@ -188,9 +188,21 @@ impl Rule {
 }
 
 /// A step of a proof that is written as a list: the rule, the numbers of the steps that are its premises, and its conclusion.
-#[derive(Drop)]
 pub struct Step {
     pub rule: Rule,
     pub premises: Numbers,
     pub end: Sequent,
+}
+
+impl Drop for Step {
+    fn drop(self) {
+        let Step {
+            rule,
+            premises,
+            end,
+        } = self;
+        drop(rule);
+        drop(premises);
+        drop(end);
+    }
 }

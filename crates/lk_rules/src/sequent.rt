@@ -17,17 +17,24 @@ use std::alloc::{AllocError, Global};
 use substitution::Subst;
 
 /// The sides of a sequent: the antecedent is on the left, the succedent on the right.
-#[derive(Clone, Copy, PartialEq, Eq, Debug)]
+#[derive(Clone, Copy, PartialEq, Eq)]
 pub enum Side {
     Left,
     Right,
 }
 
 /// A sequent: two finite sets of well-formed formulas. It says that where all formulas on the left are true, one on the right is.
-#[derive(Drop)]
 pub struct Sequent {
     pub left: Formulas,
     pub right: Formulas,
+}
+
+impl Drop for Sequent {
+    fn drop(self) {
+        let Sequent { left, right } = self;
+        drop(left);
+        drop(right);
+    }
 }
 
 impl Sequent {

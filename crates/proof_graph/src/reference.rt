@@ -17,10 +17,18 @@ use std::sync::{Arc, Wait};
 
 /// A reference to a node of a graph. It means a valid tree.
 #[cycle(reference)]
-#[derive(Drop)]
 pub struct ProofRef {
     token: Pushed<Stamp>,
     link: Arc<RefLink>,
+}
+
+impl Drop for ProofRef {
+    #[cycle(reference_drop)]
+    fn drop(self) {
+        let ProofRef { token, link } = self;
+        drop(token);
+        drop(link);
+    }
 }
 
 #[cycle(reference)]

@@ -81,7 +81,9 @@ fn assert_refusals<R: Abort + Wait>(
     assert!(rt; matches!(refused, Err(SearchFault::Falsified(_))));
     let refused = search(rt, alloc, graph, pass, &right, 4);
     assert!(rt; matches!(refused, Err(SearchFault::Budget)));
-    let proof = search(rt, alloc, graph, pass, &right, 5)?;
+    let Ok(proof) = search(rt, alloc, graph, pass, &right, 5) else {
+        return Err(Fail::from("no proof"));
+    };
     assert_eq!(rt; proof.number(), 4);
     let steps = "ax p p/pq;orR {q|p} p/{q|p} 0;ax q q/pq;orR {q|p} q/{q|p} 2;orL | |/{q|p} 1,3";
     assert_proof(rt, alloc, graph, pass, &proof, steps)

@@ -10,7 +10,7 @@ use lk_rules::{Rule, Side};
 use std::alloc::AllocError;
 
 /// A rule without premises.
-#[derive(Clone, Copy, Debug)]
+#[derive(Clone, Copy)]
 pub(crate) enum Closing {
     /// The axiom on the formula with the number.
     Axiom(u32),
@@ -21,7 +21,7 @@ pub(crate) enum Closing {
 }
 
 /// The rule that a search takes at a sequent.
-#[derive(Clone, Copy, Debug)]
+#[derive(Clone, Copy)]
 pub(crate) enum Choice {
     /// A rule without premises.
     Close(Closing),

@@ -6,7 +6,7 @@ use fol::Formula;
 use lk_rules::{Rule, Side};
 
 /// The connective at the head of a formula, with the numbers of the parts.
-#[derive(Clone, Copy, Debug)]
+#[derive(Clone, Copy)]
 pub(crate) enum Connective {
     Not(u32),
     And(u32, u32),
@@ -15,14 +15,14 @@ pub(crate) enum Connective {
 }
 
 /// A formula on a side of a sequent, by its number.
-#[derive(Clone, Copy, Debug)]
+#[derive(Clone, Copy)]
 pub(crate) struct Signed {
     pub side: Side,
     pub number: u32,
 }
 
 /// What stands in the premises of a rule in place of the main formula.
-#[derive(Clone, Copy, Debug)]
+#[derive(Clone, Copy)]
 pub(crate) enum Parts {
     /// One premise, with one part.
     One(Signed),

@@ -6,7 +6,7 @@ use lk_rules::Formulas;
 use std::alloc::AllocError;
 
 /// Why a search found no proof.
-#[derive(Drop, Debug)]
+#[derive(Drop)]
 pub enum SearchFault {
     /// The sequent is false where just these atoms are true.
     Falsified(Formulas),

@@ -17,10 +17,17 @@ use std::alloc::{AllocError, Global};
 use std::collections::HashMap;
 
 /// A sequent with its proof.
-#[derive(Drop)]
 pub(crate) struct MadeProof {
     sequent: Numbered,
     proof: ProofRef,
+}
+
+impl Drop for MadeProof {
+    fn drop(self) {
+        let MadeProof { sequent, proof } = self;
+        drop(sequent);
+        drop(proof);
+    }
 }
 
 /// The numbers of a side with its formulas.
@@ -31,10 +38,17 @@ pub(crate) struct MadeSide {
 }
 
 /// The proofs and the sides that were made, by their fingerprints. Of two with one fingerprint the later is kept.
-#[derive(Drop)]
 pub(crate) struct Made {
     proofs: HashMap<u64, MadeProof, ByNumber>,
     sides: HashMap<u64, MadeSide, ByNumber>,
+}
+
+impl Drop for Made {
+    fn drop(self) {
+        let Made { proofs, sides } = self;
+        drop(proofs);
+        drop(sides);
+    }
 }
 
 impl Made {

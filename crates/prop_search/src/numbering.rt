@@ -27,13 +27,27 @@ use std::marker::Model;
 const TOO_MANY: usize = 1 << 31;
 
 /// The parts of the formulas of a sequent, truth and falsity, in rising order. The number of a formula is its place there.
-#[derive(Drop)]
 pub(crate) struct Numbering {
     formulas: Vec<Formula>,
     roots: Vec<Option<Connective>>,
     compounds: Vec<u64>,
     top: u32,
     bot: u32,
+}
+
+impl Drop for Numbering {
+    fn drop(self) {
+        let Numbering {
+            formulas,
+            roots,
+            compounds,
+            top: _,
+            bot: _,
+        } = self;
+        drop(formulas);
+        drop(roots);
+        drop(compounds);
+    }
 }
 
 impl Model for Numbering {

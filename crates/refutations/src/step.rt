@@ -20,7 +20,7 @@ pub enum ResStep {
 }
 
 /// Why a step of a refutation is refused.
-#[derive(Clone, Copy, PartialEq, Eq, Debug)]
+#[derive(Clone, Copy, PartialEq, Eq)]
 pub enum ResCause {
     /// It names no clause, or no earlier step.
     Reference,

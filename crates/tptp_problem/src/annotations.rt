@@ -11,7 +11,7 @@ use std::collections::VecDeque;
 use tptp_tokens::{Pool, Scan, TextKind, scan};
 
 /// The two kinds of brackets.
-#[derive(Clone, Copy, PartialEq, Eq, Debug)]
+#[derive(Clone, Copy, PartialEq, Eq)]
 pub enum Bracket {
     Round,
     Square,

@@ -6,7 +6,7 @@ use std::alloc::AllocError;
 use tptp_tokens::{ChainOperator, Token};
 
 /// Where an atom of a clause stands.
-#[derive(Clone, Copy, PartialEq, Eq, Debug)]
+#[derive(Clone, Copy, PartialEq, Eq)]
 pub enum AtomPlace {
     /// At the front of a literal.
     Positive,
@@ -17,7 +17,7 @@ pub enum AtomPlace {
 }
 
 /// Where a clause has been read to.
-#[derive(Clone, Copy, PartialEq, Eq, Debug)]
+#[derive(Clone, Copy, PartialEq, Eq)]
 pub enum ClausePlace {
     /// Before a clause: at the front, or behind a parenthesis around it.
     Clause,

@@ -6,7 +6,7 @@ use std::alloc::{AllocError, AllocFailed};
 use tptp_tokens::TextKind;
 
 /// What is wrong at the first faulty place of a text.
-#[derive(Clone, Copy, PartialEq, Eq, Debug)]
+#[derive(Clone, Copy, PartialEq, Eq)]
 pub enum ProblemKind {
     /// What can be wrong in any text of formulas.
     Text(TextKind),
@@ -23,7 +23,7 @@ pub enum ProblemKind {
 }
 
 /// Why a text isn't read.
-#[derive(Clone, Copy, PartialEq, Eq, Debug)]
+#[derive(Clone, Copy, PartialEq, Eq)]
 pub enum ProblemError {
     /// The first faulty place, a byte counted from 0 or the text's length, and what is wrong there.
     At { at: u64, kind: ProblemKind },
@@ -31,14 +31,14 @@ pub enum ProblemError {
 }
 
 /// A fault, by how many bytes of the text are left from its place on.
-#[derive(Clone, Copy, Debug)]
+#[derive(Clone, Copy)]
 pub struct Fault {
     pub left: usize,
     pub kind: ProblemKind,
 }
 
 /// Why a part of a text isn't read.
-#[derive(Clone, Copy, Debug)]
+#[derive(Clone, Copy)]
 pub enum ReadError {
     Memory,
     Fault(Fault),

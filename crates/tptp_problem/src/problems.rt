@@ -8,14 +8,14 @@ use std::marker::Model;
 use std::sync::Arc;
 
 /// How the formula of an entry is written: as any formula, or as a clause.
-#[derive(Clone, Copy, PartialEq, Eq, Debug)]
+#[derive(Clone, Copy, PartialEq, Eq)]
 pub enum Language {
     Fof,
     Cnf,
 }
 
 /// What an entry is in its problem.
-#[derive(Clone, Copy, PartialEq, Eq, Debug)]
+#[derive(Clone, Copy, PartialEq, Eq)]
 pub enum Role {
     Axiom,
     Hypothesis,
@@ -30,12 +30,24 @@ pub enum Role {
 }
 
 /// One entry of a problem. The formula is as it was read, so its variables are free.
-#[derive(Drop)]
 pub struct Entry {
     pub name: Text,
     pub language: Language,
     pub role: Role,
     pub formula: Formula,
+}
+
+impl Drop for Entry {
+    fn drop(self) {
+        let Entry {
+            name,
+            language: _,
+            role: _,
+            formula,
+        } = self;
+        drop(name);
+        drop(formula);
+    }
 }
 
 /// A list of entries that cannot be changed and is shared by its copies.
@@ -84,10 +96,17 @@ impl Entries {
 
 /// A problem: its entries in order, and its sequent. The sequent has the universal closures of the entries that are no conjecture on the
 /// left, and on the right, where there is a conjecture, the conjunction of the closures of all of them.
-#[derive(Drop)]
 pub struct Problem {
     pub entries: Entries,
     pub sequent: Sequent,
+}
+
+impl Drop for Problem {
+    fn drop(self) {
+        let Problem { entries, sequent } = self;
+        drop(entries);
+        drop(sequent);
+    }
 }
 
 impl Problem {

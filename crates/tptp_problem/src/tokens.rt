@@ -11,7 +11,7 @@ use std::alloc::{AllocError, Global};
 use tptp_tokens::{Pool, Scan, TextKind, Token, scan};
 
 /// A token that is wanted at some place of each entry.
-#[derive(Clone, Copy, PartialEq, Eq, Debug)]
+#[derive(Clone, Copy, PartialEq, Eq)]
 pub enum Mark {
     Open,
     Comma,

@@ -2,21 +2,21 @@
 use fol::{Text, Var};
 
 /// A quantifier: `!` or `?`.
-#[derive(Clone, Copy, PartialEq, Eq, Debug)]
+#[derive(Clone, Copy, PartialEq, Eq)]
 pub enum Quantifier {
     All,
     Ex,
 }
 
 /// A connective that joins two or more members: `&` or `|`.
-#[derive(Clone, Copy, PartialEq, Eq, Debug)]
+#[derive(Clone, Copy, PartialEq, Eq)]
 pub enum ChainOperator {
     And,
     Or,
 }
 
 /// A connective that joins exactly two parts: `=>`, `<=`, `<=>`, `<~>`, `~|` and `~&`, in this order.
-#[derive(Clone, Copy, PartialEq, Eq, Debug)]
+#[derive(Clone, Copy, PartialEq, Eq)]
 pub enum BinaryOperator {
     Implies,
     ImpliedBy,
