@@ -2,10 +2,8 @@
 use Rattle.std.proofs.Common.{◌≡◌, ℕ, ◌+◌, ◌-◌, ◌<◌, Bool, true, false, List, [], ◌∷◌, ◌++◌, map, drop, length, get_or, if◌then◌else◌, sym, ap, subst, ◌∙◌, arith}
 use Rattle.std.specs.Prelude.{Some, None, slice_get, Result, Ok, Err}
 use Rattle.std.specs.List.{All}
-use Rattle.std.specs.Option.{option_map}
 use Rattle.std.proofs.lemmas.List.{length-map, map-append}
 use Rattle.std.proofs.lemmas.List.Elements.{All-weaker, All-push}
-use Rattle.std.proofs.lemmas.Option.{slice_get-map}
 use Rattle.lk_rules.specs.Sequents.{empty, same_sequents}
 use Rattle.proof_trees.specs.Trees.{Tree}
 use Rattle.arena_cells.specs.Items.{Item}
@@ -21,8 +19,6 @@ use Rattle.refutations.specs.Refutations.{Derived, derives, derives_all, conclud
 use Rattle.refutations.proofs.StepFaults.{as_many}
 use Rattle.resolution_import.specs.declared.faults.ImportFault.{ImportFault}
 use Rattle.resolution_import.specs.declared.faults.ImportFault.TheVariants as import_fault
-use Rattle.resolution_import.specs.declared.proving.Numbered.{Numbered}
-use Rattle.resolution_import.specs.Standing.{derived_at}
 use Rattle.resolution_import.specs.Importing.{FindsClause, AreClausesAt, FindsClauses, IsRefuted, Refutes}
 use Rattle.resolution_import.proofs.ClauseLaws.{IsEarlier, earlier, no_earlier}
 use Rattle.resolution_import.proofs.StepLaws.{one_more}
@@ -135,14 +131,3 @@ module _ (cs : List Clause) (steps : List ResStep) where
 
     pub refuted_stays : (b : List Item) → Extends a b → IsRefuted b cs steps ns
     refuted_stays b grown = record { derived = h.derived; each = h.each; clauses = clauses_stay a b grown ns h.derived h.clauses; last = h.last; at = h.at; whole = h.whole }
-
-    -- the tree of the last proof, where the proofs of all steps stand in an arena
-    pub last_proved : (b : List Item) (es seen : List Numbered) (e : Numbered) → derives_all cs (closures cs) [] 0 steps ≡ Ok (map (derived_at b) es) → seen ≡ es → Some e ≡ slice_get seen (length seen - 1)
-        → refutation cs steps ≡ Ok (derived_at b e).tree
-    last_proved b es seen e is same at =
-        let one : h.derived ≡ map (derived_at b) es = cc (h.each, is) in
-        let many : length steps - 1 ≡ length es - 1 = omega (arith, as_many cs (closures cs) [] 0 steps h.derived h.each, ap length one, length-map es (derived_at b)) in
-        let there : Some h.last ≡ Some (derived_at b e) =
-        sym h.at ∙ (λ i. slice_get (one i) (many i)) ∙ slice_get-map (derived_at b) es (length es - 1) ∙ ap (option_map (derived_at b)) (ap (λ xs. slice_get xs (length xs - 1)) (sym same) ∙ sym at) in
-        let last : h.last ≡ derived_at b e = cc in
-        h.whole ∙ ap (λ (d : Derived). Ok d.tree) last

@@ -1,2 +1,5 @@
 pub mod Standing
 pub mod Importing
+pub mod Planning
+pub mod Terms
+pub mod Rigid

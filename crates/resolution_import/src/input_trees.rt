@@ -1,10 +1,14 @@
 //! The proofs of input clauses, by numbers.
-ghost use Rattle.std.specs.Prelude.{◌≡◌, IfOk};
-ghost use Rattle.fol.specs.Syntax.{not};
+ghost use Rattle.std.specs.Prelude.{◌≡◌, map as each, IfOk};
+ghost use Rattle.std.specs.FinMap as fin;
+ghost use Rattle.fol.specs.declared.symbols.Var.{Var as Variable};
+ghost use Rattle.fol.specs.Syntax.{free, not};
+ghost use Rattle.substitution.specs.Image.{image_term};
 ghost use Rattle.lk_rules.specs.declared.sequent.Side.TheVariants.{Left};
 ghost use Rattle.lk_rules.specs.Sequents.{adds_to};
-ghost use Rattle.arena_cells.specs.Standing.{Extends, HasFormula, HasTree, sequent_at, formula_at, IsSequentAt, IsFormulaAt};
-ghost use Rattle.refutations.specs.Refutations.{body_of as body_formula, over_literals as literals_tree, over_instances as instances_tree};
+ghost use Rattle.arena_cells.specs.Standing.{Extends, HasFormula, HasTree, sequent_at, formula_at, map_at, IsSequentAt, IsFormulaAt, IsMapAt};
+ghost use Rattle.refutations.specs.Refutations.{body_of as body_formula, over_literals as literals_tree};
+ghost use Rattle.resolution_import.specs.Terms.{over_terms};
 
 use arena::{Arena, Key, Parts, RuleKey};
 use arena_proofs::inference;
@@ -78,27 +82,30 @@ fn body_of(arena: &Arena, formula: u32) -> u32
     }
 }
 
-/// The proof of a sequent that has a universal closure on the left, and the literals of its matrix on their sides: each variable for
-/// itself, the outermost first.
-pub(crate) fn over_instances(
+/// The proof of a sequent that has a universal closure on the left, and the literals of an instance of its matrix on their sides: for each
+/// variable the term that the map has for it, the outermost first.
+pub(crate) fn over_images(
     arena: &mut Arena,
     alloc: Global,
     end: u32,
     vars: &[Var],
     formula: u32,
+    map: u32,
 ) -> Result<u32, AllocError>
     requires end { IsSequentAt arena.old end }
     requires formula { IsFormulaAt arena.old formula }
-    ensures tree { IfOk result (λ n. HasTree arena.new n (instances_tree (sequent_at arena.old end) vars.now (formula_at arena.old formula))) }
+    requires map { IsMapAt arena.old map }
+    ensures tree { IfOk result (λ n. HasTree arena.new n (over_terms (sequent_at arena.old end) (each (λ (x : Variable). image_term (fin.get (map_at arena.old map)) (free x)) vars.now) (formula_at arena.old formula))) }
     ensures grown { Extends arena.old arena.new }
 {
     let Some((var, rest)) = vars.split_first() else {
         return over_literals(arena, alloc, end, formula);
     };
     let var = arena.import_variable(alloc, var)?;
-    let next = arena.instance(alloc, body_of(arena, formula), var)?;
+    let term = arena.image_of_term(alloc, map, var)?;
+    let next = arena.instance(alloc, body_of(arena, formula), term)?;
     let above = arena.sequent_with(alloc, end, Side::Left, next)?;
-    let premise = over_instances(arena, alloc, above, rest, next)?;
-    let rule = RuleKey::AllL(formula, var);
+    let premise = over_images(arena, alloc, above, rest, next, map)?;
+    let rule = RuleKey::AllL(formula, term);
     inference(arena, alloc, rule, end, Parts::One(premise))
 }

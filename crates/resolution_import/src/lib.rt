@@ -6,6 +6,7 @@ mod closing;
 mod faults;
 mod importing;
 mod input_trees;
+mod planning;
 mod proving;
 
 pub use faults::ImportFault;

@@ -1,11 +1,14 @@
--- The last proof is that of the refutation.
-use Rattle.resolution_import.proofs.Refuted.{refuted_stays, last_proved}
+-- What was known of the clauses stays.
+use Rattle.resolution_import.proofs.Closings.{closed_stays}
+use Rattle.resolution_import.proofs.Refuted.{refuted_stays}
 use Rattle.resolution_import.proofs.proving.prove_last.Goals as goal
 
-pub prove_each-requires-clause-found : goal.prove_each-requires-clause-found
-prove_each-requires-clause-found c = refuted_stays c.args.clauses.now c.args.steps.now c.args.arena.now c.args.found.now c.requires.found c.close_clauses.new.arena c.close_clauses.ensures.grown
+pub plan-requires-clause-found : goal.plan-requires-clause-found
+plan-requires-clause-found c = refuted_stays c.args.clauses.now c.args.steps.now c.args.arena.now c.args.found.now c.requires.found c.close_clauses.new.arena c.close_clauses.ensures.grown
 
-pub returns-clause-tree : goal.returns-clause-tree
-returns-clause-tree c =
-    last_proved c.args.clauses.now c.args.steps.now c.args.arena.now c.args.found.now c.requires.found c.prove_each.new.arena c.in_ok-derived.derived.items c.deref.result.now c.in-Some.last.now c.in_ok-derived.ensures.value
-    c.deref.ensures.value c.in-Some.ensures.value
+pub prove_whole-requires-clause-closed : goal.prove_whole-requires-clause-closed
+prove_whole-requires-clause-closed c = closed_stays c.close_clauses.new.arena c.plan.new.arena c.args.clauses.now c.in_ok-closed.closed c.plan.ensures.grown c.in_ok-closed.ensures.closed
+
+pub prove_whole-requires-clause-found : goal.prove_whole-requires-clause-found
+prove_whole-requires-clause-found c =
+    refuted_stays c.args.clauses.now c.args.steps.now c.args.arena.now c.args.found.now c.requires.found c.plan.new.arena (λ n x h. c.plan.ensures.grown n x (c.close_clauses.ensures.grown n x h))

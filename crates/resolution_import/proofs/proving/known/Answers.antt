@@ -1,0 +1,12 @@
+-- What the table has is the proof.
+use Rattle.std.proofs.Common.{ℕ, sym, subst, ◌∙◌}
+use Rattle.std.specs.Prelude.{Option, IfSome}
+use Rattle.std.specs.BTreeMap as ordered
+use Rattle.std.proofs.lemmas.Option.{IfSome_then}
+use Rattle.resolution_import.specs.Planning.{IsMade, pair_cmp}
+use Rattle.resolution_import.proofs.proving.known.Goals as goal
+
+pub returns : goal.returns
+returns c =
+    subst (λ (o : Option ℕ). IfSome o (IsMade c.args.arena.now c.args.clauses.now c.args.steps.now c.args.place c.args.map)) (sym (c.copied.ensures ∙ c.get.ensures.value))
+    (IfSome_then (ordered.get pair_cmp c.args.made.now (c.args.place, c.args.map)) (c.requires c.args.place c.args.map) (λ n k. k.1))
