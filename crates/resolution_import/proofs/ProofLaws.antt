@@ -38,6 +38,7 @@ use Rattle.refutations.proofs.Closures.{image-closures}
 use Rattle.resolution_import.specs.declared.planning.Planned.{Planned}
 use Rattle.resolution_import.specs.Planning.{all_derived, AreDerived, HasNamed, IsPlanned, ArePlanned, IsMade, AreMade, pair_cmp}
 use Rattle.resolution_import.specs.Terms.{over_terms}
+use Rattle.resolution_import.proofs.ClauseLaws.{found}
 use Rattle.resolution_import.proofs.StepLaws.{reached, rigid_derived}
 use Rattle.resolution_import.proofs.RigidTrees.{composed-tree}
 use Rattle.resolution_import.proofs.InputImages.{input-image}
@@ -128,7 +129,7 @@ module _ (cs : List Clause) (clauses : All IsClauseOf cs) (steps : List ResStep)
 
 -- the step at a place, where it is read
 pub step_at : (steps : List ResStep) (place : ℕ) (x s : ResStep) → place < length steps → x ≡ get_or steps place x → x ≡ s → slice_get steps place ≡ Some s
-step_at steps place x s within here is = slice_get-get_or steps place x within ∙ ap Some (sym here ∙ is)
+step_at steps place x s within here is = found steps place x within here ∙ ap Some is
 
 -- the plan of the step at a place
 module _ (a : List Item) (cs : List Clause) (steps : List ResStep) (derived : AreDerived cs steps) (ps : List Planned) (planned : ArePlanned a cs steps ps) (many : length ps ≡ length steps) (k : ℕ) (within : k < length steps) where

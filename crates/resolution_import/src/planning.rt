@@ -24,7 +24,8 @@ use refutations::{Clause, ResStep};
 use std::alloc::{AllocError, Global};
 use substitution::Subst;
 
-/// A step by numbers: the clause that it derives, a set that has the free variables of its proof, and the map or the atom that it names.
+/// A step by numbers: the clause that it derives, a set that has the free variables of its proof, and the map or the atom that it names, 0
+/// where it is an input clause, which names neither.
 #[derive(Clone, Copy, Drop)]
 pub(crate) struct Planned {
     pub clause: u32,

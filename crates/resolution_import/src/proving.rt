@@ -3,6 +3,7 @@
 ghost use Rattle.std.specs.Prelude.{◌≡◌, ◌<◌, true, false, Ok, length, map as each, Some, slice_get, IfOk, IfSome};
 ghost use Rattle.std.specs.List.{All, list_any};
 ghost use Rattle.std.specs.Ordering.{eq_by_cmp};
+ghost use Rattle.std.specs.BTreeMap as ordered;
 ghost use Rattle.std.specs.FinMap as fin;
 ghost use Rattle.fol.specs.declared.symbols.Var.{Var as Variable};
 ghost use Rattle.fol.specs.Syntax.{free};
@@ -19,7 +20,7 @@ ghost use Rattle.refutations.specs.declared.step.ResStep.TheVariants.{Input};
 ghost use Rattle.refutations.specs.Refutations.{Derived, refutation, AreFormedSteps};
 ghost use Rattle.resolution_import.specs.Standing.{IsClosedAt};
 ghost use Rattle.resolution_import.specs.Importing.{IsRefuted};
-ghost use Rattle.resolution_import.specs.Planning.{all_derived, AreDerived, ArePlanned, IsMade, AreMade};
+ghost use Rattle.resolution_import.specs.Planning.{all_derived, AreDerived, ArePlanned, IsMade, AreMade, pair_cmp};
 ghost use Rattle.resolution_import.specs.Terms.{over_terms};
 
 use crate::closing::{Closed, close_clauses};
@@ -209,7 +210,8 @@ fn note_made(
     requires made { AreMade arena.now clauses.now steps.now made.old }
     requires map { IsMapAt arena.now map }
     requires tree { IsMade arena.now clauses.now steps.now place map tree }
-    ensures { AreMade arena.now clauses.now steps.now made.new }
+    ensures made { AreMade arena.now clauses.now steps.now made.new }
+    ensures entered { IfOk result (λ _. ordered.get pair_cmp made.new (place, map) ≡ Some tree) }
 {
     let (_arena, _clauses, _steps) = (arena, clauses, steps);
     made.insert((place, map), tree)?;
@@ -226,7 +228,8 @@ fn known(
     map: u32,
 ) -> Option<u32>
     requires { AreMade arena.now clauses.now steps.now made.now }
-    ensures { IfSome result (IsMade arena.now clauses.now steps.now place map) }
+    ensures entry { result ≡ ordered.get pair_cmp made.now (place, map) }
+    ensures made { IfSome result (IsMade arena.now clauses.now steps.now place map) }
 {
     let (_arena, _clauses, _steps) = (arena, clauses, steps);
     made.get(&(place, map)).copied()

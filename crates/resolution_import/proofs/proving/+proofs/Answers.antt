@@ -47,7 +47,7 @@ prove-returns-in-Some-clause-tree t c =
     let s = laws.step a cs steps c.requires.derived ps c.requires.planned c.requires.many k c.requires.place in
     let at = laws.stands a cs steps c.requires.derived ps c.requires.planned c.requires.many k c.requires.place in
     laws.proof_needed cs steps c.requires.derived k s at a b b p c.args.map c.in_ok-map.map c.in-Some.tree c.restrict.ensures.grown (λ n x h. h)
-    (laws.planned_as a cs steps c.requires.derived ps c.requires.planned c.requires.many k c.requires.place s at) c.requires.map c.in_ok-map.ensures.map c.in-Some.ensures
+    (laws.planned_as a cs steps c.requires.derived ps c.requires.planned c.requires.many k c.requires.place s at) c.requires.map c.in_ok-map.ensures.map c.in-Some.ensures.made
 
 pub prove-prove_new-requires : goal.prove-prove_new-requires
 prove-prove_new-requires t c =

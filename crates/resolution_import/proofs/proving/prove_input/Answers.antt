@@ -2,7 +2,6 @@
 use Rattle.std.proofs.Common.{◌≡◌, ℕ, ◌<◌, List, length, get_or, sym, ap, ◌∙◌, arith}
 use Rattle.std.specs.Prelude.{Some, slice_get}
 use Rattle.std.proofs.lemmas.List.{length-map}
-use Rattle.std.proofs.lemmas.Option.{slice_get-get_or}
 use Rattle.arena_cells.specs.Items.{Item}
 use Rattle.arena_cells.specs.Standing.{HasFormula, formula_at, sequent_at}
 use Rattle.arena_cells.proofs.Facts as facts
@@ -14,6 +13,7 @@ use Rattle.refutations.specs.Clauses.{closure_of}
 use Rattle.resolution_import.specs.declared.closing.Closed.{Closed}
 use Rattle.resolution_import.specs.Standing.{IsClosedAt}
 use Rattle.resolution_import.specs.Planning.{IsMade}
+use Rattle.resolution_import.proofs.ClauseLaws.{found}
 use Rattle.resolution_import.proofs.StepLaws.{reached, closure_found}
 use Rattle.resolution_import.proofs.ProofLaws.{input_made}
 use Rattle.resolution_import.proofs.proving.prove_input.Goals as goal
@@ -21,7 +21,7 @@ use Rattle.resolution_import.proofs.proving.prove_input.Goals as goal
 module _ (cs : List Clause) (i : ℕ) (within : i < length cs) (x : Clause) (is : x ≡ get_or cs i x) where
   -- the clause of the step
   here : slice_get cs i ≡ Some x
-  here = slice_get-get_or cs i x within ∙ ap Some (sym is)
+  here = found cs i x within is
 
   closure : (a : List Item) (c : Closed) → IsClosedAt a cs c → (n : ℕ) → n ≡ get_or c.closures.items i n → HasFormula a n (closure_of x)
   closure a c h n stands =
