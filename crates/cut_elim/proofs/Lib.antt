@@ -1,2 +1,3 @@
 pub mod BothPremises
+pub mod CutCounts
 pub mod Crossing

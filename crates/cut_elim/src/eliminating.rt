@@ -1,5 +1,5 @@
 //! The elimination of cuts.
-ghost use Rattle.std.specs.Prelude.{◌≡◌, ◌+◌, ◌*◌, ◌<◌, ◌≤◌, Some, None, IfOk};
+ghost use Rattle.std.specs.Prelude.{◌≡◌, ◌+◌, ◌*◌, ◌<◌, ◌≤◌, ℕ, Some, None, IfOk, IfErr};
 ghost use mathlib.Core.List.{IsPrefix};
 ghost use Rattle.proof_trees.specs.Trees.{none, more, concl, below, IsCutFree, IsValid};
 ghost use Rattle.proof_graph.specs.Graphs.{IsOf, history};
@@ -206,7 +206,27 @@ fn eliminate_number<R: Wait + Threads, L: Ledger>(
     }
 }
 
-// The elimination in a proof, by way of the arena of the pass, which is given up where it has become much.
+// The elimination in a proof without cuts: the proof itself.
+#[tactic(auto, using(crate::proofs::CutCounts::itself_reached))]
+fn itself(proof: &ProofRef) -> Result<Reduced, ElimFault>
+    requires { IsCutFree proof.now.tree }
+    ensures proof { IfOk result (λ made. made.proof ≡ proof.now) }
+    ensures none { IfOk result (λ made. made.reductions ≡ 0) }
+    ensures is { (budget : ℕ) → elimination proof.now.tree budget ≡ Some (proof.now.tree, 0) }
+    ensures memory { IfErr result (λ fault. fault ≡ ElimFault.Memory) }
+{
+    match proof.keep() {
+        Ok(proof) => Ok(Reduced {
+            proof,
+            reductions: 0,
+        }),
+        Err(_) => Err(ElimFault::Memory),
+    }
+}
+
+// The elimination in a proof, by way of the arena of the pass, which is given up where it has become much. A proof without cuts isn't taken
+// apart.
+#[tactic(auto, using(crate::proofs::CutCounts::none_counted))]
 fn compute<R: Wait + Threads, L: Ledger>(
     rt: &R,
     alloc: Global,
@@ -227,6 +247,9 @@ fn compute<R: Wait + Threads, L: Ledger>(
     ensures counted_ok { IfOk result (λ made. steps.new ≤ steps.old + made.reductions) }
     ensures counted { steps.new ≤ steps.old + 2 * budget }
 {
+    if proof.counts().cuts == 0 {
+        return itself(proof);
+    }
     laws::budgets();
     laws::results();
     proof.known();
@@ -272,7 +295,7 @@ fn answer(proof: &ProofRef, known: Reduced, budget: u64) -> Result<Reduced, Elim
 /// own. Each has the whole budget, so up to twice as many contractions may be counted where the budget doesn't suffice.
 ///
 /// What the elimination came to is noted in the table of the desk. Where the table has it no contraction is made, and the answer within
-/// each budget follows from what is noted.
+/// each budget follows from what is noted. A proof without cuts is its own elimination, and isn't taken apart.
 pub fn eliminate<R: Wait + Threads, L: Ledger>(
     rt: &R,
     alloc: Global,
