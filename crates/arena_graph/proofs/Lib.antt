@@ -7,3 +7,5 @@ pub mod Larger
 pub mod FormedImages
 pub mod Crossing
 pub mod Noted
+pub mod Sizes
+pub mod Above

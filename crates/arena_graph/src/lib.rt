@@ -14,6 +14,7 @@ mod proof_numbers;
 mod ranks;
 mod rough_order;
 mod runs;
+mod within;
 
 pub use exports::export_proof;
 pub use imports::{import_proof, see_formed};

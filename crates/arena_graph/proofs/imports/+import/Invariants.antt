@@ -4,8 +4,8 @@ use Rattle.proof_graph.specs.Shown.{nodes, nodes_all}
 use Rattle.proof_graph.specs.References.{trees_of}
 use Rattle.arena_graph.proofs.imports.+import.Given as goal
 
-abbrev pub decreases-import_proof : goal.decreases-import_proof
-decreases-import_proof l = 3 * nodes l.proof.now.tree + 1
+abbrev pub decreases-import_premise : goal.decreases-import_premise
+decreases-import_premise l = 3 * nodes l.premise.now.tree + 1
 
 abbrev pub decreases-import_new : goal.decreases-import_new
 decreases-import_new l = 3 * nodes l.proof.now.tree
