@@ -1,6 +1,8 @@
--- The closures of clauses in a larger arena, and that their sequent is well formed.
-use Rattle.std.proofs.Common.{◌≡◌, true, List, [], map, sym, ◌∙◌, arith}
+-- The closures of clauses: each stands at its number, they do so in a larger arena, and their sequent is well formed.
+use Rattle.std.proofs.Common.{◌≡◌, ℕ, ◌<◌, true, List, [], map, length, get_or, Some, option_map, sym, ap, subst, ◌∙◌, arith}
+use Rattle.std.specs.Prelude.{slice_get}
 use Rattle.std.specs.List.{All, list_all}
+use Rattle.std.proofs.lemmas.Option.{slice_get-get_or, slice_get-map}
 use Rattle.std.proofs.lemmas.List.Elements.{All-map}
 use Rattle.std.proofs.lemmas.List.Sums.{list_all-from_AllPass}
 use Rattle.fol.specs.Syntax.{Formula}
@@ -12,8 +14,8 @@ use Rattle.finite.specs.Finite as set
 use Rattle.finite.proofs.Finite.{has-listing}
 use Rattle.free_variables.proofs.RisingLists.{list_passes}
 use Rattle.lk_rules.proofs.Listings.{alike}
-use Rattle.arena_cells.specs.Items.{Item}
-use Rattle.arena_cells.specs.Standing.{Extends}
+use Rattle.arena_cells.specs.Items.{Item, formula}
+use Rattle.arena_cells.specs.Standing.{Extends, HasFormula, formula_at, IsFormulaAt}
 use Rattle.arena_cells.proofs.Staying.{formula_there, formulas_stay}
 use Rattle.arena.proofs.SetLaws.{has-list}
 use Rattle.proof_trees.specs.Conclusions.{IsFormedSequent}
@@ -39,3 +41,13 @@ closures_formed cs formed = record {
   left = formed_list (map closure_of cs) (All-map IsFormed closure_of cs formed);
   right = formed_list [] (λ k d l. absurd (omega arith));
 }
+
+-- the closure of an input clause stands at its number
+pub closure_found : (a : List Item) (cs : List Clause) (c : Closed) (i n : ℕ) (x : Clause) → IsClosedAt a cs c → i < length c.closures.items → n ≡ get_or c.closures.items i n → slice_get cs i ≡ Some x → HasFormula a n (closure_of x)
+closure_found a cs c i n x h within here at =
+    let there : IsFormulaAt a n = subst (λ (m : ℕ). IsFormulaAt a m) (sym here) (h.there i n within) in
+    let same : Some (formula_at a n) ≡ Some (closure_of x) =
+    sym (slice_get-map (formula_at a) c.closures.items i ∙ ap (option_map (formula_at a)) (slice_get-get_or c.closures.items i n within ∙ ap Some (sym here)))
+    ∙ ap (λ fs. slice_get fs i) h.each ∙ slice_get-map closure_of cs i ∙ ap (option_map closure_of) at in
+    let formulas : formula_at a n ≡ closure_of x = cc in
+    there ∙ ap (λ f. Some (formula f)) formulas

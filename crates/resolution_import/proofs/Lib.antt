@@ -2,11 +2,7 @@ pub mod KeyShapes
 pub mod Closings
 pub mod Resolvents
 pub mod ClauseLaws
-pub mod RigidTrees
-pub mod InputImages
-pub mod StepLaws
 pub mod Refuted
 pub mod PlanLaws
-pub mod Composed
 pub mod ProofLaws
 pub mod Tables

@@ -36,13 +36,14 @@ use Rattle.refutations.specs.Refutations.{Derived, resolvent}
 use Rattle.refutations.proofs.Derivations.{found_in}
 use Rattle.resolution_import.specs.declared.planning.Planned.{Planned}
 use Rattle.resolution_import.specs.Importing.{IsRefuted}
-use Rattle.resolution_import.specs.Planning.{derived_in, all_derived, AreDerived, HasNamed, IsPlanned, ArePlanned}
-use Rattle.resolution_import.specs.Rigid.{IsRigid}
+use Rattle.image_laws.specs.Steps.{derived_in, all_derived, AreDerived}
+use Rattle.resolution_import.specs.Planning.{HasNamed, IsPlanned, ArePlanned}
+use Rattle.image_laws.specs.Rigid.{IsRigid}
 use Rattle.resolution_import.proofs.ClauseLaws.{found, earlier}
-use Rattle.resolution_import.proofs.StepLaws.{FromInput, FromImage, FromBoth, IsFrom, IsReached, reached}
+use Rattle.image_laws.proofs.StepLaws.{FromInput, FromImage, FromBoth, IsFrom, IsReached, reached}
 use Rattle.resolution_import.proofs.Refuted.{refuted_many}
-use Rattle.resolution_import.proofs.RigidTrees.{free_in-sub}
-use Rattle.resolution_import.proofs.InputImages.{from_node, nothing, free-union_sequent, shut_closures, input-free}
+use Rattle.image_laws.proofs.RigidTrees.{free_in-sub}
+use Rattle.image_laws.proofs.InputImages.{from_node, nothing, free-union_sequent, shut_closures, input-free}
 
 -- two facts of one answer
 pub if_both : {X E : Type 0} (r : Result X E) (P Q : X → Type 0) → IfOk r P → IfOk r Q → IfOk r (λ x. P x × Q x)

@@ -36,12 +36,13 @@ use Rattle.refutations.specs.Refutations.{Derived, of_input, resolvent, AreForme
 use Rattle.refutations.proofs.FormulaSets.{image-union_sequent}
 use Rattle.refutations.proofs.Closures.{image-closures}
 use Rattle.resolution_import.specs.declared.planning.Planned.{Planned}
-use Rattle.resolution_import.specs.Planning.{all_derived, AreDerived, HasNamed, IsPlanned, ArePlanned, IsMade, AreMade, pair_cmp}
-use Rattle.resolution_import.specs.Terms.{over_terms}
+use Rattle.image_laws.specs.Steps.{all_derived, AreDerived}
+use Rattle.resolution_import.specs.Planning.{HasNamed, IsPlanned, ArePlanned, IsMade, AreMade, pair_cmp}
+use Rattle.image_laws.specs.Terms.{over_terms}
 use Rattle.resolution_import.proofs.ClauseLaws.{found}
-use Rattle.resolution_import.proofs.StepLaws.{reached, rigid_derived}
-use Rattle.resolution_import.proofs.RigidTrees.{composed-tree}
-use Rattle.resolution_import.proofs.InputImages.{input-image}
+use Rattle.image_laws.proofs.StepLaws.{reached, rigid_derived}
+use Rattle.image_laws.proofs.RigidTrees.{composed-tree}
+use Rattle.image_laws.proofs.InputImages.{input-image}
 
 module _ (a b : List Item) (grown : Extends a b) where
   module _ (cs : List Clause) (steps : List ResStep) where

@@ -21,7 +21,7 @@ use Rattle.resolution_import.specs.declared.faults.ImportFault.{ImportFault}
 use Rattle.resolution_import.specs.declared.faults.ImportFault.TheVariants as import_fault
 use Rattle.resolution_import.specs.Importing.{FindsClause, AreClausesAt, FindsClauses, IsRefuted, Refutes}
 use Rattle.resolution_import.proofs.ClauseLaws.{IsEarlier, earlier, no_earlier}
-use Rattle.resolution_import.proofs.StepLaws.{one_more}
+use Rattle.image_laws.proofs.StepLaws.{one_more}
 
 module _ (a b : List Item) (grown : Extends a b) where
   each_there : (ns : List ℕ) → All (IsSequentAt a) ns → All (IsSequentAt b) ns

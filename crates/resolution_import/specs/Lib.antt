@@ -1,5 +1,3 @@
 pub mod Standing
 pub mod Importing
 pub mod Planning
-pub mod Terms
-pub mod Rigid

@@ -1,9 +1,7 @@
 -- The plan of a proof: what the steps of a refutation derive and name, by numbers.
---     all_derived      what the steps derive
---     AreDerived      no step is faulty
 --     IsPlanned, ArePlanned      a step, and all of them
 --     IsMade, AreMade      the trees of proofs under maps, so far as they were made
-use Rattle.std.specs.Prelude.{◌≡◌, ℕ, true, List, [], Some, slice_get, IfSome, Result, Ok, Err}
+use Rattle.std.specs.Prelude.{◌≡◌, ℕ, true, List, Some, slice_get, IfSome}
 use Rattle.std.specs.Ordering.{nat_cmp, ordering_then}
 use Rattle.std.specs.declared.cmp.Ordering.{Ordering}
 use Rattle.std.specs.BTreeMap as ordered
@@ -17,23 +15,9 @@ use Rattle.arena_cells.specs.Standing.{HasFormula, HasSequent, HasMap, HasTree, 
 use Rattle.refutations.specs.declared.clause.Clause.{Clause}
 use Rattle.refutations.specs.declared.step.ResStep.{ResStep}
 use Rattle.refutations.specs.declared.step.ResStep.TheVariants.{Input, Subst, Resolve}
-use Rattle.refutations.specs.declared.step.ResCause.{ResCause}
-use Rattle.refutations.specs.Clauses.{closures}
-use Rattle.refutations.specs.Refutations.{Derived, derives_all}
+use Rattle.refutations.specs.Refutations.{Derived}
+use Rattle.image_laws.specs.Steps.{all_derived}
 use Rattle.resolution_import.specs.declared.planning.Planned.{Planned}
-
-abbrev pub derived_in : Result (List Derived) (ℕ × ResCause) → List Derived
-derived_in (Ok ds) = ds
-derived_in (Err fault) = []
-
--- what the steps derive
-abbrev pub all_derived : List Clause → List ResStep → List Derived
-all_derived cs steps = derived_in (derives_all cs (closures cs) [] 0 steps)
-
--- no step is faulty
-pub record AreDerived (cs : List Clause) (steps : List ResStep) : Type 0 where
-  pub derived : List Derived
-  pub each : derives_all cs (closures cs) [] 0 steps ≡ Ok derived
 
 -- the map or the atom that a step names stands at the number
 abbrev pub HasNamed : List Item → ℕ → ResStep → Type 0

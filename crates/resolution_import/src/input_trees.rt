@@ -8,7 +8,7 @@ ghost use Rattle.lk_rules.specs.declared.sequent.Side.TheVariants.{Left};
 ghost use Rattle.lk_rules.specs.Sequents.{adds_to};
 ghost use Rattle.arena_cells.specs.Standing.{Extends, HasFormula, HasTree, sequent_at, formula_at, map_at, IsSequentAt, IsFormulaAt, IsMapAt};
 ghost use Rattle.refutations.specs.Refutations.{body_of as body_formula, over_literals as literals_tree};
-ghost use Rattle.resolution_import.specs.Terms.{over_terms};
+ghost use Rattle.image_laws.specs.Terms.{over_terms};
 
 use arena::{Arena, Key, Parts, RuleKey};
 use arena_proofs::inference;

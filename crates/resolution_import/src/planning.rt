@@ -16,7 +16,8 @@ ghost use Rattle.refutations.specs.declared.step.ResStep.{ResStep as Step};
 ghost use Rattle.refutations.specs.Clauses.{IsClauseOf};
 ghost use Rattle.refutations.specs.Refutations.{Derived, AreFormedSteps};
 ghost use Rattle.resolution_import.specs.Importing.{IsRefuted};
-ghost use Rattle.resolution_import.specs.Planning.{all_derived, AreDerived, IsPlanned, ArePlanned};
+ghost use Rattle.image_laws.specs.Steps.{all_derived, AreDerived};
+ghost use Rattle.resolution_import.specs.Planning.{IsPlanned, ArePlanned};
 
 use arena::Arena;
 use fol::Formula;

@@ -20,8 +20,9 @@ ghost use Rattle.refutations.specs.declared.step.ResStep.TheVariants.{Input};
 ghost use Rattle.refutations.specs.Refutations.{Derived, refutation, AreFormedSteps};
 ghost use Rattle.resolution_import.specs.Standing.{IsClosedAt};
 ghost use Rattle.resolution_import.specs.Importing.{IsRefuted};
-ghost use Rattle.resolution_import.specs.Planning.{all_derived, AreDerived, ArePlanned, IsMade, AreMade, pair_cmp};
-ghost use Rattle.resolution_import.specs.Terms.{over_terms};
+ghost use Rattle.image_laws.specs.Steps.{all_derived, AreDerived};
+ghost use Rattle.resolution_import.specs.Planning.{ArePlanned, IsMade, AreMade, pair_cmp};
+ghost use Rattle.image_laws.specs.Terms.{over_terms};
 
 use crate::closing::{Closed, close_clauses};
 use crate::input_trees::over_images;

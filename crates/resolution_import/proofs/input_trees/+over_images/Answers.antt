@@ -17,7 +17,7 @@ use Rattle.arena_cells.proofs.Reading.{if_ok}
 use Rattle.arena_cells.proofs.Facts as facts
 use Rattle.arena.proofs.Results.{map_stays, map_there}
 use Rattle.refutations.specs.Refutations.{body_of}
-use Rattle.resolution_import.specs.Terms.{over_terms}
+use Rattle.image_laws.specs.Terms.{over_terms}
 use Rattle.resolution_import.proofs.input_trees.+over_images.Goals as goal
 
 pub over_images-requires : goal.over_images-requires

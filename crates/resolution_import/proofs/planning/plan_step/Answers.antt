@@ -1,7 +1,7 @@
 -- What the step at the place derives tells which steps it is from, and that they are before it.
 use Rattle.std.proofs.Common.{arith}
 use Rattle.arena_cells.proofs.Reading.{if_ok}
-use Rattle.resolution_import.proofs.StepLaws.{rigid_derived}
+use Rattle.image_laws.proofs.StepLaws.{rigid_derived}
 use Rattle.resolution_import.proofs.PlanLaws.{input_planned, image_planned, resolvent_planned, reached_now, clause_there, planned_now, covered, if_both}
 use Rattle.resolution_import.proofs.planning.plan_step.Goals as goal
 

@@ -16,7 +16,7 @@ use Rattle.arena_cells.specs.Standing.{Extends, HasTerm, map_at, term_at, variab
 use Rattle.arena_cells.proofs.Staying.{is_term, is_map, variable_stays, variable_there}
 use Rattle.arena_cells.proofs.Reading.{if_ok}
 use Rattle.arena.proofs.Results.{map_stays}
-use Rattle.resolution_import.proofs.Composed.{formed_moved, IsComposed, composed_same, composed_others, composed_from, stays_composed, bound_composed}
+use Rattle.image_laws.proofs.Composed.{formed_moved, IsComposed, composed_same, composed_others, composed_from, stays_composed, bound_composed}
 use Rattle.resolution_import.proofs.proving.+composed.Goals as goal
 
 -- the first variable

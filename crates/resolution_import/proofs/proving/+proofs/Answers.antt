@@ -22,9 +22,10 @@ use Rattle.refutations.specs.declared.step.ResStep.TheVariants.{Input, Subst, Re
 use Rattle.refutations.specs.Refutations.{Derived, IsFormedStep}
 use Rattle.refutations.proofs.Derivations.{found_in}
 use Rattle.resolution_import.specs.declared.planning.Planned.{Planned}
-use Rattle.resolution_import.specs.Planning.{all_derived, AreDerived, ArePlanned, IsMade}
+use Rattle.image_laws.specs.Steps.{all_derived, AreDerived}
+use Rattle.resolution_import.specs.Planning.{ArePlanned, IsMade}
 use Rattle.resolution_import.proofs.Closings.{closed_stays}
-use Rattle.resolution_import.proofs.StepLaws.{reached}
+use Rattle.image_laws.proofs.StepLaws.{reached}
 use Rattle.resolution_import.proofs.PlanLaws.{planned_stays}
 use Rattle.resolution_import.proofs.ProofLaws as laws
 use Rattle.resolution_import.proofs.proving.+proofs.Goals as goal

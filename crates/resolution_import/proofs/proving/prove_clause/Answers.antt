@@ -11,7 +11,7 @@ use Rattle.arena_cells.specs.Standing.{Extends, HasTree, map_at, sequent_at, for
 use Rattle.arena_cells.proofs.Staying.{is_sequent, formula_stays}
 use Rattle.arena_cells.proofs.Reading.{if_ok}
 use Rattle.arena.proofs.Results.{map_stays}
-use Rattle.resolution_import.specs.Terms.{over_terms}
+use Rattle.image_laws.specs.Terms.{over_terms}
 use Rattle.resolution_import.proofs.proving.prove_clause.Goals as goal
 
 pub returns-clause-tree : goal.returns-clause-tree

@@ -14,7 +14,8 @@ use Rattle.resolution_import.specs.declared.closing.Closed.{Closed}
 use Rattle.resolution_import.specs.Standing.{IsClosedAt}
 use Rattle.resolution_import.specs.Planning.{IsMade}
 use Rattle.resolution_import.proofs.ClauseLaws.{found}
-use Rattle.resolution_import.proofs.StepLaws.{reached, closure_found}
+use Rattle.image_laws.proofs.StepLaws.{reached}
+use Rattle.resolution_import.proofs.Closings.{closure_found}
 use Rattle.resolution_import.proofs.ProofLaws.{input_made}
 use Rattle.resolution_import.proofs.proving.prove_input.Goals as goal
 

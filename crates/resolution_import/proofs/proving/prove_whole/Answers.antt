@@ -20,7 +20,8 @@ use Rattle.refutations.specs.Clauses.{IsClauseOf, closure_of}
 use Rattle.refutations.specs.Refutations.{refutation, AreFormedSteps}
 use Rattle.refutations.proofs.Refuting.{valid_refutation}
 use Rattle.resolution_import.specs.Importing.{IsRefuted}
-use Rattle.resolution_import.specs.Planning.{derived_in, IsMade}
+use Rattle.image_laws.specs.Steps.{derived_in}
+use Rattle.resolution_import.specs.Planning.{IsMade}
 use Rattle.resolution_import.proofs.Closings.{closed_stays}
 use Rattle.resolution_import.proofs.PlanLaws.{planned_stays}
 use Rattle.resolution_import.proofs.proving.prove_whole.Goals as goal

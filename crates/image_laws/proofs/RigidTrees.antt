@@ -29,7 +29,7 @@ use Rattle.proof_trees.proofs.Agreeing.{agree_sequent}
 use Rattle.proof_trees.proofs.Booleans.{or_first, or_second, either}
 use Rattle.proof_trees.proofs.Members.{from_some, some_passes, image_member}
 use Rattle.refutations.proofs.FormulaSets.{equal, same_sets}
-use Rattle.resolution_import.specs.Rigid.{IsRigidRule, IsRigid, AreRigid}
+use Rattle.image_laws.specs.Rigid.{IsRigidRule, IsRigid, AreRigid}
 
 abbrev Replacing : Type 0
 Replacing = Var → Option Term

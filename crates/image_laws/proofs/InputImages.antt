@@ -39,7 +39,7 @@ use Rattle.refutations.specs.Refutations.{over_literals, body_of, over_instances
 use Rattle.refutations.proofs.FormulaSets.{equal, same_sets, in_first, in_second, in_either, added, stays, image-union_sequent}
 use Rattle.refutations.proofs.Closures.{among_first, none_free, has-closures, image-closures}
 use Rattle.refutations.proofs.Derivations.{found_in}
-use Rattle.resolution_import.specs.Terms.{over_terms}
+use Rattle.image_laws.specs.Terms.{over_terms}
 
 -- with the variables themselves as terms it is the proof of the input clause
 pub over_terms-variables : (s : Sequent) (xs : List Var) (f : Formula) → over_terms s (map free xs) f ≡ over_instances s xs f

@@ -2,8 +2,9 @@
 use Rattle.std.proofs.Common.{◌≡◌, ℕ, zero, suc, ◌+◌, ◌<◌, Bool, true, false, ◌&&◌, if◌then◌else◌, List, [], ◌∷◌, ◌++◌, drop, length, get_or, drop-cons, add-one, append_assoc, append-nil, length-append, refl, sym, ap, subst, ◌∙◌, arith}
 use Rattle.std.specs.Prelude.{Option, Some, None, slice_get, Result, Ok, Err}
 use Rattle.std.specs.List.{All}
-use Rattle.std.specs.Option.{option_map}
-use Rattle.std.proofs.lemmas.Option.{slice_get-get_or, slice_get-map, slice_get_within}
+use Rattle.std.proofs.lemmas.Option.{slice_get-get_or, get_or_from_slice_get, slice_get_within}
+use Rattle.std.proofs.lemmas.List.{get_or_append_left}
+use Rattle.std.proofs.Math.Seq.{get_or-append_seam}
 use Rattle.std.proofs.lemmas.List.Elements.{All-head, All-tail, All-push}
 use Rattle.fol.specs.declared.symbols.Var.{Var}
 use Rattle.fol.specs.Syntax.{Formula, free, atom, top, bot, not, and, or, imp, all, ex}
@@ -13,9 +14,6 @@ use Rattle.substitution.specs.Instance.{inst}
 use Rattle.lk_rules.specs.declared.sequent.Sequent.{Sequent}
 use Rattle.lk_rules.specs.declared.sequent.Side.TheVariants.{Left}
 use Rattle.lk_rules.specs.Sequents.{adds_to, union_sequent}
-use Rattle.arena_cells.specs.Items.{Item, formula}
-use Rattle.arena_cells.specs.Standing.{HasFormula, formula_at, IsFormulaAt}
-use Rattle.arena_cells.proofs.Reading.{get_old, get_new}
 use Rattle.refutations.specs.declared.clause.Clause.{Clause}
 use Rattle.refutations.specs.declared.step.ResStep.{ResStep}
 use Rattle.refutations.specs.declared.step.ResStep.TheVariants.{Input, Subst, Resolve}
@@ -25,11 +23,18 @@ use Rattle.refutations.specs.Clauses.{literals_of, closure_of, closures}
 use Rattle.refutations.specs.DerivedSteps.{image_of, resolved}
 use Rattle.refutations.specs.Refutations.{Derived, of_input, referred, of_resolution, derives, and_on, derives_all, IsFormedStep, AreFormedSteps, over_literals, body_of, over_instances}
 use Rattle.refutations.proofs.Derivations.{found_in, of_step}
-use Rattle.resolution_import.specs.declared.closing.Closed.{Closed}
-use Rattle.resolution_import.specs.Standing.{IsClosedAt}
-use Rattle.resolution_import.specs.Planning.{derived_in, all_derived, AreDerived}
-use Rattle.resolution_import.specs.Rigid.{IsRigid}
-use Rattle.resolution_import.proofs.RigidTrees.{rigid-sub}
+use Rattle.image_laws.specs.Steps.{derived_in, all_derived, AreDerived}
+use Rattle.image_laws.specs.Rigid.{IsRigid}
+use Rattle.image_laws.proofs.RigidTrees.{rigid-sub}
+
+-- what stands in a list stands in a longer one
+still_at : {X : Type 0} (xs ys : List X) (n : ℕ) (x : X) → slice_get xs n ≡ Some x → slice_get (xs ++ ys) n ≡ Some x
+still_at xs ys n x h =
+    let within : n < length xs = slice_get_within xs n x h in
+    slice_get-get_or (xs ++ ys) n x (omega (arith, within, length-append xs ys)) ∙ ap Some (get_or_append_left xs ys x n within ∙ get_or_from_slice_get xs n x x h)
+
+last_at : {X : Type 0} (xs : List X) (x : X) → slice_get (xs ++ x ∷ []) (length xs) ≡ Some x
+last_at xs x = slice_get-get_or (xs ++ x ∷ []) (length xs) x (omega (arith, length-append xs (x ∷ []))) ∙ ap Some (get_or-append_seam xs x [] x)
 
 -- the step at a number is the first of those from there on
 here : {X : Type 0} (xs : List X) (i : ℕ) (x : X) → i < length xs → x ≡ get_or xs i x → drop i xs ≡ x ∷ drop (i + 1) xs
@@ -96,7 +101,7 @@ module _ (cs : List Clause) (g : Sequent) (ds later : List Derived) where
   from_image k m None d at is = cc
   from_image k m (Some e) d at is =
       let same : image_of m e ≡ d = cc in
-      record { from = e; before = slice_get_within ds k e at; at = get_old ds later k e at; is = sym same }
+      record { from = e; before = slice_get_within ds k e at; at = still_at ds later k e at; is = sym same }
 
   from_test : (p n : ℕ) (a : Formula) (e f d : Derived) → slice_get ds p ≡ Some e → slice_get ds n ≡ Some f → (b : Bool) → (if b then Ok (resolved g e f a) else Err AtomMissing) ≡ Ok d → FromBoth g (ds ++ later) (length ds) p n a d
   from_test p n a e f d first second true is =
@@ -106,8 +111,8 @@ module _ (cs : List Clause) (g : Sequent) (ds later : List Derived) where
         second = f;
         first_before = slice_get_within ds p e first;
         second_before = slice_get_within ds n f second;
-        first_at = get_old ds later p e first;
-        second_at = get_old ds later n f second;
+        first_at = still_at ds later p e first;
+        second_at = still_at ds later n f second;
         is = sym same;
       }
   from_test p n a e f d first second false is = cc
@@ -134,7 +139,7 @@ module _ (cs : List Clause) (g : Sequent) where
       subst (λ (es : List Derived). IsReached cs g es (length ds) step) (sym whole)
       (record {
         derived = d;
-        at = subst (λ (es : List Derived). slice_get es (length ds) ≡ Some d) (append_assoc ds (d ∷ []) later) (get_old (ds ++ d ∷ []) later (length ds) d (get_new ds d));
+        at = subst (λ (es : List Derived). slice_get es (length ds) ≡ Some d) (append_assoc ds (d ∷ []) later) (still_at (ds ++ d ∷ []) later (length ds) d (last_at ds d));
         from = from_step cs g ds (d ∷ later) step d is;
       })
 
@@ -213,14 +218,3 @@ module _ (cs : List Clause) (g : Sequent) where
 pub rigid_derived : (cs : List Clause) (steps : List ResStep) → AreFormedSteps steps → AreDerived cs steps → (k : ℕ) (d : Derived) → slice_get (all_derived cs steps) k ≡ Some d → IsRigid d.tree
 rigid_derived cs steps formed h k d at =
     found_in IsRigidDerived h.derived k d (rigid_steps cs (closures cs) [] (λ j e l. absurd (omega arith)) 0 steps formed h.derived h.each) (sym (ap (λ es. slice_get es k) (all_derived_is cs steps h)) ∙ at)
-
--- the closure of an input clause stands at its number
-
-pub closure_found : (a : List Item) (cs : List Clause) (c : Closed) (i n : ℕ) (x : Clause) → IsClosedAt a cs c → i < length c.closures.items → n ≡ get_or c.closures.items i n → slice_get cs i ≡ Some x → HasFormula a n (closure_of x)
-closure_found a cs c i n x h within here at =
-    let there : IsFormulaAt a n = subst (λ (m : ℕ). IsFormulaAt a m) (sym here) (h.there i n within) in
-    let same : Some (formula_at a n) ≡ Some (closure_of x) =
-    sym (slice_get-map (formula_at a) c.closures.items i ∙ ap (option_map (formula_at a)) (slice_get-get_or c.closures.items i n within ∙ ap Some (sym here)))
-    ∙ ap (λ fs. slice_get fs i) h.each ∙ slice_get-map closure_of cs i ∙ ap (option_map closure_of) at in
-    let formulas : formula_at a n ≡ closure_of x = cc in
-    there ∙ ap (λ f. Some (formula f)) formulas

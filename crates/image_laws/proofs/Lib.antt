@@ -1,0 +1,4 @@
+pub mod RigidTrees
+pub mod InputImages
+pub mod Composed
+pub mod StepLaws

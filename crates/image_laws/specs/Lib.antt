@@ -1,0 +1,3 @@
+pub mod Rigid
+pub mod Terms
+pub mod Steps
