@@ -207,7 +207,7 @@ fn eliminate_number<R: Wait + Threads, L: Ledger>(
 }
 
 // The elimination in a proof without cuts: the proof itself.
-#[tactic(auto, using(crate::proofs::CutCounts::itself_reached))]
+#[tactic(auto, using(cut_laws::proofs::Unrolled::finished))]
 fn itself(proof: &ProofRef) -> Result<Reduced, ElimFault>
     requires { IsCutFree proof.now.tree }
     ensures proof { IfOk result (λ made. made.proof ≡ proof.now) }
@@ -243,6 +243,7 @@ fn compute<R: Wait + Threads, L: Ledger>(
     ensures budget { result ≡ Err ElimFault.Budget → elimination proof.now.tree budget ≡ None }
     ensures unchanged { result ≡ Err ElimFault.Budget → history (pass_in pass.new) ≡ history (pass_in pass.old) }
     ensures images_stay { images_in pass.new ≡ images_in pass.old }
+    ensures untouched { IsCutFree proof.now.tree → pass.new ≡ pass.old }
     ensures extends { ExtendsBench bench.now pass.old pass.new }
     ensures counted_ok { IfOk result (λ made. steps.new ≤ steps.old + made.reductions) }
     ensures counted { steps.new ≤ steps.old + 2 * budget }
@@ -315,6 +316,7 @@ pub fn eliminate<R: Wait + Threads, L: Ledger>(
     ensures end { IfOk result (λ made. concl made.proof.tree ≡ concl proof.now.tree) }
     ensures noted { IfOk result (λ _. HasElimination pass.new proof.now.number) }
     ensures unchanged { result ≡ Err ElimFault.Budget → history (pass_in (bench_pass_in pass.new)) ≡ history (pass_in (bench_pass_in pass.old)) }
+    ensures untouched { IsCutFree proof.now.tree → bench_pass_in pass.new ≡ bench_pass_in pass.old }
     ensures images_stay { images_in (bench_pass_in pass.new) ≡ images_in (bench_pass_in pass.old) }
     ensures eliminations_grown { IsPrefix (eliminations_in pass.old) (eliminations_in pass.new) }
     ensures extends { ExtendsDesk desk.now pass.old pass.new }

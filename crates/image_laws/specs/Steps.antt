@@ -8,6 +8,7 @@ use Rattle.refutations.specs.declared.step.ResCause.{ResCause}
 use Rattle.refutations.specs.Clauses.{closures}
 use Rattle.refutations.specs.Refutations.{Derived, derives_all}
 
+-- what was derived, or nothing where a step is faulty
 abbrev pub derived_in : Result (List Derived) (ℕ × ResCause) → List Derived
 derived_in (Ok ds) = ds
 derived_in (Err fault) = []
