@@ -25,7 +25,8 @@ use Rattle.arena_cells.proofs.Bindings.{value_in, get-bindings}
 use Rattle.arena_cells.proofs.OneKey.{one_variable, one_term}
 use Rattle.arena.specs.Pairs.{number_in, keys_with, values_with, keys_kept, values_kept}
 use Rattle.arena.specs.Bindings.{is_kept}
-use Rattle.arena.proofs.SetLaws.{itself, list_any-map, same_any, same_here, one_passes, passes, among}
+use Rattle.proof_trees.proofs.Passing.{itself, same_here, one_passes, passes}
+use Rattle.arena.proofs.SetLaws.{list_any-map, same_any, among}
 use Rattle.arena.proofs.PairLaws.{number_with, keys_with_rise, keys_with_all, values_with_all, with_lengths, keys_with_members, kept_by, number_kept, keys_kept_rise, keys_kept_all, values_kept_all, kept_lengths, all_kept, number_all, kept_among}
 
 no_value : (vs : List Var) (ts : List Term) (q : Var) → list_any (eq_by_cmp var_cmp q) vs ≡ false → value_in vs ts q ≡ None

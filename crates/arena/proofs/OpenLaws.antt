@@ -22,7 +22,8 @@ use Rattle.arena_cells.proofs.Staying.{are_variables}
 use Rattle.arena.specs.Lists.{is_closed_at, is_open_at}
 use Rattle.arena.specs.Tasks.{vars_any}
 use Rattle.arena.proofs.ClosedLaws.{not_true}
-use Rattle.arena.proofs.SetLaws.{has-list, itself, same_truth}
+use Rattle.arena.proofs.SetLaws.{has-list, same_truth}
+use Rattle.proof_trees.proofs.Passing.{itself}
 use Rattle.arena.proofs.VariableLaws.{formula_known}
 
 none_left : (xs ys : List Var) → xs ++ ys ≡ [] → xs ≡ []

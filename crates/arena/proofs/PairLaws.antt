@@ -18,7 +18,7 @@ use Rattle.std.specs.FinMap.Entries.{below_all}
 use Rattle.arena.specs.Pairs.{number_in, keys_with, values_with, keys_kept, values_kept}
 use Rattle.arena.specs.Lists.{HasSameMembers}
 use Rattle.arena.proofs.Members.{added_members}
-use Rattle.arena.proofs.SetLaws.{itself}
+use Rattle.proof_trees.proofs.Passing.{itself}
 
 -- two choices change places where they can't both be made
 cond_swap : {X : Type 0} (b c : Bool) (x y z : X) → (b ≡ true → c ≡ true → ⊥) → cond b x (cond c y z) ≡ cond c y (cond b x z)

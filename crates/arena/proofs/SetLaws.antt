@@ -2,8 +2,8 @@
 use Rattle.std.proofs.Common.{◌≡◌, ℕ, zero, suc, ◌<◌, Bool, true, false, ◌||◌, List, [], ◌∷◌, ◌++◌, map, length, get_or, refl, sym, ap, ◌∙◌, subst, arith}
 use Rattle.std.specs.declared.cmp.Ordering.{Ordering}
 use Rattle.std.specs.List.{All, list_any}
-use Rattle.std.specs.Ordering.{nat_cmp, eq_by_cmp, is_eq}
-use Rattle.std.specs.Cmp.{IsTotalOrder, tied_itself, Equal-is}
+use Rattle.std.specs.Ordering.{nat_cmp, eq_by_cmp}
+use Rattle.std.specs.Cmp.{IsTotalOrder}
 use Rattle.std.proofs.lemmas.Cmp.{nat_cmp_total}
 use Rattle.std.proofs.lemmas.List.Folds.{list_any-append}
 use Rattle.std.proofs.lemmas.List.Elements.{All-head, All-tail}
@@ -11,6 +11,7 @@ use Rattle.std.specs.FinMap as fin
 use Rattle.finite.specs.Finite as set
 use Rattle.finite.proofs.Finite.{has-adds, has-adds_each, has-empty, has-listing, same_members}
 use Rattle.free_variables.specs.Union.{union_of}
+use Rattle.proof_trees.proofs.Passing.{same_here, itself, passes, one_passes}
 use Rattle.arena.specs.Lists.{HasSameMembers}
 use Rattle.arena.proofs.Members.{has-union}
 
@@ -35,31 +36,8 @@ list_any-map p f [] = refl
 list_any-map p f (x ∷ xs) = ap (λ b. p (f x) || b) (list_any-map p f xs)
 
 module _ {K : Type 0} {R : K → K → Ordering} (o : IsTotalOrder R) (ties : fin.IsAntisymmetric R) where
-  pub same_here : (q x : K) → eq_by_cmp R q x ≡ true → q ≡ x
-  same_here q x e = ties q x ((Equal-is (R q x)).0 e)
-
-  pub itself : (q : K) → eq_by_cmp R q q ≡ true
-  itself q = ap is_eq (tied_itself o q)
-
-  -- an element that passes
-  pub passes : (p : K → Bool) (q : K) (xs : List K) → list_any (eq_by_cmp R q) xs ≡ true → p q ≡ true → list_any p xs ≡ true
-  passes p q [] among pass = cc
-  passes p q (x ∷ xs) among pass =
-      elim (eq_by_cmp R q x) as (λ b. eq_by_cmp R q x ≡ b → (b || list_any (eq_by_cmp R q) xs) ≡ true → (p x || list_any p xs) ≡ true) [
-        | true ↦ λ e _. ap (λ b. b || list_any p xs) (subst (λ (y : K). p y ≡ true) (same_here q x e) pass)
-        | false ↦ λ e rest. or_true (p x) _ (passes p q xs rest pass)
-      ] refl among
-
-  pub one_passes : (p : K → Bool) (xs : List K) → list_any p xs ≡ true → (q : K) × (list_any (eq_by_cmp R q) xs ≡ true) × (p q ≡ true)
-  one_passes p [] any = absurd (cc)
-  one_passes p (x ∷ xs) any =
-      elim (p x) as (λ b. p x ≡ b → (b || list_any p xs) ≡ true → (q : K) × (list_any (eq_by_cmp R q) (x ∷ xs) ≡ true) × (p q ≡ true)) [
-        | true ↦ λ e _. (x, ap (λ b. b || list_any (eq_by_cmp R x) xs) (itself x), e)
-        | false ↦ λ e rest. let later = one_passes p xs rest in (later.0, or_true (eq_by_cmp R later.0 x) _ later.1, later.2)
-      ] refl any
-
   carried : (p : K → Bool) (xs ys : List K) → ((q : K) → list_any (eq_by_cmp R q) xs ≡ list_any (eq_by_cmp R q) ys) → list_any p xs ≡ true → list_any p ys ≡ true
-  carried p xs ys same any = let one = one_passes p xs any in passes p one.0 ys (sym (same one.0) ∙ one.1) one.2
+  carried p xs ys same any = let one = one_passes o ties p xs any in passes o ties p one.0 ys (sym (same one.0) ∙ one.1) one.2
 
   -- lists with the same members pass the same tests
   pub same_any : (p : K → Bool) (xs ys : List K) → ((q : K) → list_any (eq_by_cmp R q) xs ≡ list_any (eq_by_cmp R q) ys) → list_any p xs ≡ list_any p ys

@@ -12,7 +12,8 @@ use Rattle.finite.proofs.Finite.{has-of_rising, members_of_subset, subset_of_mem
 use Rattle.free_variables.specs.Union.{union_of}
 use Rattle.arena.specs.Lists.{HasSameMembers}
 use Rattle.arena_cells.proofs.Sets.{has-set_of, found_by_number}
-use Rattle.arena.proofs.SetLaws.{same_truth, list_any-map, same_here, itself, passes, one_passes, set_append, set_cons, shown_alike, among}
+use Rattle.arena.proofs.SetLaws.{same_truth, list_any-map, set_append, set_cons, shown_alike, among}
+use Rattle.proof_trees.proofs.Passing.{same_here, itself, passes, one_passes}
 
 and_left : (a b : Bool) → (a && b) ≡ true → a ≡ true
 and_left true b h = refl

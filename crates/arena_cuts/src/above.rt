@@ -8,8 +8,8 @@ ghost use Rattle.arena_cuts.specs.CutNumbers.{IsCutAt, above_at};
 
 use crate::cut::{Cut, premise_on, with_premise};
 use arena::{Arena, Parts, RuleKey};
-use arena_premises::{Moved, moved_to, with_aux};
-use arena_proofs::inference;
+use arena_proofs::{inference, with_aux};
+use arena_subst::{Moved, moved_to};
 use lk_rules::Side;
 use std::alloc::{AllocError, Global};
 

@@ -9,8 +9,8 @@ ghost use Rattle.arena_cuts.specs.Reductions.{IsUpperAt, IsInstantiationAt, IsRe
 
 use crate::cut::{Cut, cut_on, put_cut};
 use arena::{Arena, Key, Parts, RuleKey};
-use arena_premises::replace;
 use arena_proofs::{premises, rule};
+use arena_subst::replace;
 use lk_rules::Side;
 use std::alloc::{AllocError, Global};
 

@@ -10,7 +10,8 @@ use Rattle.std.proofs.lemmas.List.Elements.{All-head, All-tail}
 use Rattle.finite.specs.Finite.{IsRising}
 use Rattle.finite.specs.Place.{place, place_by, later}
 use Rattle.finite.proofs.Rising.{head_below, tail_rises, below_none}
-use Rattle.arena.proofs.SetLaws.{one_passes, among}
+use Rattle.proof_trees.proofs.Passing.{one_passes}
+use Rattle.arena.proofs.SetLaws.{among}
 use Rattle.arena_graph.specs.Changes.{differ, is_odd, AreChanges}
 use Rattle.arena_graph.specs.Runs.{IsSameRun}
 use Rattle.arena_graph.proofs.SameRuns.{take_both}

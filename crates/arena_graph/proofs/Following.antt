@@ -17,7 +17,8 @@ use Rattle.lk_rules.specs.Formulas.{FormulaSet}
 use Rattle.arena_cells.specs.Items.{Item, formula}
 use Rattle.arena_cells.specs.Standing.{formula_at, IsFormulaAt, IsDistinct}
 use Rattle.arena_cells.specs.Meaning.{formulas_of, AreRisingFormulas}
-use Rattle.arena.proofs.SetLaws.{has-list, list_any-map, same_here}
+use Rattle.arena.proofs.SetLaws.{has-list, list_any-map}
+use Rattle.proof_trees.proofs.Passing.{same_here}
 use Rattle.arena_graph.specs.declared.ranks.RankedFormula.{RankedFormula}
 use Rattle.arena_graph.specs.Ranks.{formulas_in, formula_in}
 use Rattle.arena_graph.specs.Changes.{differ, is_odd, AreChanges}

@@ -3,7 +3,7 @@ use Rattle.std.proofs.Common.{◌≡◌, ◌+◌, refl, sym, subst, arith}
 use Rattle.lk_rules.specs.declared.sequent.Sequent.{Sequent}
 use Rattle.lk_rules.specs.declared.rule.Rule.{Rule}
 use Rattle.proof_trees.specs.Trees.{Tree, node, Trees, rule_of, concl, below, IsInference, IsValid}
-use Rattle.proof_graph.specs.Shown.{nodes, nodes_all}
+use Rattle.proof_trees.specs.TreeLists.{nodes, nodes_all}
 
 pub root_tree : (t : Tree) → node (rule_of t) (concl t) (below t) ≡ t
 root_tree (node r s ts) = refl

@@ -13,7 +13,7 @@ use Rattle.arena_cells.specs.Items.{Item}
 use Rattle.arena_cells.specs.Standing.{HasFormula, formula_at, IsFormulaAt}
 use Rattle.arena_cells.specs.Meaning.{formulas_of}
 use Rattle.arena_cells.proofs.Sets.{has-set_of}
-use Rattle.arena.proofs.SetLaws.{same_here}
+use Rattle.proof_trees.proofs.Passing.{same_here}
 
 module _ (a : List Item) (f : Formula) (absent : (n : ℕ) → ¬ HasFormula a n f) where
   among_none : (ns : List ℕ) → All (IsFormulaAt a) ns → list_any (eq_by_cmp formula_cmp f) (map (formula_at a) ns) ≡ false

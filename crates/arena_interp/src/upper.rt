@@ -8,7 +8,7 @@ ghost use Rattle.arena_interp.specs.Partitions.{IsPartitionAt, itp_at};
 
 use crate::partition::Partition;
 use arena::{Arena, RuleKey};
-use arena_premises::with_aux;
+use arena_proofs::with_aux;
 use lk_rules::Side;
 use std::alloc::{AllocError, Global};
 

@@ -1,1 +1,2 @@
 pub mod RuleParts
+pub mod AuxiliaryLaws

@@ -1,1 +1,2 @@
 pub mod RuleNumbers
+pub mod AuxiliaryNumbers

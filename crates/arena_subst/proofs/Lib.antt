@@ -3,3 +3,4 @@ pub mod Members
 pub mod Needed
 pub mod Images
 pub mod Renaming
+pub mod Renamed

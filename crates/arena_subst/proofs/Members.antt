@@ -22,7 +22,8 @@ use Rattle.proof_trees.specs.Occurrence.{passes}
 use Rattle.proof_trees.specs.FreeVariables.{is_eigen, is_free_in_names, is_free_in_tree, is_free_in_trees}
 use Rattle.arena.specs.TreeVariables.{vars_named_formula, vars_named_term, vars_named, without_eigen, vars_tree, vars_trees}
 use Rattle.arena.proofs.Members.{has-union}
-use Rattle.arena.proofs.SetLaws.{same_here, has-list}
+use Rattle.proof_trees.proofs.Passing.{same_here}
+use Rattle.arena.proofs.SetLaws.{has-list}
 
 formula_members : (o : Option Formula) (v : Var) → set.has (vars_named_formula o) v ≡ passes (is_free_in v) o
 formula_members None v = has-empty var_cmp v

@@ -15,7 +15,7 @@ use Rattle.lk_rules.specs.Sequents.{side_of, is_free_in_sequent}
 use Rattle.lk_rules.proofs.Subsequents.{and_right, and_both}
 use Rattle.proof_trees.proofs.Booleans.{or_first, or_second, either}
 use Rattle.proof_trees.proofs.Members.{from_some, some_passes}
-use Rattle.refutations.proofs.FormulaSets.{equal, tied}
+use Rattle.proof_trees.proofs.FormulaSets.{equal, tied}
 use Rattle.search_laws.proofs.Listed.{among}
 use Rattle.expansion_laws.specs.Expansions.{Exp, shallow}
 use Rattle.building_laws.specs.Lists.{Placed, with_tree, trees_on, conclusion}

@@ -12,7 +12,7 @@ use Rattle.lk_rules.specs.declared.sequent.Side.{Side}
 use Rattle.lk_rules.specs.declared.sequent.Side.TheVariants.{Left, Right}
 use Rattle.lk_rules.specs.Sequents.{side_of, is_free_in_sequent}
 use Rattle.lk_rules.proofs.Subsequents.{and_left, and_right, and_both}
-use Rattle.refutations.proofs.FormulaSets.{equal}
+use Rattle.proof_trees.proofs.FormulaSets.{equal}
 use Rattle.search_laws.proofs.Listed.{member_passes, members_pass}
 use Rattle.search_laws.proofs.Tests.{clash, fails}
 use Rattle.expansion_laws.specs.Expansions.{shallow}

@@ -16,7 +16,7 @@ use Rattle.substitution.proofs.InstanceFormed.{formed-inst}
 use Rattle.lk_rules.specs.declared.sequent.Side.{Side}
 use Rattle.lk_rules.proofs.Subsequents.{and_left, and_right, and_both}
 use Rattle.proof_trees.proofs.Booleans.{or_first, or_second, either}
-use Rattle.refutations.proofs.FormulaSets.{equal}
+use Rattle.proof_trees.proofs.FormulaSets.{equal}
 use Rattle.search_laws.specs.Truth.{Assignment}
 use Rattle.expansion_laws.specs.Expansions.{Exp, Insts, none, more, shallow}
 use Rattle.expansion_laws.specs.Building.{is_instance, is_less, is_below, is_built, are_built}

@@ -18,7 +18,7 @@ use Rattle.lk_rules.specs.Rules.{IsFormedRule, needs, has_shape, eigen_free, mai
 use Rattle.lk_rules.proofs.Subsequents.{and_right, and_both}
 use Rattle.proof_trees.specs.Trees.{is_cut}
 use Rattle.proof_trees.proofs.Booleans.{or_more}
-use Rattle.refutations.proofs.FormulaSets.{equal}
+use Rattle.proof_trees.proofs.FormulaSets.{equal}
 use Rattle.search_laws.proofs.Listed.{among, among_first, among_later}
 use Rattle.search_laws.proofs.Taken.{found_passes, found_among, none_found}
 use Rattle.expansion_laws.specs.Expansions.{Exp, wk, leaf, neg, conj, disj, impl, weak, strong, shallow}

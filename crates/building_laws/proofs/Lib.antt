@@ -19,3 +19,5 @@ pub mod ExpansionProofs
 pub mod Buildables
 pub mod Cases
 pub mod Examples
+pub mod WithinBudget
+pub mod FormedTrees

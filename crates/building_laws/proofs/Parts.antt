@@ -8,7 +8,7 @@ use Rattle.lk_rules.specs.declared.rule.Rule.{Rule}
 use Rattle.lk_rules.specs.Rules.{aux}
 use Rattle.lk_rules.proofs.Subsequents.{and_left, and_right, and_both}
 use Rattle.proof_trees.proofs.Booleans.{or_first, or_second, either}
-use Rattle.refutations.proofs.FormulaSets.{equal}
+use Rattle.proof_trees.proofs.FormulaSets.{equal}
 use Rattle.search_laws.specs.Truth.{Assignment}
 use Rattle.search_laws.proofs.Listed.{among, among_first, among_later}
 use Rattle.expansion_laws.specs.Expansions.{Exp, neg, conj, disj, impl, shallow, turn}

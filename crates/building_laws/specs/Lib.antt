@@ -1,3 +1,4 @@
 pub mod Lists
 pub mod Building
 pub mod Buildable
+pub mod Budgets

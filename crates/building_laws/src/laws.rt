@@ -1,14 +1,15 @@
 //! The laws of building. Each function does nothing: its contract is the law.
-ghost use Rattle.std.specs.Prelude.{◌≡◌, ℕ, suc, ◌+◌, ◌<◌, ◌≤◌, List, [], ◌∷◌, ◌++◌, Option, Some, None, option_map};
+ghost use Rattle.std.specs.Prelude.{◌≡◌, ℕ, suc, ◌+◌, ◌<◌, ◌≤◌, List, [], ◌∷◌, ◌++◌, Option, Some, None, true, Ok};
 ghost use Rattle.std.specs.List.{All};
 ghost use Rattle.lk_rules.specs.declared.sequent.Sequent.{Sequent as Conclusion};
 ghost use Rattle.lk_rules.specs.declared.rule.Rule.{Rule as Inference};
-ghost use Rattle.proof_trees.specs.Trees.{Tree as Proof, node, none, more, concl, IsValid, IsCutFree};
+ghost use Rattle.proof_trees.specs.Trees.{Tree as Proof, node, none, more, concl, IsValid, IsCutFree, size};
 ghost use Rattle.expansion_laws.specs.Dependency.{Expansion};
-ghost use Rattle.expansion_laws.specs.Proofs.{IsExpansionProof};
-ghost use Rattle.building_laws.specs.Lists.{Placed, sides, start, conclusion, leaf_sequent, strongs_in_list, weight_of};
+ghost use Rattle.expansion_laws.specs.Proofs.{IsExpansionProof, shallow_sequent};
+ghost use Rattle.building_laws.specs.Lists.{Placed, start, conclusion, leaf_sequent, strongs_in_list, weight_of};
 ghost use Rattle.building_laws.specs.Building.{Step, closing_rule, closing, parts, instance_at, within, first_step, step_at, by_step, build_within, build, visits};
 ghost use Rattle.building_laws.specs.Buildable.{IsFormedExpansion, IsBuildable};
+ghost use Rattle.building_laws.specs.Budgets.{building, has_formed_trees};
 
 /// A proof is built from each expansion proof. It is a valid proof of the sequent, without cuts.
 pub fn proofs()
@@ -48,3 +49,14 @@ pub fn steps()
     ensures no_step { (l : List Placed) → step_at l ≡ None → build l ≡ None }
     ensures any_bound { (n : ℕ) (l : List Placed) → weight_of l ≤ n → build l ≡ build_within n l }
 {}
+
+/// What is built of an expansion proof whose trees name what is well formed is a valid proof without cuts of the sequent of the trees'
+/// formulas, and has no more inferences than the budget allows.
+pub fn buildings()
+    ensures valid { (x : Expansion) (n : ℕ) (t : Proof) → IsExpansionProof x (shallow_sequent x) → has_formed_trees x ≡ true → building x n ≡ Ok t → IsValid t }
+    ensures cut_free { (x : Expansion) (n : ℕ) (t : Proof) → IsExpansionProof x (shallow_sequent x) → has_formed_trees x ≡ true → building x n ≡ Ok t → IsCutFree t }
+    ensures end { (x : Expansion) (n : ℕ) (t : Proof) → IsExpansionProof x (shallow_sequent x) → has_formed_trees x ≡ true → building x n ≡ Ok t → concl t ≡ shallow_sequent x }
+    ensures budget { (x : Expansion) (n : ℕ) (t : Proof) → building x n ≡ Ok t → size t ≤ n }
+{
+    proofs();
+}

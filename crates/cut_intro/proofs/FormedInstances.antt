@@ -9,9 +9,10 @@ use Rattle.lk_rules.proofs.Subsequents.{and_both}
 use Rattle.proof_trees.specs.Trees.{Tree, concl}
 use Rattle.extraction_laws.specs.Extraction.{extracted}
 use Rattle.herbrand_laws.specs.Herbrand.{Item, items_of}
-use Rattle.cut_intro.specs.Instancing.{instancing, AreInstancesFor}
-use Rattle.cut_intro.specs.Introducing.{has_formed_instances}
-use Rattle.cut_intro.proofs.Faultless.{instances}
+use Rattle.introduction_laws.specs.Instancing.{instancing}
+use Rattle.cut_intro.specs.Instancing.{AreInstancesFor}
+use Rattle.introduction_laws.specs.Introducing.{has_formed_instances}
+use Rattle.introduction_laws.proofs.Faultless.{instances}
 
 abbrev has_formed_tuples : Item → Bool
 has_formed_tuples i = list_all (are_formed_terms_at 0) i.tuples

@@ -13,10 +13,11 @@ use Rattle.expansion_laws.specs.Proofs.{IsExpansionProof}
 use Rattle.exp_tree.specs.declared.sequents.ExpSequent.{ExpSequent}
 use Rattle.exp_tree.specs.Reads.{expansion_of}
 use Rattle.exp_tree.specs.Sequents.{AreArranged}
-use Rattle.exp_tree.specs.Sizes.{is_formed_exp}
+use Rattle.expansion_laws.specs.Formed.{is_formed_exp}
 use Rattle.herbrand_laws.specs.Herbrand.{prefix, Item, item_of, items_of, tuples_on}
-use Rattle.cut_intro.specs.Instancing.{first_not_prenex, AreInstancesFor}
-use Rattle.cut_intro.proofs.InstancingOrder.{prenex_of}
+use Rattle.introduction_laws.specs.Instancing.{first_not_prenex}
+use Rattle.cut_intro.specs.Instancing.{AreInstancesFor}
+use Rattle.introduction_laws.proofs.Prenexes.{prenex_of}
 use Rattle.cut_intro.proofs.TreeItems.{tuples_formed}
 
 abbrev HasFormedTuples : Item → Type 0

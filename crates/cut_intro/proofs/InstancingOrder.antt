@@ -1,51 +1,31 @@
 -- The faults of Herbrand instances in their order.
-use Rattle.std.proofs.Common.{◌≡◌, ℕ, ◌≤◌, Bool, true, false, arith, List, Option, Some, None, Result, Ok, Err, refl, sym, ap, subst, ◌∙◌, if◌then◌else◌}
-use Rattle.std.specs.Prelude.{nat_lt, not as negated}
-use Rattle.std.specs.List.{All, find, list_any, position}
+use Rattle.std.proofs.Common.{◌≡◌, ℕ, ◌≤◌, Bool, true, false, arith, Option, Some, None, Ok, Err, refl, sym, ap, ◌∙◌, if◌then◌else◌}
+use Rattle.std.specs.Prelude.{nat_lt}
+use Rattle.std.specs.List.{position}
 use Rattle.std.proofs.lemmas.Bool.Decides.{nat_tests}
 use Rattle.std.proofs.lemmas.List.Elements.{All-weaker}
 use Rattle.fol.specs.Syntax.{Formula}
-use Rattle.finite.specs.Finite as set
-use Rattle.finite.proofs.Finite.{has-listing}
 use Rattle.lk_rules.specs.declared.sequent.Sequent.{Sequent}
 use Rattle.lk_rules.specs.declared.sequent.Side.{Side}
 use Rattle.lk_rules.specs.declared.sequent.Side.TheVariants.{Left, Right}
-use Rattle.lk_rules.specs.Formulas.{FormulaSet}
 use Rattle.proof_trees.specs.Trees.{Tree, concl, size}
-use Rattle.proof_trees.specs.Occurrence.{has_body_in_sequent}
-use Rattle.proof_trees.proofs.Members.{some_passes}
-use Rattle.proof_steps.specs.Places.{steps_of, is_cut_step}
-use Rattle.proof_steps.specs.Faults.{Placed, first_defined, or_fault}
-use Rattle.proof_steps.proofs.Found.{find_none, sides_none, plain_found}
-use Rattle.cut_laws.proofs.Sides.{clash}
+use Rattle.step_laws.specs.Places.{steps_of, is_cut_step}
+use Rattle.step_laws.specs.Faults.{Placed, first_defined, or_fault}
+use Rattle.step_laws.proofs.Found.{plain_found}
 use Rattle.expansion_laws.specs.Expansions.{shallow}
 use Rattle.expansion_laws.specs.Dependency.{Expansion}
 use Rattle.expansion_laws.specs.Proofs.{IsExpansionProof}
 use Rattle.extraction_laws.specs.Extraction.{extracted}
-use Rattle.exp_tree.specs.declared.sequents.ExpSequent.{ExpSequent}
-use Rattle.exp_tree.specs.Reads.{expansion_of}
-use Rattle.exp_extract.specs.declared.fault.ExtractFault.{ExtractFault}
-use Rattle.exp_extract.specs.declared.fault.ExtractFault.TheVariants as extract
-use Rattle.exp_extract.specs.Extracting.{extracting, Extracts}
-use Rattle.herbrand_laws.specs.Herbrand.{is_prenex, Item, items_of, IsPrenex}
+use Rattle.extraction_laws.specs.declared.fault.ExtractFault.TheVariants as extract
+use Rattle.extraction_laws.specs.Extracting.{extracting}
+use Rattle.herbrand_laws.specs.Herbrand.{is_prenex, items_of}
 use Rattle.herbrand_laws.proofs.Herbrand.{IsTreeFor, trees_left, trees_right, prenex_without_bodies}
-use Rattle.cut_intro.specs.declared.fault.HerbrandFault.{HerbrandFault}
-use Rattle.cut_intro.specs.declared.fault.HerbrandFault.TheVariants.{Cut, NotPrenex, Budget, Memory}
-use Rattle.cut_intro.specs.Instancing.{first_not_prenex, instancing, HasInstances, HasTrees, ArePrenex}
+use Rattle.introduction_laws.specs.declared.fault.HerbrandFault.TheVariants.{Cut, NotPrenex, Budget}
+use Rattle.introduction_laws.specs.Instancing.{first_not_prenex, instancing}
+use Rattle.cut_intro.specs.Instancing.{ArePrenex}
+use Rattle.introduction_laws.proofs.Prenexes.{prenex_of}
 
 -- where none is found, each formula is weak quantifiers over a matrix
-
-each_prenex : (side : Side) (fs : FormulaSet) → find (λ f. negated (is_prenex side f)) (set.listing fs) ≡ None → (f : Formula) → set.has fs f ≡ true → is_prenex side f ≡ true
-each_prenex side fs none f m =
-    let p = λ (g : Formula). negated (is_prenex side g) in
-    elim (is_prenex side f) as (λ b. is_prenex side f ≡ b → b ≡ true) [
-      | true ↦ λ e. refl
-      | false ↦ λ e. clash (list_any p (set.listing fs)) (some_passes p (set.listing fs) f (sym (has-listing fs f) ∙ m) (ap negated e)) (find_none p (set.listing fs) none)
-    ] refl
-
-pub prenex_of : (s : Sequent) → first_not_prenex s ≡ None → IsPrenex s
-prenex_of s none Left = each_prenex Left s.left (sides_none (find (λ f. negated (is_prenex Left f)) (set.listing s.left)) (find (λ f. negated (is_prenex Right f)) (set.listing s.right)) none).0
-prenex_of s none Right = each_prenex Right s.right (sides_none (find (λ f. negated (is_prenex Left f)) (set.listing s.left)) (find (λ f. negated (is_prenex Right f)) (set.listing s.right)) none).1
 
 -- so none has a defined symbol
 none_defined : (s : Sequent) → first_not_prenex s ≡ None → first_defined s ≡ None

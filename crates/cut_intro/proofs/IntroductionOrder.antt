@@ -10,17 +10,19 @@ use Rattle.herbrand_laws.specs.Herbrand.{Item}
 use Rattle.herbrand_laws.specs.Patterns.{TermSet}
 use Rattle.herbrand_laws.specs.Candidates.{cost, best}
 use Rattle.herbrand_laws.specs.Introduction.{left_search, right_search, introduced}
-use Rattle.delta_table.specs.Items.{counted}
-use Rattle.cut_intro.specs.declared.fault.HerbrandFault.{HerbrandFault}
-use Rattle.cut_intro.specs.declared.fault.HerbrandFault.TheVariants as herbrand
-use Rattle.cut_intro.specs.declared.fault.IntroFault.{IntroFault}
-use Rattle.cut_intro.specs.declared.fault.IntroFault.TheVariants as fault
+use Rattle.herbrand_laws.specs.Counted.{counted}
+use Rattle.introduction_laws.specs.declared.fault.HerbrandFault.{HerbrandFault}
+use Rattle.introduction_laws.specs.declared.fault.HerbrandFault.TheVariants as herbrand
+use Rattle.introduction_laws.specs.declared.fault.IntroFault.{IntroFault}
+use Rattle.introduction_laws.specs.declared.fault.IntroFault.TheVariants as fault
 use Rattle.cut_intro.specs.declared.introduction.Introduced.{Introduced}
 use Rattle.cut_intro.specs.declared.introduction.Introduced.TheVariants.{Shorter, Same}
-use Rattle.cut_intro.specs.Faults.{intro_fault}
-use Rattle.cut_intro.specs.Instancing.{instancing, HasInstances}
+use Rattle.introduction_laws.specs.Faults.{intro_fault}
+use Rattle.introduction_laws.specs.Instancing.{instancing}
+use Rattle.cut_intro.specs.Instancing.{HasInstances}
 use Rattle.cut_intro.specs.Performing.{Performs, IsShortOfOne}
-use Rattle.cut_intro.specs.Introducing.{Answer, shorter, same, if_found, by_searches, with_candidate, by_candidate, by_items, from_instances, introducing, Introduces}
+use Rattle.introduction_laws.specs.Introducing.{Answer, shorter, same, if_found, by_searches, with_candidate, by_candidate, by_items, from_instances, introducing}
+use Rattle.cut_intro.specs.Introducing.{Introduces}
 
 not_above : (n m : ℕ) → m ≤ n → nat_lt n m ≡ false
 not_above n m h = grind (arith, nat_tests)

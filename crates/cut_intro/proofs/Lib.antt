@@ -13,6 +13,4 @@ pub mod Instanced
 pub mod Tautologies
 pub mod IntroductionOrder
 pub mod Choices
-pub mod Faultless
-pub mod Shorter
 pub mod FormedInstances

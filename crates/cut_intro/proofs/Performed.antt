@@ -6,8 +6,8 @@ use Rattle.proof_trees.specs.Trees.{Tree, node, none, more, concl, IsInference}
 use Rattle.search_laws.specs.Search.{Walk, proved, walk}
 use Rattle.search_laws.proofs.Found.{found}
 use Rattle.herbrand_laws.specs.Introduction.{from_walks}
-use Rattle.cut_intro.specs.declared.fault.IntroFault.{IntroFault}
-use Rattle.cut_intro.specs.declared.fault.IntroFault.TheVariants as fault
+use Rattle.introduction_laws.specs.declared.fault.IntroFault.{IntroFault}
+use Rattle.introduction_laws.specs.declared.fault.IntroFault.TheVariants as fault
 use Rattle.cut_intro.specs.declared.performing.Cutting.{Cutting}
 use Rattle.cut_intro.specs.Branches.{over_each, AreInferences}
 use Rattle.cut_intro.specs.Performing.{tree_with, performed, IsShort, IsShortOfOne, IsReady}

@@ -53,10 +53,10 @@ patterned width items w t js pss of is =
     ∙ (ap (instances_of_each items) (map-map (map (λ p. put p t)) (patterns width w) items)
     ∙ each_picked (λ i. map (λ p. put p t) (patterns width w i)) items))
 
--- those by the tuples that aren't covered
-uncovered_by : (width : ℕ) (w : TermSet) (items : List Item) → instances_by (λ i. i.tuples) (map (rest_item width w) items) ≡ instances_by (rest width w) items
-uncovered_by width w [] = refl
-uncovered_by width w (i ∷ items) = ap (λ js. map (by_tuple i) (rest width w i) ++ js) (uncovered_by width w items)
+-- those by the tuples of the rest
+rest_by : (width : ℕ) (w : TermSet) (items : List Item) → instances_by (λ i. i.tuples) (map (rest_item width w) items) ≡ instances_by (rest width w) items
+rest_by width w [] = refl
+rest_by width w (i ∷ items) = ap (λ js. map (by_tuple i) (rest width w i) ++ js) (rest_by width w items)
 
 -- what instances say
 claims : (js : List Instance) → map claim js ≡ map (λ j. assumed j.side (matrix_of j)) (map meant js)
@@ -120,7 +120,7 @@ module _ (s : Sequent) (items : List Item) (h : AreInstancesFor s items) (width 
     pub right_is : rules ≡ right_rules width s items w
     right_is =
         is_rules
-        ∙ (λ i. map (AllL (formula_is i)) (set.listing w) ++ rules_for ((is_others ∙ (ap (instances_by (λ j. j.tuples)) k.of_rest ∙ uncovered_by width w items)) i))
+        ∙ (λ i. map (AllL (formula_is i)) (set.listing w) ++ rules_for ((is_others ∙ (ap (instances_by (λ j. j.tuples)) k.of_rest ∙ rest_by width w items)) i))
 
     pub right_usable : AreUsable rules (adds_to s Left f)
     right_usable = subst (λ (P : Type 0). P) (λ i. AreUsable (sym right_is i) (adds_to s Left (sym formula_is i))) (usable_right s items h width w k.occurs)

@@ -21,7 +21,7 @@ use Rattle.herbrand_laws.specs.Introduction.{cut_formula, left_rules, right_rule
 use Rattle.herbrand_laws.proofs.PlainPart.{plain_within, plain_propositional}
 use Rattle.herbrand_laws.proofs.NewInferences.{root_inference, left_inference, right_inference}
 use Rattle.herbrand_laws.proofs.NewProof.{left_found, right_found, introduced_with_cut}
-use Rattle.cut_intro.specs.declared.fault.IntroFault.{IntroFault}
+use Rattle.introduction_laws.specs.declared.fault.IntroFault.{IntroFault}
 use Rattle.cut_intro.specs.declared.performing.Cutting.{Cutting}
 use Rattle.cut_intro.specs.Branches.{inferences, over_each, AreInferences, AreUsable}
 use Rattle.cut_intro.specs.Performing.{tree_with, performed, IsReady, Performs}

@@ -5,9 +5,10 @@ use Rattle.std.proofs.lemmas.Bool.Decides.{nat_tests}
 use Rattle.proof_trees.specs.Trees.{Tree}
 use Rattle.search_laws.specs.Truth.{Assignment}
 use Rattle.search_laws.specs.Search.{Walk, proved, falsified, visits}
-use Rattle.prop_search.specs.declared.fault.SearchFault.{SearchFault}
-use Rattle.prop_search.specs.declared.fault.SearchFault.TheVariants.{Falsified, Budget, Memory}
-use Rattle.prop_search.specs.Deciding.{verdict, found, IsProved}
+use Rattle.search_laws.specs.declared.fault.SearchFault.{SearchFault}
+use Rattle.search_laws.specs.declared.fault.SearchFault.TheVariants.{Falsified, Budget, Memory}
+use Rattle.search_laws.specs.Budgets.{verdict, found}
+use Rattle.prop_search.specs.Deciding.{IsProved}
 
 not_above : (n m : ℕ) → nat_lt n m ≡ false → m ≤ n
 not_above n m h = grind (arith, nat_tests)

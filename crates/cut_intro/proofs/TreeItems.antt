@@ -11,7 +11,7 @@ use Rattle.finite.specs.Finite as set
 use Rattle.lk_rules.specs.declared.sequent.Side.{Side}
 use Rattle.lk_rules.proofs.Subsequents.{and_left, and_right, and_both}
 use Rattle.expansion_laws.specs.Expansions.{Exp, wk, leaf, neg, conj, disj, impl, weak, strong, Insts, none, more, shallow}
-use Rattle.exp_tree.specs.Sizes.{is_formed_exp, are_formed_insts, IsProper}
+use Rattle.expansion_laws.specs.Formed.{is_formed_exp, are_formed_insts, IsProper}
 use Rattle.herbrand_laws.specs.Herbrand.{is_prenex, prefix, tuples, tuples_in, tuples_on, Item, item_of}
 use Rattle.herbrand_laws.proofs.Herbrand.{tuples_counted}
 use Rattle.herbrand_laws.proofs.RisingTuples.{tuples_rise}

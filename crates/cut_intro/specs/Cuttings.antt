@@ -1,5 +1,5 @@
 -- The parts of the proof with a cut by a candidate.
---     IsCandidateFor, HasCandidate      the values are a candidate, with its patterns and what it doesn't cover
+--     IsCandidateFor, HasCandidate      the values are a candidate, with its patterns and its rest
 --     IsCuttingFor      the parts are those for the candidate
 use Rattle.std.specs.Prelude.{◌≡◌, ℕ, List, map}
 use Rattle.std.specs.List.{Contains}
@@ -15,7 +15,7 @@ use Rattle.delta_table.specs.Chosen.{rest_item}
 use Rattle.cut_intro.specs.declared.performing.Cutting.{Cutting}
 use Rattle.cut_intro.specs.Branches.{inferences}
 
--- the values are those of rows, and the patterns and the other tuples of each item are those for them
+-- the values are those of rows, and the patterns and the rest of each item are those for them
 pub record IsCandidateFor (width : ℕ) (items : List Item) (c : Candidate) : Type 0 where
   pub occurs : Contains (occurring width items) c.values
   pub of_patterns : c.patterns ≡ map (patterns width c.values) items

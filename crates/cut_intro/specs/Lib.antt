@@ -1,4 +1,3 @@
-pub mod Faults
 pub mod Instancing
 pub mod Instances
 pub mod Branches

@@ -12,8 +12,8 @@ use Rattle.search_laws.specs.Search.{Walk, visits, walk}
 use Rattle.proof_graph.specs.References.{Reference}
 use Rattle.prop_search.specs.Deciding.{IsProved}
 use Rattle.herbrand_laws.specs.Introduction.{from_walks}
-use Rattle.cut_intro.specs.declared.fault.IntroFault.{IntroFault}
-use Rattle.cut_intro.specs.declared.fault.IntroFault.TheVariants as fault
+use Rattle.introduction_laws.specs.declared.fault.IntroFault.{IntroFault}
+use Rattle.introduction_laws.specs.declared.fault.IntroFault.TheVariants as fault
 use Rattle.cut_intro.specs.declared.performing.Cutting.{Cutting}
 use Rattle.cut_intro.specs.Branches.{over_each, AreInferences}
 

@@ -8,15 +8,16 @@ ghost use Rattle.proof_graph.specs.Graphs.{IsOf};
 ghost use Rattle.expansion_laws.specs.Proofs.{IsExpansionProof};
 ghost use Rattle.exp_tree.specs.Reads.{expansion_of};
 ghost use Rattle.exp_tree.specs.Sequents.{AreArranged};
-ghost use Rattle.cut_intro.specs.Instancing.{first_not_prenex as first_outside, instancing, HasInstances, NamesFormed, HasTrees, AreInstancesFor};
+ghost use Rattle.introduction_laws.specs.Instancing.{first_not_prenex as first_outside, instancing};
+ghost use Rattle.cut_intro.specs.Instancing.{HasInstances, NamesFormed, HasTrees, AreInstancesFor};
 
-use crate::fault::HerbrandFault;
 use crate::items::items_of;
 use crate::prenex::first_not_prenex;
 use delta_table::Instances;
 use exp_extract::{ExtractFault, extract};
 use exp_tree::{CheckedExp, ExpSequent};
 use fol::Formula;
+use introduction_laws::HerbrandFault;
 use lk_rules::{Sequent, Side};
 use proof_graph::{Graph, ProofRef};
 use proof_steps::first_cut;

@@ -1,6 +1,6 @@
 //! Introduction of one cut.
 ghost use Rattle.std.specs.Prelude.{◌≡◌, ◌≢◌, ◌<◌, ◌≤◌, ◌^◌, ℕ, IfOk, IfErr, true};
-ghost use Rattle.delta_table.specs.Items.{counted};
+ghost use Rattle.herbrand_laws.specs.Counted.{counted};
 ghost use Rattle.proof_trees.specs.Trees.{concl, IsValid, cuts as cuts_of, quants as quants_of, size as size_of};
 ghost use Rattle.proof_graph.specs.Graphs.{IsOf, IsPassOf, history, Extends};
 ghost use Rattle.search_laws.specs.Search.{walk};
@@ -8,14 +8,15 @@ ghost use Rattle.herbrand_laws.specs.Introduction.{left_search, right_search, in
 ghost use Rattle.cut_intro.specs.Cuttings.{HasCandidate, IsCandidateFor};
 ghost use Rattle.cut_intro.specs.Instancing.{AreInstancesFor};
 ghost use Rattle.cut_intro.specs.Performing.{Performs};
-ghost use Rattle.cut_intro.specs.Introducing.{has_formed_instances, introducing, Introduces, NamesFormedFormula, IfShorter, IfSame, answered, ChoosesBelow};
+ghost use Rattle.introduction_laws.specs.Introducing.{has_formed_instances, introducing};
+ghost use Rattle.cut_intro.specs.Introducing.{Introduces, NamesFormedFormula, IfShorter, IfSame, answered, ChoosesBelow};
 
-use crate::fault::IntroFault;
 use crate::instancing::herbrand;
 use crate::performing::perform;
 use crate::planning::plan;
 use delta_table::{Candidate, Instances, best, count};
 use herbrand_laws::laws;
+use introduction_laws::IntroFault;
 use proof_graph::{Graph, GraphPass, ProofRef};
 use proof_steps::quants;
 use std::alloc::{AllocError, Global};

@@ -1,16 +1,12 @@
-//! The laws of Herbrand instances of proofs and of the introduction of a cut. Each function does nothing: its contract is the law.
-ghost use Rattle.std.specs.Prelude.{◌≡◌, true, List, ◌≤◌, ◌<◌, ℕ, Ok};
+//! The laws of Herbrand sequents. The function does nothing: its contract is the law.
+ghost use Rattle.std.specs.Prelude.{◌≡◌, true, List};
 ghost use Rattle.fol.specs.Syntax.{Formula};
 ghost use Rattle.lk_rules.specs.declared.sequent.Sequent.{Sequent as Conclusion};
 ghost use Rattle.lk_rules.specs.declared.sequent.Side.{Side as Place};
 ghost use Rattle.lk_rules.specs.Sequents.{side_of};
 ghost use Rattle.search_laws.specs.Truth.{IsPropositional, IsTautology};
-ghost use Rattle.herbrand_laws.specs.Herbrand.{Item, herbrand_sequent, IsMatrixInstance, items_of, IsPrenex};
-ghost use Rattle.cut_intro.specs.Instancing.{AreInstancesFor, instancing};
-ghost use Rattle.proof_trees.specs.Trees.{Tree as Proof, concl, size, quants, IsValid, IsCutFree};
-ghost use Rattle.extraction_laws.specs.Extraction.{extracted};
-ghost use Rattle.herbrand_laws.specs.Introduction.{IsProofWithCut};
-ghost use Rattle.cut_intro.specs.Introducing.{shorter, introducing, has_formed_instances, IsByBest};
+ghost use Rattle.herbrand_laws.specs.Herbrand.{Item, herbrand_sequent, IsMatrixInstance};
+ghost use Rattle.cut_intro.specs.Instancing.{AreInstancesFor};
 ghost use Rattle.finite.specs.Finite as set;
 
 /// The Herbrand sequent of instances, as `herbrand` answers them, is a tautology without quantifiers. Each of its formulas is the matrix instance
@@ -19,27 +15,4 @@ pub fn herbrand_sequents()
     ensures tautology { (s : Conclusion) (items : List Item) → AreInstancesFor s items → IsTautology (herbrand_sequent items) }
     ensures propositional { (s : Conclusion) (items : List Item) → AreInstancesFor s items → IsPropositional (herbrand_sequent items) }
     ensures instances { (s : Conclusion) (items : List Item) → AreInstancesFor s items → (side : Place) (f : Formula) → set.has (side_of (herbrand_sequent items) side) f ≡ true → IsMatrixInstance s side f }
-{}
-
-/// What isn't refused is the instances of the trees that are extracted from a proof without cuts, each formula of whose end sequent is weak
-/// quantifiers over a matrix, and whose tree is within the budget. If the proof is valid, their Herbrand sequent is a tautology without
-/// quantifiers.
-pub fn instancings()
-    ensures instances { (t : Proof) (n : ℕ) (items : List Item) → instancing t n ≡ Ok items → items ≡ items_of (extracted t) }
-    ensures cut_free { (t : Proof) (n : ℕ) (items : List Item) → instancing t n ≡ Ok items → IsCutFree t }
-    ensures prenex { (t : Proof) (n : ℕ) (items : List Item) → instancing t n ≡ Ok items → IsPrenex (concl t) }
-    ensures budget { (t : Proof) (n : ℕ) (items : List Item) → instancing t n ≡ Ok items → size t ≤ n }
-    ensures tautology { (t : Proof) (n : ℕ) (items : List Item) → IsValid t → instancing t n ≡ Ok items → IsTautology (herbrand_sequent items) }
-    ensures propositional { (t : Proof) (n : ℕ) (items : List Item) → IsValid t → instancing t n ≡ Ok items → IsPropositional (herbrand_sequent items) }
-{}
-
-/// A shorter proof that takes the place of a valid one is valid too, of the same end sequent, with one cut and fewer quantifier inferences.
-pub fn introductions()
-    ensures { (width : ℕ) (t u : Proof) (n : ℕ) → IsValid t → has_formed_instances t ≡ true → introducing width t n ≡ Ok (shorter u)
-        → (k : ℕ) × IsProofWithCut (concl t) k u × (k < quants t) }
-{}
-
-/// A shorter proof of a valid one has as many quantifier inferences as the best candidate of the given one's instances costs.
-pub fn costs()
-    ensures { (width : ℕ) (t u : Proof) (n : ℕ) → IsValid t → has_formed_instances t ≡ true → introducing width t n ≡ Ok (shorter u) → IsByBest width t u }
 {}

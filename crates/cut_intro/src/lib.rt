@@ -3,7 +3,6 @@
 
 mod branch;
 mod cut_formula;
-mod fault;
 mod filling;
 mod instance;
 mod instances;
@@ -19,7 +18,7 @@ mod rules;
 mod tuples;
 mod variables;
 
-pub use fault::{HerbrandFault, IntroFault};
 pub use instancing::herbrand;
 pub use introduction::{Introduced, introduce};
+pub use introduction_laws::{HerbrandFault, IntroFault};
 pub use items::herbrand_sequent;

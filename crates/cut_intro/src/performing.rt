@@ -7,8 +7,8 @@ ghost use Rattle.prop_search.specs.Deciding.{IsProved};
 ghost use Rattle.cut_intro.specs.Performing.{IsShort, Performs, IsReady, performed};
 
 use crate::branch::{Branch, over};
-use crate::fault::IntroFault;
 use fol::Formula;
+use introduction_laws::IntroFault;
 use lk_rules::{Rule, Sequent};
 use proof_graph::{Graph, GraphPass, ProofRef};
 use prop_search::{SearchFault, decide, search};

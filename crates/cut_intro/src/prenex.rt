@@ -3,7 +3,7 @@ ghost use Rattle.std.specs.Prelude.{◌≡◌, not as negated, option_copied, If
 ghost use Rattle.std.specs.List.{find};
 ghost use Rattle.fol.specs.Formed.{IsFormed};
 ghost use Rattle.herbrand_laws.specs.Herbrand.{is_prenex as is_prenex_on};
-ghost use Rattle.cut_intro.specs.Instancing.{first_not_prenex as first_outside};
+ghost use Rattle.introduction_laws.specs.Instancing.{first_not_prenex as first_outside};
 
 use fol::{Formula, FormulaNode};
 use lk_rules::{Sequent, Side};

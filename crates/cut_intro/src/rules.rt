@@ -92,7 +92,7 @@ fn value_rules(alloc: Global, cut: &Formula, values: &[Term]) -> Result<Vec<Rule
     Ok(rules)
 }
 
-/// The rules of the right premise: the instances of the cut formula by the values in order, and those that the patterns don't give.
+/// The rules of the right premise: the instances of the cut formula by the values in order, and those by the tuples of the rest.
 pub(crate) fn right_rules(
     alloc: Global,
     cut: &Formula,

@@ -17,7 +17,8 @@ use Rattle.herbrand_laws.specs.Patterns.{TermSet, Row}
 use Rattle.herbrand_laws.specs.Candidates.{rows_of, occurring, patterns, rest, cost, candidate_cmp, least, best}
 use Rattle.herbrand_laws.proofs.Lists.{from_any}
 use Rattle.herbrand_laws.proofs.Least.{candidates_total, candidates_tie, least_same}
-use Rattle.delta_table.specs.Items.{IsItem, counted, counted_tuples}
+use Rattle.delta_table.specs.Items.{IsItem}
+use Rattle.herbrand_laws.specs.Counted.{counted, counted_tuples}
 use Rattle.delta_table.specs.FoundRows.{PlacedRow, founds, tally_of, values_in, all_values, tables_of}
 use Rattle.delta_rows.specs.ValueOrder.{values_cmp, values_total, by_cost}
 use Rattle.delta_table.specs.Chosen.{zipped, share, made_cost, made_patterns, made_rest, rest_item}

@@ -1,10 +1,11 @@
 -- What a set of values has of an item: as many patterns as rows, and of its tuples those that aren't in these rows are left.
-use Rattle.std.proofs.Common.{◌≡◌, ℕ, zero, suc, ◌+◌, ◌*◌, ◌<◌, Bool, true, false, not, ◌||◌, ◌&&◌, cond, if◌then◌else◌, List, [], ◌∷◌, map, length, get_or, fold, Some, option_map, IfSome, refl, sym, ap, subst, ◌∙◌, arith}
+use Rattle.std.proofs.Common.{◌≡◌, ℕ, zero, suc, ◌+◌, ◌*◌, ◌<◌, Bool, true, false, not, ◌||◌, ◌&&◌, ◌==◌, cond, if◌then◌else◌, List, [], ◌∷◌, map, length, get_or, fold, Some, option_map, IfSome, refl, sym, ap, subst, ◌∙◌, arith}
 use Rattle.std.specs.List.{All, AllByRecursion, IsDistinct, list_any, filter, filter_map, cons_option}
 use Rattle.std.specs.declared.cmp.Ordering.TheVariants.{Less}
 use Rattle.std.specs.Ordering.{eq_by_cmp, is_eq, ordering_reverse}
 use Rattle.std.specs.List.Sorted.{IsStrictlySortedBy}
 use Rattle.std.proofs.Math.Bool.{or_assoc}
+use Rattle.std.proofs.lemmas.Bool.{eqb-true}
 use Rattle.std.proofs.lemmas.List.{length-map}
 use Rattle.std.proofs.lemmas.List.Elements.{All-cons, All-head, All-tail, All-filter, filter_passes, All-from_recursion, recursion_from_All}
 use Rattle.fol.specs.Syntax.{Term, Terms, nil}
@@ -19,7 +20,7 @@ use Rattle.proof_trees.proofs.Booleans.{or_first}
 use Rattle.search_laws.proofs.Tests.{fails}
 use Rattle.herbrand_laws.specs.Herbrand.{Item, quantifiers}
 use Rattle.herbrand_laws.specs.Patterns.{put, TermSet, Row, delta, IsRow}
-use Rattle.herbrand_laws.specs.Candidates.{same_terms, patterns, is_covered, rest}
+use Rattle.herbrand_laws.specs.Candidates.{same_terms, patterns, is_covered, uncovered, rest}
 use Rattle.herbrand_laws.proofs.Lists.{any-map}
 use Rattle.herbrand_laws.proofs.Rows.{delta_row}
 use Rattle.delta_table.specs.declared.tallies.Tally.{Tally}
@@ -54,6 +55,10 @@ any_alike P p q (x ∷ xs) f h = λ i. f x h.0 i || any_alike P p q xs f h.1 i
 and_alike : (b x y : Bool) → (b ≡ true → x ≡ y) → (b && x) ≡ (b && y)
 and_alike true x y f = f refl
 and_alike false x y f = refl
+
+no_product : (q m n : ℕ) → q ≡ 0 → q * m ≡ q * n
+no_product zero m n e = omega arith
+no_product (suc q) m n e = absurd (omega arith)
 
 false_or : (b : Bool) → (b || false) ≡ b
 false_or true = refl
@@ -274,18 +279,23 @@ module _ (width : ℕ) (i : Item) (formed : All (λ us. are_formed_terms_at 0 us
         ∙ ap (λ fs. has_place (tally_of w fs).places k) (sym (founds_are width i.tuples))))))))
 
     -- what isn't covered are the tuples at the other places
-    pub rest_kept : rest width w i ≡ kept_at (lacks_place tally.places) 0 i.tuples
+    uncovered_kept : uncovered width w i ≡ kept_at (lacks_place tally.places) 0 i.tuples
     unfolding lacks_place
-    rest_kept =
+    uncovered_kept =
         filter_kept (λ us. not (is_covered (patterns width w i) w us)) (lacks_place tally.places) 0 i.tuples
         (λ k l. ap not (covered k l) ∙ ap (lacks_place tally.places) (omega arith))
 
     pub rest_made : made_rest w i (founds width i.tuples) ≡ rest_item width w i
-    rest_made = λ k. record { side = i.side; formula = i.formula; tuples = sym rest_kept k }
+    rest_made = λ k. record { side = i.side; formula = i.formula; tuples = if quantifiers i == 0 then [] else sym uncovered_kept k }
 
-    -- what the item costs
+    -- what the item costs: nothing, where its formula has no quantifier
     pub share_counted : quantifiers i * (length (patterns width w i) + length (rest width w i)) ≡ share i tally
-    share_counted = λ k. quantifiers i * (sym tally_rows k + length (rest_kept k))
+    share_counted = go (quantifiers i == 0) refl ∙ λ k. quantifiers i * (sym tally_rows k + length (uncovered_kept k))
+      where
+        go : (b : Bool) → (quantifiers i == 0) ≡ b
+            → quantifiers i * (length (patterns width w i) + length (if b then [] else uncovered width w i)) ≡ quantifiers i * (length (patterns width w i) + length (uncovered width w i))
+        go true e = no_product (quantifiers i) _ _ (eqb-true (quantifiers i) 0 e)
+        go false e = refl
 
     -- the patterns of the rows with these values
     found_patterns : (es : List Entry) → AllByRecursion IsChosen es → filter_map (λ (f : PlacedRow). pattern_of_places i.tuples f.places) (map found_of es) ≡ map (λ e. e.row.pattern) es

@@ -2,12 +2,12 @@
 --     zipped      what a function gives of the elements of two lists side by side
 --     raised      numbers with one number added to each
 --     pattern_of_places, patterns_by      the patterns of the rows that pass a test
---     rest_outside, share      what is left of an item, and what it costs
+--     left_outside, rest_outside, share      what is left of an item, and what it costs
 --     patterns_found, made_patterns, made_rest, made_cost      the patterns, the rest and the cost of a set of values by the rows of the items
---     patterns_at, patterns_by_numbers, rest_at, cost_at      the same of a set of numbers
+--     patterns_at, patterns_by_numbers, left_at, rest_at, cost_at      the same of a set of numbers
 --     made_candidate      the candidate of a set of numbers
 --     rest_item, candidate_of      an item with the rest of its tuples; the candidate
-use Rattle.std.specs.Prelude.{ℕ, ◌+◌, ◌*◌, Bool, List, [], ◌∷◌, map, length, sum, Option, option_map}
+use Rattle.std.specs.Prelude.{ℕ, ◌+◌, ◌*◌, Bool, ◌==◌, if◌then◌else◌, List, [], ◌∷◌, map, length, sum, Option, option_map}
 use Rattle.std.specs.List.{filter, filter_map}
 use Rattle.fol.specs.Syntax.{Terms}
 use Rattle.fol.specs.Order.{terms_cmp}
@@ -46,9 +46,13 @@ patterns_by tuples p places rs = filter_map (λ r. pattern_of_places tuples (pla
 abbrev pub in_order : List Terms → List Terms
 in_order ps = set.listing (set.adds_each (set.empty {R = terms_cmp}) ps)
 
--- the item with the tuples that aren't at places
+-- the tuples of an item that aren't at places: none of a formula without quantifiers
+abbrev pub left_outside : ℕ → Item → List Terms
+left_outside places i = if quantifiers i == 0 then [] else kept_at (lacks_place places) 0 i.tuples
+
+-- the item with these tuples
 abbrev pub rest_outside : ℕ → Item → Item
-rest_outside places i = record { side = i.side; formula = i.formula; tuples = kept_at (lacks_place places) 0 i.tuples }
+rest_outside places i = record { side = i.side; formula = i.formula; tuples = left_outside places i }
 
 -- a quantifier inference for each quantifier of an item, of each row of a tally and of each tuple that isn't among those of the tally
 abbrev pub share : Item → Tally → ℕ
@@ -62,7 +66,7 @@ patterns_found tuples w fs = patterns_by tuples (λ f. same_terms f.values w) (�
 abbrev pub made_patterns : TermSet → Item → List PlacedRow → List Terms
 made_patterns w i fs = in_order (patterns_found i.tuples w fs)
 
--- the item with the tuples that its rows with these values don't have
+-- the item with the tuples that its rows with these values don't have: none of a formula without quantifiers
 abbrev pub made_rest : TermSet → Item → List PlacedRow → Item
 made_rest w i fs = rest_outside (tally_of w fs).places i
 
@@ -78,7 +82,11 @@ patterns_at tuples k rows = patterns_by tuples (λ f. same_numbers f.values k) (
 abbrev pub patterns_by_numbers : List ℕ → Item → List Found → List Terms
 patterns_by_numbers k i rows = in_order (patterns_at i.tuples k rows)
 
--- the item with the tuples that its rows with these numbers don't have
+-- the tuples of an item that its rows with these numbers don't have: none of a formula without quantifiers
+abbrev pub left_at : List ℕ → Item → List Found → List Terms
+left_at k i rows = left_outside (tally_at k rows).places i
+
+-- the item with these tuples
 abbrev pub rest_at : List ℕ → Item → List Found → Item
 rest_at k i rows = rest_outside (tally_at k rows).places i
 
@@ -90,7 +98,7 @@ cost_at k items tables = 1 + length k + sum (zipped (λ i rows. share i (tally_a
 abbrev pub made_candidate : Table → List ℕ → List Item → ℕ → Candidate
 made_candidate t k items cost = record { values = set_at t.cells k; patterns = zipped (patterns_by_numbers k) items t.rows.items; rest = zipped (rest_at k) items t.rows.items; cost = cost }
 
--- the item with the tuples that aren't covered
+-- the item with its rest
 abbrev pub rest_item : ℕ → TermSet → Item → Item
 rest_item width w i = record { side = i.side; formula = i.formula; tuples = rest width w i }
 

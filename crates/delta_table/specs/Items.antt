@@ -1,9 +1,8 @@
 -- Items: a formula of a sequent with the tuples of its instances.
 --     coded_item      how items are coded as trees of numbers
 --     IsItem      what holds of each item
---     counted_tuples, counted      how many tuples of quantified formulas there are
-use Rattle.std.specs.Prelude.{◌≡◌, ℕ, Bool, true, false, ◌==◌, if◌then◌else◌, List, length, refl}
-use Rattle.std.specs.List.{list_all, sum_by}
+use Rattle.std.specs.Prelude.{◌≡◌, Bool, true, false, ◌==◌, List, refl}
+use Rattle.std.specs.List.{list_all}
 use Rattle.std.specs.Coded.{Coded, code_by, coded×, coded_bool, coded_list}
 use Rattle.fol.specs.Syntax.{Terms, Formula}
 use Rattle.fol.specs.Codes.{coded_terms, coded_formula}
@@ -42,10 +41,3 @@ pub record IsItem (i : Item) : Type 0 where
   pub formed : list_all (are_formed_terms_at 0) i.tuples ≡ true
   pub counted : list_all (λ us. count_terms us == quantifiers i) i.tuples ≡ true
   pub rises : set.IsRising terms_cmp i.tuples
-
--- how many tuples of quantified formulas there are
-abbrev pub counted_tuples : Item → ℕ
-counted_tuples i = if quantifiers i == 0 then 0 else length i.tuples
-
-abbrev pub counted : List Item → ℕ
-counted items = sum_by counted_tuples items

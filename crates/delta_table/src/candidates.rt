@@ -4,8 +4,9 @@ ghost use Rattle.std.specs.List.{All};
 ghost use Rattle.herbrand_laws.specs.Herbrand.{Item as Meaning};
 ghost use Rattle.herbrand_laws.specs.Candidates.{best as best_values};
 ghost use Rattle.numbered_terms.specs.Numbered.{IsTermSet};
-ghost use Rattle.delta_table.specs.Items.{counted, IsItem};
-ghost use Rattle.delta_table.specs.Chosen.{zipped, pattern_of_places, patterns_at, patterns_by_numbers, rest_at, made_candidate, candidate_of};
+ghost use Rattle.herbrand_laws.specs.Counted.{counted};
+ghost use Rattle.delta_table.specs.Items.{IsItem};
+ghost use Rattle.delta_table.specs.Chosen.{zipped, pattern_of_places, patterns_at, patterns_by_numbers, left_at, rest_at, made_candidate, candidate_of};
 ghost use Rattle.delta_table.specs.FoundRows.{tally_at};
 
 use crate::costs::{costs, least_place};
@@ -24,8 +25,9 @@ use numbered_terms::NumberSet;
 use std::alloc::{AllocError, Global};
 use std::thread::Threads;
 
-/// A candidate for a cut: a set of values, the patterns of each item whose rows have just these values, the tuples of each item that these
-/// don't cover, and how many quantifier inferences the proof with the cut has.
+/// A candidate for a cut: a set of values, the patterns of each item whose rows have just these values, the tuples of each item with quantifiers
+/// that these don't cover, and how many quantifier inferences the proof with the cut has. An item without quantifiers is among the rest with no
+/// tuple.
 pub struct Candidate {
     pub values: Values,
     pub patterns: Patterns,
@@ -93,7 +95,24 @@ fn covered(rows: &[Found], values: &NumberSet) -> u64
     places
 }
 
-// The item with the tuples that rows with these values don't have.
+// The tuples that rows with these values don't have. A formula without quantifiers is its own instance, so none of its tuples is left.
+fn left_of(
+    alloc: Global,
+    item: &Item,
+    rows: &[Found],
+    values: &NumberSet,
+) -> Result<Vec<Terms>, AllocError>
+    requires { length item.now.tuples ≤ 64 }
+    ensures { IfOk result (λ v. v.items ≡ left_at values.now item.now rows.now) }
+{
+    if item.quantifiers() == 0 {
+        return Ok(Vec::new(alloc));
+    }
+    let places = covered(rows, values);
+    tuples_outside(alloc, item.tuples().as_slice(), places)
+}
+
+// The item with these tuples.
 fn rest_of(
     alloc: Global,
     item: &Item,
@@ -104,8 +123,7 @@ fn rest_of(
     ensures { IfOk result (λ i. i ≡ rest_at values.now item.now rows.now) }
 {
     item.known();
-    let places = covered(rows, values);
-    let tuples = tuples_outside(alloc, item.tuples().as_slice(), places)?;
+    let tuples = left_of(alloc, item, rows, values)?;
     let formula = item.formula().copy()?;
     Ok(Item::new(item.side(), formula, Tuples::from_rising(tuples)))
 }

@@ -1,6 +1,6 @@
 //! The instances of a sequent's formulas.
 ghost use Rattle.std.specs.Prelude.{◌≡◌, ◌-◌, ◌^◌, min, IfOk};
-ghost use Rattle.delta_table.specs.Items.{counted, counted_tuples};
+ghost use Rattle.herbrand_laws.specs.Counted.{counted, counted_tuples};
 
 use crate::item::Item;
 use crate::items::Items;

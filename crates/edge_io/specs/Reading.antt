@@ -37,7 +37,7 @@ pub record HandsOn (next : Next) (max : ℕ) (old new : Reader) (before after : 
 
 -- nothing is left: the end of input was met before, or is met now with no byte pending
 abbrev pub IsDone : Reader → Option (List ℕ) → Option (List ℕ) → Type 0
-IsDone old before after = ((old.at_end ≡ true) × (after ≡ before))
+IsDone old before after = ((old.at_end ≡ true) × (old.pending ≡ []) × (after ≡ before))
     ⊎ ((old.at_end ≡ false) × (old.pending ≡ []) × Consumes before after [] × IsAtEnd after)
 
 -- a line was cut off: the bytes that were pending, and those taken now, are within the limit and have no newline

@@ -32,7 +32,7 @@ pub struct LineReader {
 }
 
 impl Model for LineReader {
-    ghost use Rattle.std.specs.Prelude.{◌≡◌, ◌≤◌, ◌<◌, take, drop, vec_len};
+    ghost use Rattle.std.specs.Prelude.{◌≡◌, ◌≤◌, ◌<◌, true, take, drop, vec_len};
     ghost use Rattle.edge_io.specs.Reader.{Reader};
 
     ghost Value = { Reader };
@@ -44,7 +44,7 @@ impl Model for LineReader {
       ended = r.ended;
     } };
 
-    ghost invariant = { λ r. (r.start ≤ r.end) × (r.end ≤ vec_len r.chunk) × (0 < vec_len r.chunk) };
+    ghost invariant = { λ r. (r.start ≤ r.end) × (r.end ≤ vec_len r.chunk) × (0 < vec_len r.chunk) × (r.at_end ≡ true → r.start ≡ r.end) };
 }
 
 impl LineReader {
@@ -73,7 +73,9 @@ impl LineReader {
     }
 
     pub(crate) fn is_at_end(&self) -> bool
-        ensures { result ≡ self.now.at_end }
+        ensures value { result ≡ self.now.at_end }
+        // Nothing is pending behind the last line.
+        ensures empty { self.now.at_end ≡ true → self.now.pending ≡ [] }
     {
         self.at_end
     }
@@ -105,7 +107,8 @@ impl LineReader {
 
     /// Reads once. Where there is no room, one byte past the limit tells a full input from its end.
     pub(crate) fn refill<S: Source>(&mut self, source: &mut S) -> Refill
-        requires { self.old.pending ≡ [] }
+        requires empty { self.old.pending ≡ [] }
+        requires fresh { self.old.at_end ≡ false }
         ensures refills { Refills result (S.faults source.old) (S.faults source.new)
             self.old self.new (S.left source.old) (S.left source.new) }
         ensures kept { S.faults source.old ≤ S.faults source.new }

@@ -1,7 +1,6 @@
 -- Distances along links, as they become known.
 use Rattle.std.proofs.Common.{◌≡◌, ℕ, zero, suc, ◌+◌, ◌<◌, ◌≤◌, true, false, ◌&&◌, List, [], ◌∷◌, ◌++◌, take, drop, length, get_or, eqb, inl, inr, ⊎_elim, refl, sym, ap, ◌∙◌, subst, arith}
-use Rattle.std.specs.Prelude.{if◌then◌else◌}
-use Rattle.std.specs.Prelude.{◌⊎◌}
+use Rattle.std.specs.Prelude.{if◌then◌else◌, ◌⊎◌}
 use Rattle.std.proofs.lemmas.List.{append-nil, take_all, drop_all}
 use Rattle.std.proofs.lemmas.Bool.{and_parts}
 use Rattle.std.proofs.lemmas.List.Elements.{All-head, All-tail}
@@ -11,7 +10,7 @@ use Rattle.search_laws.proofs.Tests.{split, fails, clash}
 use Rattle.exp_check.specs.Links.{is_link, has_link, AreWithin}
 use Rattle.exp_check.specs.Distances.{leads_to, is_step, reaches, spread_at, AreDistances, AreMeasured}
 use Rattle.exp_check.specs.declared.links.Link.{Link}
-use Rattle.exp_check.proofs.Found.{any_number, number_passes}
+use Rattle.expansion_laws.proofs.Found.{any_number, number_passes}
 use Rattle.exp_check.proofs.RankLaws.{eqb_is, eqb_of}
 
 -- a number is 0 or above one

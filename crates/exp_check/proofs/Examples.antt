@@ -1,7 +1,7 @@
 -- The cycles of small relations, given by their pairs.
 use Rattle.std.proofs.Common.{◌≡◌, ℕ, Bool, ◌&&◌, eqb, List, [], ◌∷◌, Some, None, refl}
 use Rattle.std.specs.List.{list_any}
-use Rattle.exp_check.specs.Cycles.{first_cycle}
+use Rattle.expansion_laws.specs.Cycles.{first_cycle}
 
 abbrev among : List (ℕ × ℕ) → ℕ → ℕ → Bool
 among pairs i j = list_any (λ p. eqb p.0 i && eqb p.1 j) pairs

@@ -1,15 +1,10 @@
 pub mod Repeats
 pub mod EdgeWalk
-pub mod Conditions
-pub mod Found
-pub mod Shortcuts
-pub mod CycleLaws
 pub mod Numbering
 pub mod RankLaws
 pub mod DistanceLaws
 pub mod WayLaws
 pub mod TransferLaws
-pub mod LeastLaws
-pub mod CheckLaws
+pub mod ShortAnswers
 pub mod ShownLaws
 pub mod Examples

@@ -8,11 +8,11 @@ use Rattle.lk_rules.proofs.Subsequents.{and_left, and_right}
 use Rattle.proof_trees.proofs.Booleans.{either}
 use Rattle.search_laws.proofs.Tests.{fails, clash}
 use Rattle.expansion_laws.proofs.Lists.{some_passes}
-use Rattle.exp_check.specs.Cycles.{leads}
+use Rattle.expansion_laws.specs.Cycles.{leads}
 use Rattle.exp_check.specs.Links.{is_link, has_link}
 use Rattle.exp_check.specs.Ranks.{is_level, NeverFall}
 use Rattle.exp_check.specs.declared.links.Link.{Link}
-use Rattle.exp_check.proofs.Repeats.{or_parts}
+use Rattle.expansion_laws.proofs.Times.{or_parts}
 
 pub eqb_is : (a b : ℕ) → eqb a b ≡ true → a ≡ b
 eqb_is a b e = grind (arith, nat_tests)

@@ -5,38 +5,24 @@ use Rattle.std.specs.List.{list_any}
 use Rattle.std.specs.List.Sorted.{IsSorted, IsPermutation}
 use Rattle.std.specs.Cmp.{alike_right}
 use Rattle.std.specs.Ordering.{eq_by_cmp, is_eq, is_lt, ordering_reverse}
-use Rattle.std.specs.declared.cmp.Ordering.{Ordering}
 use Rattle.std.specs.declared.cmp.Ordering.TheVariants.{Less, Equal, Greater}
 use Rattle.std.proofs.lemmas.Bool.{and_parts}
-use Rattle.std.proofs.lemmas.Bool.Decides.{nat_tests}
 use Rattle.std.proofs.lemmas.List.{at_drop_more, drop_all}
 use Rattle.std.proofs.Math.Bool.{or-true}
 use Rattle.std.specs.Cmp.Derive.{both_true}
 use Rattle.fol.proofs.OrderTies.{var_ties}
-use Rattle.std.proofs.lemmas.List.Sums.{sum_by-cons}
 use Rattle.std.proofs.lemmas.List.Sorted.{sum_by-IsPermutation, list_any-IsPermutation}
 use Rattle.fol.specs.declared.symbols.Var.{Var}
 use Rattle.fol.specs.Order.{var_cmp}
 use Rattle.fol.specs.OrderLaws.{var_total}
 use Rattle.lk_rules.specs.declared.sequent.Sequent.{Sequent}
 use Rattle.lk_rules.specs.Sequents.{is_free_in_sequent}
-use Rattle.exp_check.specs.Eigenvariables.{times, is_repeated, is_free_eigenvariable, IsLeast, first_pair, first_free}
+use Rattle.expansion_laws.specs.Eigenvariables.{times, is_repeated, is_free_eigenvariable, IsLeast}
+use Rattle.exp_check.specs.Eigenvariables.{first_pair, first_free}
+use Rattle.expansion_laws.proofs.Times.{equal_back, self_tied, times_more, at_most_once, more_than_once, at_most_back, more_back}
 
 turned : (v w : Var) → var_cmp v w ≡ Greater → var_cmp w v ≡ Less
 turned v w e = var_total.antisymm w v ∙ ap ordering_reverse e
-
-pub equal_back : (r : Ordering) → is_eq r ≡ true → r ≡ Equal
-equal_back Less h = cc
-equal_back Equal h = refl
-equal_back Greater h = cc
-
-own_reverse : (r : Ordering) → r ≡ ordering_reverse r → is_eq r ≡ true
-own_reverse Less h = cc
-own_reverse Equal h = refl
-own_reverse Greater h = cc
-
-pub self_tied : (v : Var) → eq_by_cmp var_cmp v v ≡ true
-self_tied v = own_reverse (var_cmp v v) (var_total.antisymm v v)
 
 tail_sorted : (v : Var) (vs : List Var) → IsSorted var_cmp (v ∷ vs) → IsSorted var_cmp vs
 tail_sorted v vs h k d low high =
@@ -62,22 +48,6 @@ none_below w v (u ∷ us) h e = rw e (none_below w u us (tail_sorted v (u ∷ us
 none_there : (w v : Var) (vs : List Var) → IsSorted var_cmp (v ∷ vs) → var_cmp w v ≡ Less → list_any (eq_by_cmp var_cmp w) (v ∷ vs) ≡ false
 none_there w v [] h e = rw e refl
 none_there w v (u ∷ us) h e = rw e (none_there w u us (tail_sorted v (u ∷ us) h) (below_second w v u us h e))
-
--- the number of times with one more variable
-pub times_more : (v w : Var) (vs : List Var) (b : Bool) → eq_by_cmp var_cmp w v ≡ b → times (v ∷ vs) w ≡ (if b then 1 else 0) + times vs w
-times_more v w vs b h = sum_by-cons (λ u. cond (eq_by_cmp var_cmp w u) 1 0) v vs ∙ ap (λ c. (if c then 1 else 0) + times vs w) h
-
-pub at_most_once : (vs : List Var) (w : Var) → times vs w ≤ 1 → is_repeated vs w ≡ false
-at_most_once vs w h = grind (arith, nat_tests)
-
-more_than_once : (vs : List Var) (w : Var) → 1 < times vs w → is_repeated vs w ≡ true
-more_than_once vs w h = grind (arith, nat_tests)
-
-pub at_most_back : (vs : List Var) (w : Var) → is_repeated vs w ≡ false → times vs w ≤ 1
-at_most_back vs w h = grind (arith, nat_tests)
-
-pub more_back : (vs : List Var) (w : Var) → is_repeated vs w ≡ true → 1 < times vs w
-more_back vs w h = grind (arith, nat_tests)
 
 -- the first is below the second of a sorted list where they differ
 first_below : (v u : Var) (us : List Var) → IsSorted var_cmp (v ∷ u ∷ us) → eq_by_cmp var_cmp v u ≡ false → var_cmp v u ≡ Less
@@ -131,10 +101,6 @@ repeated_least (v ∷ u ∷ us) h =
             | Some x ↦ λ inner. (still_repeated v x (u ∷ us) inner.0, λ w less. once_more v u w us h k (inner.1 w less))
           ] (repeated_least (u ∷ us) (tail_sorted v (u ∷ us) h))
     ] refl
-
-pub or_parts : (a b : Bool) → (a || b) ≡ false → (a ≡ false) × (b ≡ false)
-or_parts true b h = cc
-or_parts false b h = (refl, h)
 
 and_no : (a b : Bool) → b ≡ false → (a && b) ≡ false
 and_no true b h = h

@@ -10,14 +10,14 @@ use Rattle.std.proofs.lemmas.List.Elements.{All-nil, All-cons}
 use Rattle.fol.specs.declared.symbols.Var.{Var}
 use Rattle.fol.specs.Order.{var_cmp}
 use Rattle.expansion_laws.specs.Dependency.{Expansion, is_above, is_before}
-use Rattle.exp_check.specs.Cycles.{leads, fewest, way, cycle_from, first_cycle, variables, cycle}
+use Rattle.expansion_laws.specs.Cycles.{leads, fewest, way, cycle_from, first_cycle, variables, cycle}
 use Rattle.exp_check.specs.Edges.{IsExtended}
 use Rattle.exp_check.specs.Links.{has_link, AreLinks}
 use Rattle.exp_check.specs.declared.dependency.Edge.{Edge}
 use Rattle.exp_check.specs.declared.links.Link.{Link}
-use Rattle.exp_check.proofs.CycleLaws.{among_variables}
-use Rattle.exp_check.proofs.Found.{found_within}
-use Rattle.exp_check.proofs.Repeats.{self_tied}
+use Rattle.expansion_laws.proofs.CycleLaws.{among_variables}
+use Rattle.expansion_laws.proofs.Found.{found_within}
+use Rattle.expansion_laws.proofs.Times.{self_tied}
 use Rattle.exp_check.proofs.TransferLaws.{first_cycle_same}
 
 module _ (before : ℕ → ℕ → Bool) (n : ℕ) where

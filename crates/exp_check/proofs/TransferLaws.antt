@@ -4,8 +4,8 @@ use Rattle.std.specs.Prelude.{Option, Some, None, is_some}
 use Rattle.std.specs.Option.{option_map, option_map_or, option_and_then}
 use Rattle.std.specs.List.{list_any, find, range_with_len}
 use Rattle.std.proofs.lemmas.List.FromFn.{fill_by_all, length-range_with_len}
-use Rattle.exp_check.specs.Cycles.{leads, fewest, way, cycle_from, first_cycle}
-use Rattle.exp_check.proofs.Found.{found_map, any_map, same_first, same_any, found_within}
+use Rattle.expansion_laws.specs.Cycles.{leads, fewest, way, cycle_from, first_cycle}
+use Rattle.expansion_laws.proofs.Found.{found_map, any_map, same_first, same_any, found_within}
 
 module _ {V : Type 0} (before : V → V → Bool) (vs : List V) (d : V) (link : ℕ → ℕ → Bool)
     (same : (i j : ℕ) → i < length vs → j < length vs → link i j ≡ before (get_or vs i d) (get_or vs j d)) where

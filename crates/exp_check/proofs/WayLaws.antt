@@ -11,11 +11,11 @@ use Rattle.std.proofs.Math.Bool.{or-false}
 use Rattle.std.proofs.lemmas.List.FromFn.{length-range_with_len}
 use Rattle.lk_rules.proofs.Subsequents.{and_right}
 use Rattle.search_laws.proofs.Tests.{split, fails, clash, same_truth}
-use Rattle.exp_check.specs.Cycles.{leads, fewest, way, cycle_from, first_cycle}
+use Rattle.expansion_laws.specs.Cycles.{leads, fewest, way, cycle_from, first_cycle}
 use Rattle.exp_check.specs.Links.{is_link, has_link}
 use Rattle.exp_check.specs.Distances.{leads_to, AreDistances, AreMeasured}
 use Rattle.exp_check.specs.declared.links.Link.{Link}
-use Rattle.exp_check.proofs.Found.{found_passes, none_passes, first_is, found_within, no_number, number_passes, same_first}
+use Rattle.expansion_laws.proofs.Found.{found_passes, none_passes, first_is, found_within, no_number, number_passes, same_first}
 use Rattle.exp_check.proofs.RankLaws.{eqb_is, eqb_of, eqb_not}
 use Rattle.exp_check.proofs.DistanceLaws.{either_number, within_known, longer}
 

@@ -7,7 +7,7 @@
 use Rattle.std.specs.Prelude.{◌≡◌, ℕ, suc, ◌+◌, ◌<◌, ◌≤◌, Bool, true, false, ◌&&◌, List, length, nat_eq, slice_index, if◌then◌else◌}
 use Rattle.std.specs.List.{list_any, range_with_len}
 use Rattle.exp_check.specs.Links.{has_link}
-use Rattle.exp_check.specs.Cycles.{leads}
+use Rattle.expansion_laws.specs.Cycles.{leads}
 use Rattle.exp_check.specs.declared.links.Link.{Link}
 
 -- whether links between n numbers lead from y to z by k in between

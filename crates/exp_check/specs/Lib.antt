@@ -1,7 +1,6 @@
 pub mod Eigenvariables
 pub mod Edges
 pub mod Links
-pub mod Cycles
 pub mod Ranks
 pub mod Distances
 pub mod Checking

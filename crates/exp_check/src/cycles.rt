@@ -3,7 +3,7 @@ ghost use Rattle.std.specs.Prelude.{◌≡◌, ◌≢◌, ◌<◌, ◌≤◌, �
 ghost use Rattle.std.specs.List.{find, range_with_len};
 ghost use Rattle.std.specs.Option.{option_map};
 ghost use Rattle.exp_check.specs.Links.{has_link, AreWithin};
-ghost use Rattle.exp_check.specs.Cycles.{way, cycle_from as cycle_from_number, first_cycle as first_of_cycles};
+ghost use Rattle.expansion_laws.specs.Cycles.{way, cycle_from as cycle_from_number, first_cycle as first_of_cycles};
 ghost use Rattle.exp_check.specs.Distances.{spread_at, AreMeasured};
 
 use crate::links::Link;

@@ -5,7 +5,8 @@ ghost use Rattle.lk_rules.specs.Sequents.{is_free_in_sequent};
 ghost use Rattle.expansion_laws.specs.Dependency.{strongs_of};
 ghost use Rattle.expansion_laws.specs.Proofs.{are_distinct};
 ghost use Rattle.exp_tree.specs.Reads.{expansion_of};
-ghost use Rattle.exp_check.specs.Eigenvariables.{IsLeast, is_repeated, is_free_eigenvariable, first_pair, first_free as first_free_of};
+ghost use Rattle.expansion_laws.specs.Eigenvariables.{IsLeast, is_repeated, is_free_eigenvariable};
+ghost use Rattle.exp_check.specs.Eigenvariables.{first_pair, first_free as first_free_of};
 
 use exp_tree::{ExpSequent, strong_vars};
 use fol::Var;

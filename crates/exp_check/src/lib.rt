@@ -6,12 +6,10 @@ mod checking;
 mod cycles;
 mod dependency;
 mod eigenvariables;
-mod fault;
-pub mod laws;
 mod links;
 mod ranks;
 
 pub use checking::check_proof;
 pub use dependency::{Edge, edges};
 pub use eigenvariables::{eigen_free, eigen_twice};
-pub use fault::ExpFault;
+pub use expansion_laws::ExpFault;

@@ -10,7 +10,7 @@ use Rattle.lk_rules.specs.declared.sequent.Sequent.{Sequent}
 use Rattle.lk_rules.specs.declared.rule.Rule.{Rule}
 use Rattle.proof_trees.specs.Trees.{Tree, node, Trees, none, more, concl, rule_of, below}
 use Rattle.boxcar.specs.Table.{Shelves}
-use Rattle.proof_graph.specs.Shown.{nodes, nodes_all}
+use Rattle.proof_trees.specs.TreeLists.{nodes, nodes_all}
 use Rattle.proof_graph.specs.References.{Reference, trees_of}
 use Rattle.extraction_laws.specs.Extraction.{Context, inner_map, inner_context, inner_variable}
 use Rattle.exp_extract.specs.declared.sides.Sides.{Sides}

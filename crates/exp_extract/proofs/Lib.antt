@@ -15,7 +15,6 @@ pub mod RootLists
 pub mod Starts
 pub mod AtRoots
 pub mod NextRoots
-pub mod Order
 pub mod ToldApart
 pub mod FormulaPlaces
 pub mod Gathered

@@ -8,7 +8,7 @@ use Rattle.fol.specs.Formed.{is_formed_term}
 use Rattle.expansion_laws.specs.Expansions.{Exp, more}
 use Rattle.extraction_laws.specs.States.{instances_by}
 use Rattle.exp_tree.specs.declared.expansion.Inst.{Inst}
-use Rattle.exp_tree.specs.Sizes.{is_formed_exp, are_formed_insts}
+use Rattle.expansion_laws.specs.Formed.{is_formed_exp, are_formed_insts}
 use Rattle.exp_tree.specs.Shown.{insts_of}
 use Rattle.exp_extract.specs.declared.markings.Marking.{Marking}
 

@@ -14,7 +14,7 @@ use Rattle.extraction_laws.specs.Addresses.{Address, formula_at}
 use Rattle.extraction_laws.specs.States.{State, place_of, variable_at, terms_at, instances_by, weak_at, strong_at}
 use Rattle.extraction_laws.proofs.Built.{shallow-tree, built-tree}
 use Rattle.extraction_laws.proofs.Variables.{nth_numbered}
-use Rattle.exp_tree.specs.Sizes.{is_formed_exp, are_formed_insts, IsProper}
+use Rattle.expansion_laws.specs.Formed.{is_formed_exp, are_formed_insts, IsProper}
 use Rattle.exp_tree.specs.Sequents.{AreArranged}
 use Rattle.exp_extract.specs.Marked.{Marked, address_at}
 use Rattle.exp_extract.specs.Reading.{tree_of, instance_tree}

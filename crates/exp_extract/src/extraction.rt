@@ -6,15 +6,15 @@ ghost use Rattle.proof_graph.specs.Graphs.{IsOf};
 ghost use Rattle.expansion_laws.specs.Proofs.{shallow_sequent, IsExpansionProof};
 ghost use Rattle.exp_tree.specs.Reads.{expansion_of};
 ghost use Rattle.extraction_laws.specs.Extraction.{extracted};
-ghost use Rattle.exp_extract.specs.Extracting.{extracting, Extracts, NamesFormed};
+ghost use Rattle.extraction_laws.specs.Extracting.{extracting};
+ghost use Rattle.exp_extract.specs.Extracting.{Extracts, NamesFormed};
 
-use crate::fault::ExtractFault;
 use crate::faults::check;
-use crate::laws;
 use crate::marked_proof::mark_proof;
 use crate::reading::read_side;
 use crate::variables::variables;
 use exp_tree::{CheckedExp, ExpSequent};
+use extraction_laws::{ExtractFault, laws};
 use proof_graph::{Graph, ProofRef};
 use std::alloc::{AllocError, Global};
 

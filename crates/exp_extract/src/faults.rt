@@ -2,11 +2,12 @@
 ghost use Rattle.std.specs.Prelude.{◌≡◌, None, Ok, Err, IfOk, IfErr};
 ghost use Rattle.std.specs.List.{position};
 ghost use Rattle.proof_graph.specs.Graphs.{IsOf};
-ghost use Rattle.proof_steps.specs.Places.{steps_of, is_cut_step};
+ghost use Rattle.step_laws.specs.Places.{steps_of, is_cut_step};
 ghost use Rattle.extraction_laws.specs.Extraction.{extracted};
-ghost use Rattle.exp_extract.specs.Extracting.{extracting, Extracts, NamesFormed};
+ghost use Rattle.extraction_laws.specs.Extracting.{extracting};
+ghost use Rattle.exp_extract.specs.Extracting.{Extracts, NamesFormed};
 
-use crate::fault::ExtractFault;
+use extraction_laws::ExtractFault;
 use proof_graph::{Graph, ProofRef};
 use proof_steps::{exceeds, first_cut, first_defined};
 use std::alloc::Global;

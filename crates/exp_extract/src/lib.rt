@@ -2,11 +2,9 @@
 #![tactic(auto)]
 
 mod extraction;
-mod fault;
 mod faults;
 mod fingerprints;
 mod inferences;
-pub mod laws;
 mod maps;
 mod marked_proof;
 mod markings;
@@ -22,4 +20,4 @@ mod visits;
 mod walking;
 
 pub use extraction::extract;
-pub use fault::ExtractFault;
+pub use extraction_laws::ExtractFault;

@@ -9,7 +9,7 @@ ghost use Rattle.substitution.specs.Instance.{IsOpenBody};
 ghost use Rattle.extraction_laws.specs.Addresses.{part, body_of, formula_at};
 ghost use Rattle.extraction_laws.specs.States.{variable_at, terms_at, instances_by, weak_at, strong_at};
 ghost use Rattle.exp_tree.specs.Shown.{insts_of};
-ghost use Rattle.exp_tree.specs.Sizes.{are_formed_insts};
+ghost use Rattle.expansion_laws.specs.Formed.{are_formed_insts};
 ghost use Rattle.exp_extract.specs.Marked.{address_at, IsPlace};
 ghost use Rattle.exp_extract.specs.Reading.{tree_of, instance_tree};
 

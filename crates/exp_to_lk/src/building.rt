@@ -1,218 +1,48 @@
-//! Proofs of lists, made in an arena.
-ghost use Rattle.std.specs.Prelude.{◌≡◌, Some, IfOk};
-ghost use Rattle.std.specs.List.{All};
-ghost use Rattle.proof_trees.specs.Trees.{node, none};
-ghost use Rattle.arena_cells.specs.Standing.{Extends, HasSequent, HasTree, sequent_at, tree_at, IsSequentAt, IsTreeAt};
-ghost use Rattle.arena_cells.specs.Meaning.{rule_at, trees_at, HasRuleParts, HasPremises};
-ghost use Rattle.building_laws.specs.Lists.{conclusion as sequent_of};
-ghost use Rattle.building_laws.specs.Building.{build_each, build};
-ghost use Rattle.building_laws.specs.Buildable.{IsBuildable};
-ghost use Rattle.exp_to_lk.specs.Begun.{IsBegun};
-ghost use Rattle.exp_to_lk.specs.Dividing.{items_of, parts_each, IsAddedNumbered, ArePremisesNumbered};
-ghost use Rattle.exp_to_lk.specs.Leaves.{IsOpen};
-ghost use Rattle.exp_to_lk.specs.Numbered.{trees, IsNumbered};
-ghost use Rattle.exp_to_lk.specs.Putting.{put};
-ghost use Rattle.exp_to_lk.specs.Sides.{HasSides};
-ghost use Rattle.exp_to_lk.specs.Taking.{lists_over, IsRest};
+//! Proofs from expansion proofs.
+ghost use Rattle.std.specs.Prelude.{◌≡◌, ◌≢◌, IfOk, IfErr};
+ghost use Rattle.proof_trees.specs.Trees.{concl, IsValid, IsCutFree};
+ghost use Rattle.proof_graph.specs.Graphs.{IsOf, IsPassOf, history, Extends};
+ghost use Rattle.expansion_laws.specs.Proofs.{shallow_sequent};
+ghost use Rattle.exp_tree.specs.Reads.{expansion_of};
+ghost use Rattle.building_laws.specs.Budgets.{building};
+ghost use Rattle.exp_to_lk.specs.Building.{Builds};
 
-use crate::dividing::{Added, Premises};
-use crate::leaves::closing;
-use crate::lists::Rest;
-use crate::placed::PlacedExp;
-use crate::sides::{Sides, conclusion, rest_sides, with_added};
-use crate::steps::{Taken, take_step};
-use arena::{Arena, Parts, RuleKey};
-use arena_proofs::inference;
-use building_laws::laws;
-use std::alloc::{AllocError, Global};
+use arena::Arena;
+use arena_building::build_in;
+use arena_graph::{ProofNumbers, export_proof};
+use building_laws::BuildFault;
+use exp_tree::CheckedExp;
+use proof_graph::{Graph, GraphPass, ProofRef};
+use std::alloc::Global;
+use std::sync::Wait;
 
-// A premise that is begun.
-enum Begun {
-    /// The proof, by a rule without premises.
-    Closed(u32),
-    /// The sequent of a list whose leaves end no branch.
-    Open(u32),
-}
-
-// The proof by a rule without premises.
-fn close(arena: &mut Arena, alloc: Global, rule: RuleKey, end: u32) -> Result<u32, AllocError>
-    requires rule { HasRuleParts arena.old rule }
-    requires end { IsSequentAt arena.old end }
-    ensures tree { IfOk result (λ n. HasTree arena.new n (node (rule_at arena.old rule) (sequent_at arena.old end) none)) }
-    ensures grown { Extends arena.old arena.new }
-{
-    inference(arena, alloc, rule, end, Parts::Zero)
-}
-
-// The sequent of a list with trees that are added.
-fn conclusion_with(
-    arena: &mut Arena,
+/// Builds the proof without cuts of an expansion proof, from the conclusion upwards, after Miller (1987): its end sequent has the formulas
+/// of the trees. The budget bounds the number of inferences, each counted as often as it stands in the tree. They are counted before
+/// anything is built, and `Budget` is answered at the first one over it. The proof goes into the graph once it is built, so of all
+/// refusals only `Memory` may leave new nodes there.
+pub fn build<R: Wait>(
+    rt: &R,
     alloc: Global,
-    rest: &Rest<'_>,
-    sides: Sides,
-    added: &Added<'_>,
-) -> Result<u32, AllocError>
-    requires sides { HasSides arena.old sides (sequent_of (trees rest.now.list.items)) }
-    requires added { IsAddedNumbered arena.old added.now }
-    ensures sequent { IfOk result (λ n. HasSequent arena.new n (sequent_of (put (trees rest.now.list.items) rest.now.place (trees (items_of added.now))))) }
-    ensures grown { Extends arena.old arena.new }
+    graph: &Graph,
+    pass: &mut GraphPass,
+    exps: &CheckedExp,
+    budget: u64,
+) -> Result<ProofRef, BuildFault>
+    requires pass_of { IsPassOf graph.now pass.old }
+    // It is the proof that building makes, or there are more inferences than the budget allows, unless memory runs out.
+    ensures exact { Builds result (building (expansion_of exps.now) budget) }
+    ensures valid { IfOk result (λ r. IsValid r.tree) }
+    ensures cut_free { IfOk result (λ r. IsCutFree r.tree) }
+    ensures end { IfOk result (λ r. concl r.tree ≡ shallow_sequent (expansion_of exps.now)) }
+    ensures unchanged { IfErr result (λ e. e ≢ BuildFault.Memory → history pass.new ≡ history pass.old) }
+    ensures of { IfOk result (IsOf graph.now) }
+    ensures extends { Extends graph.now pass.old pass.new }
 {
-    let sides = with_added(arena, alloc, sides, added)?;
-    arena.put_sequent(alloc, sides.left, sides.right)
-}
-
-// Begins the premise with trees that are added to what stays of a list. Its proof is made where its leaves end the branch.
-fn begin(
-    arena: &mut Arena,
-    alloc: Global,
-    rest: &Rest<'_>,
-    sides: Sides,
-    added: &Added<'_>,
-) -> Result<Begun, AllocError>
-    requires rest { IsRest arena.old rest.now }
-    requires sides { HasSides arena.old sides (sequent_of (trees rest.now.list.items)) }
-    requires added { IsAddedNumbered arena.old added.now }
-    ensures begun { IfOk result (IsBegun arena.new (put (trees rest.now.list.items) rest.now.place (trees (items_of added.now)))) }
-    ensures grown { Extends arena.old arena.new }
-{
-    laws::taken();
-    laws::steps();
-    let end = conclusion_with(arena, alloc, rest, sides, added)?;
-    match added.closing(arena, alloc, &rest.list)? {
-        Some(rule) => Ok(Begun::Closed(close(arena, alloc, rule, end)?)),
-        None => Ok(Begun::Open(end)),
-    }
-}
-
-// The proof for a list whose leaves end no branch. The lists of the premises weigh less.
-#[cycle(build)]
-fn build_open(
-    arena: &mut Arena,
-    alloc: Global,
-    list: Vec<PlacedExp<'_>>,
-    end: u32,
-) -> Result<u32, AllocError>
-    requires buildable { IsBuildable (trees list.items) }
-    requires numbers { All (IsNumbered arena.old) list.items }
-    requires open_leaves { IsOpen (trees list.items) }
-    requires end { HasSequent arena.old end (sequent_of (trees list.items)) }
-    ensures tree { IfOk result (λ n. build (trees list.entry.items) ≡ Some (tree_at arena.new n)) }
-    ensures there { IfOk result (IsTreeAt arena.new) }
-    ensures grown { Extends arena.old arena.new }
-{
-    laws::lists();
-    laws::taken();
-    laws::steps();
-    let Some(taken) = take_step(arena, alloc, list)? else {
-        unreachable!()
+    let mut arena = Arena::new(alloc);
+    let built = match build_in(&mut arena, alloc, exps, budget) {
+        Ok(built) => built,
+        Err(fault) => return Err(fault),
     };
-    let Taken {
-        rule,
-        rest,
-        main,
-        premises,
-    } = taken;
-    let sides = rest_sides(arena, alloc, end, main, &rest.list)?;
-    let premises = build_premises(arena, alloc, rest, sides, premises)?;
-    inference(arena, alloc, rule, end, premises)
-}
-
-// The proofs for the lists of premises, one after the other.
-#[cycle(build)]
-fn build_premises(
-    arena: &mut Arena,
-    alloc: Global,
-    rest: Rest<'_>,
-    sides: Sides,
-    premises: Premises<'_>,
-) -> Result<Parts, AllocError>
-    requires buildable { All IsBuildable (lists_over rest (parts_each premises)) }
-    requires rest { IsRest arena.old rest }
-    requires sides { HasSides arena.old sides (sequent_of (trees rest.list.items)) }
-    requires premises { ArePremisesNumbered arena.old premises }
-    ensures trees { IfOk result (λ ps. build_each build (lists_over rest.entry (parts_each premises.entry)) ≡ Some (trees_at arena.new ps)) }
-    ensures there { IfOk result (HasPremises arena.new) }
-    ensures grown { Extends arena.old arena.new }
-{
-    match premises {
-        Premises::One(added) => { Ok(Parts::One(build_premise(arena, alloc, rest, sides, added)?)) }
-        Premises::Two(first, second) => {
-            let first = build_copied(arena, alloc, &rest, sides, first)?;
-            let second = build_premise(arena, alloc, rest, sides, second)?;
-            Ok(Parts::Two(first, second))
-        }
-    }
-}
-
-// The proof for the list of a premise. What stays of the list is moved into it.
-#[cycle(build)]
-fn build_premise<'e>(
-    arena: &mut Arena,
-    alloc: Global,
-    rest: Rest<'e>,
-    sides: Sides,
-    added: Added<'e>,
-) -> Result<u32, AllocError>
-    requires buildable { IsBuildable (put (trees rest.list.items) rest.place (trees (items_of added))) }
-    requires rest { IsRest arena.old rest }
-    requires sides { HasSides arena.old sides (sequent_of (trees rest.list.items)) }
-    requires added { IsAddedNumbered arena.old added }
-    ensures tree { IfOk result (λ n. build (put (trees rest.entry.list.items) rest.entry.place (trees (items_of added.entry))) ≡ Some (tree_at arena.new n)) }
-    ensures there { IfOk result (IsTreeAt arena.new) }
-    ensures grown { Extends arena.old arena.new }
-{
-    let begun = begin(arena, alloc, &rest, sides, &added)?;
-    let end = match begun {
-        Begun::Open(end) => end,
-        Begun::Closed(proof) => return Ok(proof),
-    };
-    let list = rest.with(added)?;
-    build_open(arena, alloc, list, end)
-}
-
-// The same, where what stays of the list is copied, unless the branch ends at once.
-#[cycle(build)]
-fn build_copied<'e>(
-    arena: &mut Arena,
-    alloc: Global,
-    rest: &Rest<'e>,
-    sides: Sides,
-    added: Added<'e>,
-) -> Result<u32, AllocError>
-    requires buildable { IsBuildable (put (trees rest.now.list.items) rest.now.place (trees (items_of added))) }
-    requires rest { IsRest arena.old rest.now }
-    requires sides { HasSides arena.old sides (sequent_of (trees rest.now.list.items)) }
-    requires added { IsAddedNumbered arena.old added }
-    ensures tree { IfOk result (λ n. build (put (trees rest.now.list.items) rest.now.place (trees (items_of added.entry))) ≡ Some (tree_at arena.new n)) }
-    ensures there { IfOk result (IsTreeAt arena.new) }
-    ensures grown { Extends arena.old arena.new }
-{
-    let begun = begin(arena, alloc, rest, sides, &added)?;
-    let end = match begun {
-        Begun::Open(end) => end,
-        Begun::Closed(proof) => return Ok(proof),
-    };
-    let list = rest.copy(alloc)?.with(added)?;
-    build_open(arena, alloc, list, end)
-}
-
-/// The proof that is built for a list.
-pub(crate) fn build_list(
-    arena: &mut Arena,
-    alloc: Global,
-    list: Vec<PlacedExp<'_>>,
-) -> Result<u32, AllocError>
-    requires buildable { IsBuildable (trees list.items) }
-    requires numbers { All (IsNumbered arena.old) list.items }
-    ensures tree { IfOk result (λ n. build (trees list.entry.items) ≡ Some (tree_at arena.new n)) }
-    ensures there { IfOk result (IsTreeAt arena.new) }
-    ensures grown { Extends arena.old arena.new }
-{
-    laws::taken();
-    laws::steps();
-    let end = conclusion(arena, alloc, &list)?;
-    match closing(arena, alloc, &list)? {
-        Some(rule) => close(arena, alloc, rule, end),
-        None => build_open(arena, alloc, list, end),
-    }
+    let mut numbers = ProofNumbers::new(alloc);
+    Ok(export_proof(rt, alloc, graph, pass, &arena, &mut numbers, built)?)
 }

@@ -1,19 +1,7 @@
-//! Proofs from expansion proofs, after Miller (1987).
+//! Proofs from expansion proofs, after Miller (1987): they are built in an arena, and put into a graph.
 #![tactic(auto)]
 
-mod added;
 mod building;
-mod counting;
-mod dividing;
-mod exporting;
-mod fault;
-mod instances;
-pub mod laws;
-mod leaves;
-mod lists;
-mod placed;
-mod sides;
-mod steps;
 
-pub use exporting::build;
-pub use fault::BuildFault;
+pub use building::build;
+pub use building_laws::BuildFault;

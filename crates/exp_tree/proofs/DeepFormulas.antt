@@ -7,7 +7,8 @@ use Rattle.fol.specs.Formed.{is_formed, is_formed_var, is_formed_term}
 use Rattle.lk_rules.specs.declared.sequent.Side.{Side}
 use Rattle.lk_rules.specs.declared.sequent.Side.TheVariants.{Left, Right}
 use Rattle.expansion_laws.specs.Expansions.{Exp, wk, leaf, neg, conj, disj, impl, weak, strong, Insts, none, more, turn, nothing_on, joined, deep, deep_first, deep_rest}
-use Rattle.exp_tree.specs.Sizes.{insts_nodes, is_formed_exp, are_formed_insts, IsProper}
+use Rattle.exp_tree.specs.Sizes.{insts_nodes}
+use Rattle.expansion_laws.specs.Formed.{is_formed_exp, are_formed_insts, IsProper}
 
 nothing_formed : (s : Side) → is_formed (nothing_on s) ≡ true
 nothing_formed Left = refl

@@ -21,7 +21,8 @@ use Rattle.expansion_laws.specs.Expansions.{Exp as Tree, wk, leaf, neg, conj, di
 use Rattle.expansion_laws.specs.Building.{is_quantified, is_instance, is_built, are_built, is_below}
 use Rattle.expansion_laws.specs.Proofs.{is_weak_on, is_strong_on, stands, stand_in}
 use Rattle.exp_tree.specs.Codes.{coded_exp}
-use Rattle.exp_tree.specs.Sizes.{exp_nodes, insts_nodes, is_formed_exp, are_formed_insts, IsProper}
+use Rattle.exp_tree.specs.Sizes.{exp_nodes, insts_nodes}
+use Rattle.expansion_laws.specs.Formed.{is_formed_exp, are_formed_insts, IsProper}
 use Rattle.exp_tree.specs.Shown.{insts_of}
 use Rattle.exp_tree.specs.FlatLists.{has_shape, tree_at, inst_at, tree_over, tree_fault, node_fault}
 use Rattle.exp_tree.specs.Subtrees.{same_tree, subtrees, subtrees_in, below, with_each}

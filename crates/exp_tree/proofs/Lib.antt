@@ -1,4 +1,3 @@
-pub mod Formulas
 pub mod InstanceFacts
 pub mod DeepFormulas
 pub mod Proper

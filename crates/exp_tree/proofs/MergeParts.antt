@@ -8,7 +8,7 @@ use Rattle.expansion_laws.specs.Expansions.{Exp as Tree, weak, strong, Insts, sh
 use Rattle.expansion_laws.specs.Building.{is_instance, is_below, is_built, are_built}
 use Rattle.expansion_laws.specs.Proofs.{is_strong_on, stands, stand_in}
 use Rattle.exp_tree.specs.declared.expansion.Inst.{Inst}
-use Rattle.exp_tree.specs.Sizes.{is_formed_exp, IsProper}
+use Rattle.expansion_laws.specs.Formed.{is_formed_exp, IsProper}
 use Rattle.exp_tree.specs.Shown.{insts_of}
 use Rattle.exp_tree.specs.Merging.{merged, merged_in, AtTerm, Agree, AgreeIn, CanMerge, CanMergeInsts}
 use Rattle.exp_tree.proofs.Merged.{one_instance, formed-merged, built-merged}

@@ -2,10 +2,9 @@
 use Rattle.std.proofs.Common.{◌≡◌, true, ◌&&◌, refl, sym, ap, ◌∙◌, subst}
 use Rattle.std.specs.declared.cmp.Ordering.{Ordering}
 use Rattle.std.specs.declared.cmp.Ordering.TheVariants.{Less, Equal, Greater}
-use Rattle.std.specs.Ordering.{ordering_reverse}
+use Rattle.std.specs.Ordering.{ordering_reverse, eq_by_cmp}
 use Rattle.std.proofs.lemmas.Bool.{and_parts}
 use Rattle.std.specs.Cmp.Derive.{both_true}
-use Rattle.std.specs.Ordering.{eq_by_cmp}
 use Rattle.std.specs.Cmp.{Equal-is}
 use Rattle.fol.specs.Syntax.{Term, free, Formula, not, and, or, imp, all, ex}
 use Rattle.fol.proofs.OrderTies.{term_ties, formula_ties}
@@ -17,7 +16,7 @@ use Rattle.lk_rules.specs.declared.sequent.Side.{Side}
 use Rattle.expansion_laws.specs.Expansions.{Exp as Tree, wk, neg, conj, disj, impl, weak, strong, Insts, none, more, shallow, turn}
 use Rattle.expansion_laws.specs.Building.{is_instance, is_less, is_below, is_quantified, is_built, are_built}
 use Rattle.expansion_laws.specs.Proofs.{is_weak_on, is_strong_on, stands, stand_in}
-use Rattle.exp_tree.specs.Sizes.{is_formed_exp, are_formed_insts}
+use Rattle.expansion_laws.specs.Formed.{is_formed_exp, are_formed_insts}
 use Rattle.exp_tree.specs.Merging.{by_order, among, merged, merged_in, AtTerm, Agree, AgreeIn}
 
 -- what holds in each of the three cases

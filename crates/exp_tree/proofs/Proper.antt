@@ -6,7 +6,7 @@ use Rattle.fol.specs.Formed.{is_formed, is_formed_var}
 use Rattle.fol.specs.declared.symbols.Var.{Var}
 use Rattle.expansion_laws.specs.Expansions.{Exp, conj, disj, impl, strong, shallow}
 use Rattle.expansion_laws.specs.Building.{is_instance}
-use Rattle.exp_tree.specs.Sizes.{IsProper}
+use Rattle.expansion_laws.specs.Formed.{IsProper}
 
 pub both_proper : (d e : Exp) → IsProper d → IsProper e → IsProper (conj d e) × IsProper (disj d e) × IsProper (impl d e)
 both_proper d e p q = (

@@ -9,7 +9,7 @@ use Rattle.fol.specs.Order.{term_cmp}
 use Rattle.finite.specs.Finite.{IsRising}
 use Rattle.expansion_laws.specs.Expansions.{Exp as Tree}
 use Rattle.expansion_laws.specs.Building.{is_built, are_built}
-use Rattle.exp_tree.specs.Sizes.{are_formed_insts}
+use Rattle.expansion_laws.specs.Formed.{are_formed_insts}
 use Rattle.exp_tree.specs.Shown.{insts_of}
 use Rattle.exp_tree.specs.Sorting.{placed, sorted}
 use Rattle.exp_tree.specs.FlatLists.{tree_over, inst_at, node_fault, IsFirstNodeFault}

@@ -5,7 +5,7 @@ use Rattle.finite.specs.Finite.{IsRising}
 use Rattle.fol.specs.Order.{formula_cmp}
 use Rattle.expansion_laws.specs.Expansions.{Exp as Tree, shallow}
 use Rattle.expansion_laws.specs.Building.{is_built}
-use Rattle.exp_tree.specs.Sizes.{is_formed_exp}
+use Rattle.expansion_laws.specs.Formed.{is_formed_exp}
 
 -- the trees are rightly built of what is well formed, and their formulas rise, so no two have the same
 pub record AreArranged (trees : List Tree) : Type 0 where

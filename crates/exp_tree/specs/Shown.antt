@@ -4,7 +4,8 @@ use Rattle.fol.specs.Syntax.{Formula}
 use Rattle.lk_rules.specs.declared.sequent.Side.TheVariants.{Left, Right}
 use Rattle.expansion_laws.specs.Expansions.{Exp as Tree, wk, leaf, neg, conj, disj, impl, weak, strong, Insts, none, more, shallow}
 use Rattle.expansion_laws.specs.Proofs.{stands, stand_in}
-use Rattle.exp_tree.specs.Sizes.{exp_nodes, insts_nodes, capped, IsProper}
+use Rattle.exp_tree.specs.Sizes.{exp_nodes, insts_nodes, capped}
+use Rattle.expansion_laws.specs.Formed.{IsProper}
 use Rattle.exp_tree.specs.declared.facts.Facts.{Facts}
 use Rattle.exp_tree.specs.declared.expansion.Inst.{Inst}
 use Rattle.exp_tree.specs.declared.expansion.ExpCell.{ExpCell}

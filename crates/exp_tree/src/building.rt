@@ -4,7 +4,7 @@ ghost use Rattle.fol.specs.Formed.{IsFormed, IsFormedVar};
 ghost use Rattle.fol.specs.Syntax.{free};
 ghost use Rattle.expansion_laws.specs.Expansions.{wk, leaf, neg, conj, disj, impl, weak, strong, shallow as formula_of};
 ghost use Rattle.expansion_laws.specs.Building.{is_flat, is_instance};
-ghost use Rattle.exp_tree.specs.Sizes.{IsProper};
+ghost use Rattle.expansion_laws.specs.Formed.{IsProper};
 ghost use Rattle.exp_tree.specs.Shown.{insts_of};
 
 use crate::expansion::{Exp, ExpRoot, Inst};

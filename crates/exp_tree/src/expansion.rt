@@ -4,7 +4,8 @@ ghost use Rattle.fol.specs.Formed.{IsFormed};
 ghost use Rattle.lk_rules.specs.declared.sequent.Side.TheVariants.{Left, Right};
 ghost use Rattle.expansion_laws.specs.Expansions.{shallow as formula_of};
 ghost use Rattle.expansion_laws.specs.Proofs.{stands as can_stand, is_weak_on, is_strong_on};
-ghost use Rattle.exp_tree.specs.Sizes.{exp_nodes, capped, IsProper};
+ghost use Rattle.exp_tree.specs.Sizes.{exp_nodes, capped};
+ghost use Rattle.expansion_laws.specs.Formed.{IsProper};
 ghost use Rattle.exp_tree.specs.Shown.{exp_of, insts_of, AreFacts, AreInstsFacts};
 
 use crate::facts::Facts;
@@ -111,7 +112,7 @@ impl Exp {
     }
 
     /// The formula of the tree. It is kept with the root, unless it is too large to be made.
-    #[tactic(auto, using(crate::proofs::Formulas::formula_formed))]
+    #[tactic(auto, using(expansion_laws::proofs::FormedFormulas::formula_formed))]
     pub fn shallow(&self) -> Result<Formula, AllocError>
         ensures value { IfOk result (λ f. f ≡ formula_of self.now) }
         ensures formed { IfOk result IsFormed }

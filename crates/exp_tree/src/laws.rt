@@ -4,7 +4,7 @@ ghost use Rattle.lk_rules.specs.declared.sequent.Side.{Side as Place};
 ghost use Rattle.expansion_laws.specs.Expansions.{Exp as Tree, shallow};
 ghost use Rattle.expansion_laws.specs.Proofs.{stands};
 ghost use Rattle.expansion_laws.specs.Dependency.{Expansion};
-ghost use Rattle.exp_tree.specs.Sizes.{IsProper};
+ghost use Rattle.expansion_laws.specs.Formed.{IsProper};
 ghost use Rattle.exp_tree.specs.Merging.{merged, CanMerge};
 ghost use Rattle.exp_tree.specs.FlatReading.{reading, IsReading, AreRight};
 ghost use Rattle.exp_tree.specs.Reads.{Reads};

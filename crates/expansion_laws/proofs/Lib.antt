@@ -4,3 +4,11 @@ pub mod Falsified
 pub mod Unquantified
 pub mod Chains
 pub mod Ranks
+pub mod FormedFormulas
+pub mod Times
+pub mod Found
+pub mod Shortcuts
+pub mod CycleLaws
+pub mod Conditions
+pub mod LeastLaws
+pub mod CheckLaws

@@ -4,3 +4,7 @@ pub mod Dependency
 pub mod Helping
 pub mod Sequents
 pub mod Proofs
+pub mod Formed
+pub mod Eigenvariables
+pub mod Cycles
+pub mod Checking

@@ -1,4 +1,7 @@
 //! Expansion trees and expansion proofs, after Miller (1987), and the laws of them.
 #![tactic(auto)]
 
+mod fault;
 pub mod laws;
+
+pub use fault::ExpFault;

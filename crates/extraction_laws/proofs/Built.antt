@@ -11,7 +11,7 @@ use Rattle.finite.proofs.Finite.{listing_rises}
 use Rattle.lk_rules.specs.declared.sequent.Side.{Side}
 use Rattle.lk_rules.specs.declared.sequent.Side.TheVariants.{Left, Right}
 use Rattle.lk_rules.proofs.Subsequents.{and_both}
-use Rattle.refutations.proofs.FormulaSets.{tied}
+use Rattle.proof_trees.proofs.FormulaSets.{tied}
 use Rattle.expansion_laws.specs.Expansions.{Exp, wk, leaf, shallow}
 use Rattle.expansion_laws.specs.Building.{is_instance, is_less, is_below, is_quantified, is_built, are_built}
 use Rattle.expansion_laws.specs.Proofs.{is_weak_on, is_strong_on, stands, stand_in}

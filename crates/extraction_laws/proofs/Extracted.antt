@@ -21,7 +21,7 @@ use Rattle.lk_rules.proofs.Subsequents.{and_left, and_right, and_both}
 use Rattle.proof_trees.specs.Trees.{Tree, node, concl, IsValid, IsCutFree}
 use Rattle.proof_trees.specs.Occurrence.{has_body_in_sequent}
 use Rattle.proof_trees.proofs.Booleans.{or_first, or_second, either}
-use Rattle.refutations.proofs.FormulaSets.{tied}
+use Rattle.proof_trees.proofs.FormulaSets.{tied}
 use Rattle.search_laws.proofs.Tests.{clash, fails}
 use Rattle.expansion_laws.specs.Expansions.{Exp, shallow}
 use Rattle.expansion_laws.specs.Building.{is_built}

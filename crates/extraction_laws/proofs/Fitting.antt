@@ -24,7 +24,7 @@ use Rattle.lk_rules.specs.Sequents.{side_of, is_free_in_sequent}
 use Rattle.lk_rules.specs.Rules.{is_unfolding_rule, aux, main_stands, eigen_free, IsWithin}
 use Rattle.proof_trees.specs.Trees.{is_cut}
 use Rattle.cut_laws.proofs.Sides.{alone, clash, old_or_added, out_of_side}
-use Rattle.refutations.proofs.FormulaSets.{equal}
+use Rattle.proof_trees.proofs.FormulaSets.{equal}
 use Rattle.search_laws.proofs.Searched.{alone_left, alone_right}
 use Rattle.search_laws.proofs.Tests.{split}
 use Rattle.extraction_laws.specs.Addresses.{Address, part, via, part_formula, part_side, body_of}

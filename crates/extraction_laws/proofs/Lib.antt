@@ -23,3 +23,4 @@ pub mod Again
 pub mod Contexts
 pub mod Read
 pub mod Examples
+pub mod ExtractionOrder

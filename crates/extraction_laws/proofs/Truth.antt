@@ -26,7 +26,7 @@ use Rattle.proof_trees.proofs.Booleans.{or_first, or_second}
 use Rattle.proof_trees.proofs.Verdicts.{row_of_verdict}
 use Rattle.proof_trees.proofs.WithoutBodies.{plain_nodes}
 use Rattle.cut_laws.proofs.Cuts.{AllWithin, Premises, premises_of}
-use Rattle.refutations.proofs.FormulaSets.{equal}
+use Rattle.proof_trees.proofs.FormulaSets.{equal}
 use Rattle.search_laws.specs.Truth.{Assignment, IsTautology}
 use Rattle.search_laws.proofs.Tests.{not_true}
 use Rattle.expansion_laws.specs.Expansions.{Exp}

@@ -1,5 +1,5 @@
 //! The laws of extraction. Each function does nothing: its contract is the law.
-ghost use Rattle.std.specs.Prelude.{◌≡◌, ◌<◌, ℕ, suc, true, false, List, length, map};
+ghost use Rattle.std.specs.Prelude.{◌≡◌, ◌<◌, ℕ, suc, true, false, List, length, map, ◌≤◌, Ok};
 ghost use Rattle.std.specs.FinMap as fin;
 ghost use Rattle.std.specs.List.{list_any};
 ghost use Rattle.std.specs.Ordering.{eq_by_cmp};
@@ -17,7 +17,7 @@ ghost use Rattle.lk_rules.specs.declared.sequent.Side.TheVariants.{Left, Right};
 ghost use Rattle.lk_rules.specs.declared.rule.Rule.{Rule as Inference};
 ghost use Rattle.lk_rules.specs.Sequents.{side_of};
 ghost use Rattle.lk_rules.specs.Rules.{is_unfolding_rule, main_stands, eigen_free, IsWithin};
-ghost use Rattle.proof_trees.specs.Trees.{Tree as Proof, node, Trees as Proofs, none, more, concl, is_cut, IsValid, IsCutFree};
+ghost use Rattle.proof_trees.specs.Trees.{Tree as Proof, node, none, more, concl, is_cut, IsValid, IsCutFree, size};
 ghost use Rattle.proof_trees.specs.Occurrence.{has_body_in_sequent};
 ghost use Rattle.expansion_laws.specs.Expansions.{wk, leaf, neg, conj, disj, impl, shallow};
 ghost use Rattle.expansion_laws.specs.Building.{is_flat};
@@ -26,6 +26,8 @@ ghost use Rattle.extraction_laws.specs.Addresses.{Address, root, part, via, is_l
 ghost use Rattle.extraction_laws.specs.States.{State, nth_outside, number_of, opened, instantiated, named, Includes, variable_at, terms_at, weak_at, strong_at, tree_at};
 ghost use Rattle.extraction_laws.specs.Extraction.{paired, Context, met, inner_context, inner_map, inner_variable, walked, extracted};
 ghost use Rattle.extraction_laws.specs.Images.{HaveImages};
+ghost use Rattle.expansion_laws.specs.Dependency.{Expansion};
+ghost use Rattle.extraction_laws.specs.Extracting.{extracting};
 
 /// The trees that are extracted are of the formulas of the proof's conclusion, in the same order.
 pub fn formulas()
@@ -101,4 +103,14 @@ pub fn trees()
     ensures universal_right { (vs : List Variable) (x : State) (a : Address) (f : Formula) → set.has x.opened a ≡ true → formula_at a ≡ all f → side_at a ≡ Right → tree_at vs x a ≡ strong_at vs x a (λ t. tree_at vs x (via a t)) }
     ensures existential_left { (vs : List Variable) (x : State) (a : Address) (f : Formula) → set.has x.opened a ≡ true → formula_at a ≡ ex f → side_at a ≡ Left → tree_at vs x a ≡ strong_at vs x a (λ t. tree_at vs x (via a t)) }
     ensures existential_right { (vs : List Variable) (x : State) (a : Address) (f : Formula) → set.has x.opened a ≡ true → formula_at a ≡ ex f → side_at a ≡ Right → tree_at vs x a ≡ weak_at x a (λ t. tree_at vs x (via a t)) }
+{}
+
+/// What isn't refused is the expansion of a proof without cuts, in whose end sequent no symbol has a body and whose tree is within the
+/// budget. It is an expansion proof of the end sequent, if the proof is valid.
+pub fn extractions()
+    ensures expansion { (t : Proof) (n : ℕ) (x : Expansion) → extracting t n ≡ Ok x → x ≡ extracted t }
+    ensures proof { (t : Proof) (n : ℕ) (x : Expansion) → IsValid t → extracting t n ≡ Ok x → IsExpansionProof x (concl t) }
+    ensures cut_free { (t : Proof) (n : ℕ) (x : Expansion) → extracting t n ≡ Ok x → IsCutFree t }
+    ensures bodies { (t : Proof) (n : ℕ) (x : Expansion) → extracting t n ≡ Ok x → has_body_in_sequent (concl t) ≡ false }
+    ensures budget { (t : Proof) (n : ℕ) (x : Expansion) → extracting t n ≡ Ok x → size t ≤ n }
 {}

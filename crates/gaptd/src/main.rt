@@ -1,7 +1,7 @@
 //! The program: its words, standard input, standard output and standard error, handed to the server.
 #![tactic(auto)]
 
-use edge_io::{StdSink, StdSource};
+use edge_io::{StdSink, StdSource, write_whole};
 use proof_server::{NoGate, top};
 use std::alloc::AllocError;
 use std::env;
@@ -41,21 +41,28 @@ fn no_word(rt: &HostRuntime) -> Result<Vec<String>, AllocError> {
     Ok(words)
 }
 
-/// Runs the server in a thread with a stack as large as the system gives, or here where it gives no such thread.
+/// Ends where memory ran out before the server was run, as it ends where that is so later.
+fn end_without_memory(rt: &HostRuntime) -> ExitCode {
+    let _ = write_whole(&mut StdSink::new(rt.stderr()), b"gaptd: out of memory\n");
+    ExitCode::from(5)
+}
+
+/// Runs the server in a thread with a stack as large as the system gives. Where it gives no such thread, memory has run out: this one's stack
+/// may not have the room for proofs with some thousand inferences above one another.
 fn main(rt: HostRuntime) -> ExitCode {
     let words = match words(&rt) {
         Ok(words) => words,
         Err(error) if error.kind() == ErrorKind::InvalidData => match no_word(&rt) {
             Ok(words) => words,
-            Err(_) => return ExitCode::from(5),
+            Err(_) => return end_without_memory(&rt),
         },
-        Err(_) => return ExitCode::from(5),
+        Err(_) => return end_without_memory(&rt),
     };
     let alloc = rt.alloc();
     let mut source = StdSource::new(rt.stdin());
     let mut sink = match BufWriter::with_capacity(alloc, OUTPUT_SIZE, rt.stdout()) {
         Ok(writer) => StdSink::new(writer),
-        Err(_) => return ExitCode::from(5),
+        Err(_) => return end_without_memory(&rt),
     };
     let mut notes = StdSink::new(rt.stderr());
     let mut serve = move || top(
@@ -76,5 +83,5 @@ fn main(rt: HostRuntime) -> ExitCode {
             Err(error) => serve = error.value,
         }
     }
-    ExitCode::from(serve())
+    end_without_memory(&rt)
 }

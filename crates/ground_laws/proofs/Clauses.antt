@@ -15,8 +15,9 @@ use Rattle.lk_rules.specs.Formulas.{FormulaSet}
 use Rattle.lk_rules.specs.Sequents.{empty, adds_to, is_subsequent, IsSubsequent}
 use Rattle.lk_rules.proofs.Subsequents.{is_subsequent_of}
 use Rattle.proof_trees.proofs.Booleans.{or_first, or_second, either}
-use Rattle.refutations.specs.Refutations.{without, resolvent}
-use Rattle.refutations.proofs.FormulaSets.{equal, tied, same_sets, in_first, in_second, in_either, without_member}
+use Rattle.proof_trees.specs.FormulaSets.{without}
+use Rattle.refutations.specs.Refutations.{resolvent}
+use Rattle.proof_trees.proofs.FormulaSets.{equal, tied, same_sets, in_first, in_second, in_either, without_member}
 use Rattle.ground_laws.specs.Models.{satisfies}
 
 pub split : {P : Type 0} (b : Bool) → (b ≡ true → P) → (b ≡ false → P) → P

@@ -21,7 +21,7 @@ use Rattle.proof_trees.proofs.Booleans.{or_first, or_second, either}
 use Rattle.refutations.specs.declared.step.ResCause.{ResCause}
 use Rattle.refutations.specs.declared.step.ResCause.TheVariants.{AtomMissing}
 use Rattle.refutations.specs.Refutations.{resolvent}
-use Rattle.refutations.proofs.FormulaSets.{equal, tied, stays, added}
+use Rattle.proof_trees.proofs.FormulaSets.{equal, tied, stays, added}
 use Rattle.ground_laws.specs.declared.step.SatStep.TheVariants.{Resolve}
 use Rattle.ground_laws.specs.Models.{satisfies, occurs, IsModel}
 use Rattle.ground_laws.specs.Steps.{referred, resolved_on, derives}

@@ -16,7 +16,7 @@ use Rattle.lk_rules.specs.Formulas.{FormulaSet}
 use Rattle.lk_rules.specs.Sequents.{empty, adds_to}
 use Rattle.proof_trees.proofs.Booleans.{or_first, or_second, either}
 use Rattle.refutations.specs.Refutations.{resolvent}
-use Rattle.refutations.proofs.FormulaSets.{equal, added}
+use Rattle.proof_trees.proofs.FormulaSets.{equal, added}
 use Rattle.ground_laws.specs.declared.step.SatStep.TheVariants.{Input, Resolve}
 use Rattle.ground_laws.specs.Models.{satisfies, occurs, IsModel}
 use Rattle.ground_laws.specs.Steps.{IsRefutation}

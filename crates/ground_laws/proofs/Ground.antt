@@ -10,8 +10,9 @@ use Rattle.finite.specs.Finite as set
 use Rattle.finite.proofs.Finite.{has-listing}
 use Rattle.lk_rules.specs.declared.sequent.Sequent.{Sequent}
 use Rattle.proof_trees.proofs.Booleans.{or_first, or_second, either}
-use Rattle.refutations.specs.Clauses.{is_atom, is_clause, literals_of}
-use Rattle.refutations.proofs.FormulaSets.{equal, tied}
+use Rattle.proof_trees.specs.FormulaSets.{is_atom}
+use Rattle.refutations.specs.Clauses.{is_clause, literals_of}
+use Rattle.proof_trees.proofs.FormulaSets.{equal, tied}
 use Rattle.ground_laws.specs.Models.{is_ground_atom, is_ground, occurs}
 use Rattle.ground_laws.proofs.Clauses.{among}
 use Rattle.ground_laws.proofs.Literals.{each_literal}

@@ -8,8 +8,9 @@ use Rattle.fol.specs.OrderLaws.{formula_total}
 use Rattle.finite.specs.Finite as set
 use Rattle.finite.proofs.Finite.{has-empty, has-adds}
 use Rattle.proof_trees.proofs.Booleans.{or_first, or_second, either}
-use Rattle.refutations.specs.Clauses.{is_atom, is_clause, literals_of}
-use Rattle.refutations.proofs.FormulaSets.{equal, in_either}
+use Rattle.proof_trees.specs.FormulaSets.{is_atom}
+use Rattle.refutations.specs.Clauses.{is_clause, literals_of}
+use Rattle.proof_trees.proofs.FormulaSets.{equal, in_either}
 
 no_member : {P : Type 0} (q : Formula) → set.has (set.empty {R = formula_cmp}) q ≡ true → P
 no_member q m = absurd (both_ways (set.has (set.empty {R = formula_cmp}) q) (has-empty formula_cmp q) m)

@@ -15,8 +15,9 @@ use Rattle.lk_rules.proofs.Subsequents.{sequents_equality_same}
 use Rattle.proof_trees.proofs.Booleans.{or_first, or_second, either}
 use Rattle.refutations.specs.declared.step.ResCause.{ResCause}
 use Rattle.refutations.specs.declared.step.ResCause.TheVariants.{AtomMissing, NotEmpty}
-use Rattle.refutations.specs.Refutations.{without, resolvent}
-use Rattle.refutations.proofs.FormulaSets.{equal, in_either}
+use Rattle.proof_trees.specs.FormulaSets.{without}
+use Rattle.refutations.specs.Refutations.{resolvent}
+use Rattle.proof_trees.proofs.FormulaSets.{equal, in_either}
 use Rattle.ground_laws.specs.declared.step.SatStep.{SatStep}
 use Rattle.ground_laws.specs.declared.step.SatStep.TheVariants.{Input, Resolve}
 use Rattle.ground_laws.specs.Models.{satisfies, occurs, IsModel}

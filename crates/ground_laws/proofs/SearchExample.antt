@@ -16,7 +16,7 @@ use Rattle.lk_rules.specs.Sequents.{empty, adds_to, is_subsequent}
 use Rattle.lk_rules.proofs.Subsequents.{subsequent_of, is_subsequent_of}
 use Rattle.proof_trees.proofs.Booleans.{either}
 use Rattle.refutations.specs.Refutations.{resolvent}
-use Rattle.refutations.proofs.FormulaSets.{equal, added}
+use Rattle.proof_trees.proofs.FormulaSets.{equal, added}
 use Rattle.ground_laws.specs.declared.step.SatStep.TheVariants.{Input, Resolve}
 use Rattle.ground_laws.specs.Deciding.{inputs, with_step, one_later, first_false, Choice, chosen, others_than, Outcome, conflict, after_false, after_true, branch, by_atoms, by_conflict, search_from, atoms_of, refuting, answer_of, decide}
 use Rattle.ground_laws.proofs.Clauses.{among}

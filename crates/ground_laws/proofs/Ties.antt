@@ -20,7 +20,7 @@ use Rattle.refutations.specs.declared.step.ResCause.TheVariants.{AtomMissing, No
 use Rattle.refutations.specs.Clauses.{is_clause, literals_of, IsClauseOf, closure_of, closures}
 use Rattle.refutations.specs.DerivedSteps.{resolved}
 use Rattle.refutations.specs.Refutations as res
-use Rattle.refutations.proofs.FormulaSets.{tied}
+use Rattle.proof_trees.proofs.FormulaSets.{tied}
 use Rattle.refutations.proofs.Refuting.{end_of_refutation, valid_refutation}
 use Rattle.refutations.specs.Refutations.{Derived, of_input, resolvent, refutation, IsFormedStep, AreFormedSteps}
 use Rattle.ground_laws.specs.declared.step.SatStep.{SatStep}

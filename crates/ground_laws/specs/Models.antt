@@ -12,7 +12,7 @@ use Rattle.fol.specs.Facts.{is_open}
 use Rattle.finite.specs.Finite as set
 use Rattle.lk_rules.specs.declared.sequent.Sequent.{Sequent}
 use Rattle.lk_rules.specs.Formulas.{FormulaSet}
-use Rattle.refutations.specs.Clauses.{is_atom}
+use Rattle.proof_trees.specs.FormulaSets.{is_atom}
 
 -- an atom in which no variable stands
 abbrev pub is_ground_atom : Formula → Bool

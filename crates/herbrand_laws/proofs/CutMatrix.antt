@@ -1,10 +1,10 @@
 -- The formula under the quantifier of a cut: what it says, and what it says of a term.
-use Rattle.std.proofs.Common.{◌≡◌, ℕ, max, Bool, true, false, not as negated, ◌&&◌, ◌==◌, List, [], ◌∷◌, ◌++◌, map, get_or, unwrap_or, refl, sym, ap, ◌∙◌}
+use Rattle.std.proofs.Common.{◌≡◌, ℕ, max, Bool, true, false, not as negated, ◌&&◌, ◌==◌, if◌then◌else◌, List, [], ◌∷◌, ◌++◌, map, get_or, unwrap_or, refl, sym, ap, ◌∙◌}
 use Rattle.std.specs.List.{All, list_all, list_any}
 use Rattle.std.specs.FinMap as fin
 use Rattle.std.proofs.Math.Bool.{not-not}
 use Rattle.std.proofs.lemmas.List.{map-append}
-use Rattle.std.proofs.lemmas.List.Elements.{All-head, All-tail, All-map, All-weaker, All-filter}
+use Rattle.std.proofs.lemmas.List.Elements.{All-nil, All-head, All-tail, All-map, All-weaker, All-filter}
 use Rattle.std.proofs.lemmas.List.Sums.{AllPass-from_list_all, list_all-from_AllPass}
 use borrow.Author.Tests.{eqb-true}
 use Rattle.fol.specs.declared.symbols.Sym.{Sym}
@@ -30,7 +30,7 @@ use Rattle.search_laws.proofs.Tests.{neither, not-or, not_true, not_false}
 use Rattle.expansion_laws.specs.Helping.{helps}
 use Rattle.herbrand_laws.specs.Herbrand.{is_prenex, instance_of, matrix_instance, Item, quantifiers}
 use Rattle.herbrand_laws.specs.Patterns.{put, TermSet}
-use Rattle.herbrand_laws.specs.Candidates.{patterns, rest}
+use Rattle.herbrand_laws.specs.Candidates.{patterns, uncovered, rest}
 use Rattle.herbrand_laws.specs.Introduction.{Instance, by_tuple, instances_by, matrix_of, assumed, chained, conjunction, instances_at, matrix_at}
 use Rattle.herbrand_laws.proofs.Lists.{all-flat_map}
 use Rattle.herbrand_laws.proofs.Matrices.{matrix_plain}
@@ -209,15 +209,22 @@ module _ (y : Var) (s : Sequent) (formed_y : is_formed_var y ≡ true) where
       items h)
 
   -- and those of the tuples that aren't covered
-  pub rest_are : (width : ℕ) (items : List Item) → All (IsItem y s) items → (w : TermSet) → All (IsInstance s) (instances_by (rest width w) items)
-  rest_are width items h w =
-      all_instances y s (rest width w) items
-      (All-weaker (IsItem y s) (λ i. All (λ us. IsInstance s (by_tuple i us)) (rest width w i))
-      (λ i item.
+
+  uncovered_are : (width : ℕ) (w : TermSet) (i : Item) → IsItem y s i → All (λ us. IsInstance s (by_tuple i us)) (uncovered width w i)
+  uncovered_are width w i item =
       All-filter _ (λ us. IsInstance s (by_tuple i us)) i.tuples
       (All-weaker (Fits y (quantifiers i)) (λ us. IsInstance s (by_tuple i us))
-      (λ us f. record { stands = item.stands; prenex = item.prenex; counted = f.counted; formed = item.formed; terms = f.formed }) i.tuples item.fits))
-      items h)
+      (λ us f. record { stands = item.stands; prenex = item.prenex; counted = f.counted; formed = item.formed; terms = f.formed }) i.tuples item.fits)
+
+  rest_of_item : (width : ℕ) (w : TermSet) (i : Item) → IsItem y s i → All (λ us. IsInstance s (by_tuple i us)) (rest width w i)
+  rest_of_item width w i item = elim (quantifiers i == 0) as (λ b. All (λ us. IsInstance s (by_tuple i us)) (if b then [] else uncovered width w i)) [
+    | true ↦ All-nil _
+    | false ↦ uncovered_are width w i item
+  ]
+
+  pub rest_are : (width : ℕ) (items : List Item) → All (IsItem y s) items → (w : TermSet) → All (IsInstance s) (instances_by (rest width w) items)
+  rest_are width items h w =
+      all_instances y s (rest width w) items (All-weaker (IsItem y s) (λ i. All (λ us. IsInstance s (by_tuple i us)) (rest width w i)) (rest_of_item width w) items h)
 
   -- a term for the variable in the matrix is one for the variable of the patterns
   module _ (out : is_free_in_sequent y s ≡ false) (t : Term) (formed_t : is_formed_term t ≡ true) where

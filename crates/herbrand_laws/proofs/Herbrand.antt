@@ -22,7 +22,7 @@ use Rattle.lk_rules.proofs.Subsequents.{and_left, and_right, and_both}
 use Rattle.proof_trees.specs.Occurrence.{has_body_in_sequent}
 use Rattle.proof_trees.proofs.Booleans.{or_first, or_second, either, or_more}
 use Rattle.proof_trees.proofs.Members.{from_some}
-use Rattle.refutations.proofs.FormulaSets.{equal}
+use Rattle.proof_trees.proofs.FormulaSets.{equal}
 use Rattle.search_laws.specs.Truth.{Assignment, value, has_quantifier, IsPropositional, falsifies, IsTautology}
 use Rattle.search_laws.proofs.Listed.{among, member_passes, among_first, among_later, added, old_or_added}
 use Rattle.search_laws.proofs.Tests.{clash, fails, not_true, not_false}

@@ -55,10 +55,15 @@ weak_front Right (ex f) n e = refl
 weak_front s f n e = absurd (omega arith)
 
 -- one that has none in front has none at all
-plain_without : (s : Side) (f : Formula) → 0 ≡ prefix s f → is_prenex s f ≡ true → has_quantifier f ≡ false
+pub plain_without : (s : Side) (f : Formula) → 0 ≡ prefix s f → is_prenex s f ≡ true → has_quantifier f ≡ false
 plain_without Left (all f) e h = absurd (omega arith)
 plain_without Right (ex f) e h = absurd (omega arith)
 plain_without s f e h = not_true (has_quantifier f) (and_left (negated (has_quantifier f)) (negated (has_body f)) h)
+
+-- which is its own matrix instance
+pub own_instance : (us : Terms) (f : Formula) → count_terms us ≡ 0 → matrix_instance us f ≡ f
+own_instance nil f e = refl
+own_instance (cons t us) f e = absurd (omega arith)
 
 -- no predicate symbol of a formula that is weak quantifiers over such a matrix has a body
 pub prenex_no_body : (s : Side) (f : Formula) → is_prenex s f ≡ true → has_body f ≡ false

@@ -16,7 +16,7 @@ use Rattle.lk_rules.specs.declared.sequent.Side.TheVariants.{Left, Right}
 use Rattle.lk_rules.specs.Formulas.{FormulaSet}
 use Rattle.lk_rules.specs.Sequents.{IsSubsequent}
 use Rattle.lk_rules.proofs.Subsequents.{and_left, and_right, and_both}
-use Rattle.refutations.proofs.FormulaSets.{equal}
+use Rattle.proof_trees.proofs.FormulaSets.{equal}
 use Rattle.search_laws.specs.Truth.{has_quantifier, IsPropositional}
 use Rattle.search_laws.proofs.Found.{are_formed}
 use Rattle.search_laws.proofs.Listed.{among, added, old_or_added}

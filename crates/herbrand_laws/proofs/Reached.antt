@@ -9,7 +9,7 @@ use Rattle.lk_rules.specs.declared.sequent.Side.TheVariants.{Left, Right}
 use Rattle.lk_rules.proofs.Subsequents.{and_left, and_right, and_both}
 use Rattle.proof_trees.proofs.Booleans.{or_first, or_second, either}
 use Rattle.cut_laws.proofs.Sides.{neither_first, neither_second}
-use Rattle.refutations.proofs.FormulaSets.{equal}
+use Rattle.proof_trees.proofs.FormulaSets.{equal}
 use Rattle.search_laws.specs.Truth.{Assignment, has_quantifier}
 use Rattle.search_laws.proofs.Tests.{clash, not_true}
 use Rattle.expansion_laws.specs.Expansions.{Exp, wk, leaf, neg, conj, disj, impl, weak, strong, Insts, none, more, shallow, turn}

@@ -1,10 +1,11 @@
 -- The two searches of an introduction succeed: what is searched are tautologies of well-formed formulas.
-use Rattle.std.proofs.Common.{◌≡◌, ℕ, Bool, true, false, not as negated, ◌&&◌, List, [], ◌∷◌, map, get_or, refl, sym, ap, subst, ◌∙◌}
+use Rattle.std.proofs.Common.{◌≡◌, ℕ, Bool, true, false, not as negated, ◌&&◌, ◌==◌, if◌then◌else◌, List, [], ◌∷◌, map, get_or, refl, sym, ap, subst, ◌∙◌}
 use Rattle.std.specs.List.{All, list_all, list_any}
 use Rattle.std.specs.Ordering.{eq_by_cmp}
 use Rattle.std.proofs.lemmas.List.Elements.{All-nil, All-cons, All-head, All-tail}
 use Rattle.std.proofs.lemmas.List.Folds.{list_any-append}
 use Rattle.std.proofs.lemmas.List.Sums.{AllPass-from_list_all}
+use borrow.Author.Tests.{eqb-true}
 use Rattle.fol.specs.declared.symbols.Var.{Var}
 use Rattle.fol.specs.Syntax.{Term, free, Terms, Formula, all}
 use Rattle.fol.specs.Order.{terms_cmp}
@@ -25,18 +26,21 @@ use Rattle.lk_rules.proofs.Subsequents.{and_left, and_right, and_both}
 use Rattle.proof_trees.proofs.Booleans.{or_first, or_second, either}
 use Rattle.proof_trees.proofs.Members.{from_some, some_passes}
 use Rattle.cut_laws.proofs.Sides.{within_added, within_extended, neither_first, neither_second, alone}
-use Rattle.refutations.proofs.FormulaSets.{equal}
+use Rattle.proof_trees.proofs.FormulaSets.{equal}
 use Rattle.search_laws.specs.Truth.{Assignment, falsifies, IsTautology}
 use Rattle.search_laws.proofs.Found.{are_formed}
 use Rattle.search_laws.proofs.Listed.{among_first, added, old_or_added, all-adds_each}
 use Rattle.search_laws.proofs.Tests.{split, clash, fails, neither, not_false}
-use Rattle.herbrand_laws.specs.Herbrand.{Item}
+use Rattle.expansion_laws.specs.Helping.{helps}
+use Rattle.herbrand_laws.specs.Herbrand.{Item, quantifiers}
 use Rattle.herbrand_laws.specs.Patterns.{put, TermSet}
-use Rattle.herbrand_laws.specs.Candidates.{patterns, is_covered, rest}
+use Rattle.herbrand_laws.specs.Candidates.{patterns, is_covered, uncovered, rest}
 use Rattle.herbrand_laws.specs.Introduction.{Instance, by_tuple, instances_by, matrix_of, instances_at, matrix_at, cut_variable, cut_matrix, cut_formula, rules_for, left_rules, right_rules, end_after, left_search, right_search}
 use Rattle.herbrand_laws.proofs.Lists.{any-map, any_more, from_any, any_swapped, any_divided}
+use Rattle.herbrand_laws.proofs.Matrices.{plain_without, own_instance}
 use Rattle.herbrand_laws.proofs.Reached.{some_tuple_helps}
 use Rattle.herbrand_laws.proofs.Herbrand.{helped_member}
+use Rattle.herbrand_laws.proofs.Rows.{Fits}
 use Rattle.herbrand_laws.proofs.RulesOver.{Stands, member, through, IsStep, AreSteps, after_formed, after_larger, after-append, steps_append}
 use Rattle.herbrand_laws.proofs.Instances.{IsInstance, AllStand, weak_step, instances_steps}
 use Rattle.herbrand_laws.proofs.CutMatrix.{instance_helps, value-matrix, instance_plain, IsItem, instances_at_are, rest_are}
@@ -192,11 +196,18 @@ module _ (s : Sequent) (formed : are_formed s ≡ true) (items : List Item) (are
         (subst (λ g. Stands right_above Left g) (cut_instance y s formed_y out items are width w t f) (above_values.1 k d l))))
         (matrix_plain_at y s formed_y out items are width w t f)
 
-    -- and so does the instance by each tuple that isn't covered
+    -- so does the instance by each tuple of the rest
     rest_stand : All (λ j. Stands (right_search width s items w) j.side (matrix_of j)) right_instances
     rest_stand k d l =
         let j = get_or right_instances k d in
         plain_stands right_top j.side (matrix_of j) (subst (λ q. Stands q j.side (matrix_of j)) same_top (above_right.1 k d l)) (instance_plain s j (rest_are y s formed_y width items are w k d l))
+
+    -- and so does each formula without quantifiers
+    plain_stand : (i : Item) → IsItem y s i → quantifiers i ≡ 0 → Stands (right_search width s items w) i.side i.formula
+    plain_stand i item none =
+        plain_stands right_top i.side i.formula
+        (member s right_top (through s right_end right_top (within_added Left s (cut_formula width s items w)) (after_larger (right_rules width s items w) right_end)) i.side i.formula item.stands)
+        (plain_without i.side i.formula (sym none) item.prenex)
 
 -- the tuples of an item, and what covers them
 
@@ -223,15 +234,24 @@ each_helps q pick (i ∷ items) =
     (λ k d l e. whole ∙ or_second (list_any q (map (by_tuple i) (pick i))) _ (each_helps q pick items k d l e))
 
 module _ (s : Sequent) (formed : are_formed s ≡ true) (items : List Item) (are : All (IsItem (cut_variable s items) s) items) (width : ℕ) (w : TermSet) (values : list_all is_formed_term (set.listing w) ≡ true) where
-  item_helps : (a : Assignment) (i : Item)
+  -- where an instance of a formula without quantifiers helps, the formula does
+  plain_helps : (a : Assignment) (i : Item) → IsItem (cut_variable s items) s i → quantifiers i ≡ 0 → some_tuple_helps a i.side i.formula i.tuples ≡ true → falsifies a (right_search width s items w) ≡ false
+  plain_helps a i item none =
+      from_any (Fits (cut_variable s items) (quantifiers i)) (λ us. instance_helps a (by_tuple i us)) i.tuples item.fits
+      (λ us fits e.
+      helped_member a (right_search width s items w) i.side i.formula (plain_stand s formed items are width w values i item none)
+      (ap (helps a i.side) (sym (own_instance us i.formula (fits.counted ∙ none))) ∙ e))
+
+  -- where one of a formula with quantifiers helps, so does one by a pattern with some value, or one of the rest
+  quantified_helps : (a : Assignment) (i : Item)
       → ((t : Term) → list_any (λ us. instance_helps a (by_tuple i us)) (map (λ p. put p t) (patterns width w i)) ≡ true → list_any (instance_helps a) (instances_at width items w t) ≡ true)
-      → (list_any (λ us. instance_helps a (by_tuple i us)) (rest width w i) ≡ true → list_any (instance_helps a) (instances_by (rest width w) items) ≡ true)
+      → (list_any (λ us. instance_helps a (by_tuple i us)) (uncovered width w i) ≡ true → list_any (instance_helps a) (instances_by (rest width w) items) ≡ true)
       → some_tuple_helps a i.side i.formula i.tuples ≡ true → falsifies a (right_search width s items w) ≡ false
-  item_helps a i by_pattern by_rest h =
+  quantified_helps a i by_pattern by_rest h =
       let q = λ (us : Terms). instance_helps a (by_tuple i us) in
       let ps = patterns width w i in
       let right = right_search width s items w in
-      either (list_any (λ us. is_covered ps w us && q us) i.tuples) (list_any q (rest width w i))
+      either (list_any (λ us. is_covered ps w us && q us) i.tuples) (list_any q (uncovered width w i))
       (λ covered.
       from_any (λ t. Stands right Left (matrix_at width items w t)) (λ t. list_any q (map (λ p. put p t) ps)) (set.listing w) (matrices_stand s formed items are width w values)
       (λ t m e. helped_member a right Left (matrix_at width items w t) m (ap negated (value-matrix a width items w t ∙ ap negated (by_pattern t e))))
@@ -242,14 +262,28 @@ module _ (s : Sequent) (formed : are_formed s ≡ true) (items : List Item) (are
       (by_rest other))
       (any_divided (is_covered ps w) q i.tuples h)
 
+  -- where an instance of an item helps, so does a formula of the right premise
+  item_helps : (a : Assignment) (i : Item) → IsItem (cut_variable s items) s i
+      → ((t : Term) → list_any (λ us. instance_helps a (by_tuple i us)) (map (λ p. put p t) (patterns width w i)) ≡ true → list_any (instance_helps a) (instances_at width items w t) ≡ true)
+      → (list_any (λ us. instance_helps a (by_tuple i us)) (rest width w i) ≡ true → list_any (instance_helps a) (instances_by (rest width w) items) ≡ true)
+      → some_tuple_helps a i.side i.formula i.tuples ≡ true → falsifies a (right_search width s items w) ≡ false
+  item_helps a i item by_pattern by_rest h = go (quantifiers i == 0) refl by_rest
+    where
+      go : (b : Bool) → (quantifiers i == 0) ≡ b
+          → (list_any (λ us. instance_helps a (by_tuple i us)) (if b then [] else uncovered width w i) ≡ true → list_any (instance_helps a) (instances_by (rest width w) items) ≡ true)
+          → falsifies a (right_search width s items w) ≡ false
+      go true e _ = plain_helps a i item (eqb-true (quantifiers i) 0 e) h
+      go false e others = quantified_helps a i by_pattern others h
+
   -- where under each assignment an instance by a tuple helps, so does a formula of the right premise
   pub right_tautology : ((a : Assignment) → list_any (λ i. some_tuple_helps a i.side i.formula i.tuples) items ≡ true) → IsTautology (right_search width s items w)
   right_tautology help a =
       let q = instance_helps a in
       from_any
-      (λ i. ((t : Term) → list_any (λ us. q (by_tuple i us)) (map (λ p. put p t) (patterns width w i)) ≡ true → list_any q (instances_at width items w t) ≡ true)
+      (λ i. IsItem (cut_variable s items) s i
+      × ((t : Term) → list_any (λ us. q (by_tuple i us)) (map (λ p. put p t) (patterns width w i)) ≡ true → list_any q (instances_at width items w t) ≡ true)
       × (list_any (λ us. q (by_tuple i us)) (rest width w i) ≡ true → list_any q (instances_by (rest width w) items) ≡ true))
       (λ i. some_tuple_helps a i.side i.formula i.tuples) items
-      (λ k d l. ((λ t. each_helps q (λ i. map (λ p. put p t) (patterns width w i)) items k d l), each_helps q (rest width w) items k d l))
-      (λ i both. item_helps a i both.0 both.1)
+      (λ k d l. (are k d l, (λ t. each_helps q (λ i. map (λ p. put p t) (patterns width w i)) items k d l), each_helps q (rest width w) items k d l))
+      (λ i each. item_helps a i each.0 each.1 each.2)
       (help a)

@@ -2,9 +2,10 @@
 --     sublists, IsSublist      the sublists of a list
 --     rows_of, IsRowOf      the rows of an item
 --     occurring      the sets of values that occur
---     patterns, is_covered, rest      what a set of values covers of an item, and what it doesn't
+--     patterns, is_covered, uncovered      what a set of values covers of an item, and what it doesn't
+--     rest      the tuples that need instances of their own
 --     cost, candidate_cmp, least, best      the candidate of least cost
-use Rattle.std.specs.Prelude.{◌≡◌, ◌⊎◌, ℕ, suc, ◌+◌, ◌*◌, ◌≤◌, Bool, ◌&&◌, not, nat_lt, List, [], ◌∷◌, ◌++◌, map, length, sum_by, Option, Some, None}
+use Rattle.std.specs.Prelude.{◌≡◌, ◌⊎◌, ℕ, suc, ◌+◌, ◌*◌, ◌≤◌, Bool, ◌&&◌, not, nat_lt, ◌==◌, if◌then◌else◌, List, [], ◌∷◌, ◌++◌, map, length, sum_by, Option, Some, None}
 use Rattle.std.specs.List.{list_any, filter, filter_map, flat_map}
 use Rattle.std.specs.Ordering.{eq_by_cmp, nat_cmp, ordering_then, min_by_ordering}
 use Rattle.std.specs.Cmp.Lexicographic.{pointwise, slice_cmp}
@@ -54,8 +55,12 @@ abbrev pub is_covered : List Terms → TermSet → Terms → Bool
 is_covered ps w us = list_any (λ p. list_any (λ t. eq_by_cmp terms_cmp (put p t) us) (set.listing w)) ps
 
 -- the tuples of an item that aren't covered
+abbrev pub uncovered : ℕ → TermSet → Item → List Terms
+uncovered width w i = filter (λ us. not (is_covered (patterns width w i) w us)) i.tuples
+
+-- those of them that need instances of their own: none of a formula without quantifiers, which is its own instance
 abbrev pub rest : ℕ → TermSet → Item → List Terms
-rest width w i = filter (λ us. not (is_covered (patterns width w i) w us)) i.tuples
+rest width w i = if quantifiers i == 0 then [] else uncovered width w i
 
 -- how many quantifier inferences the proof with the cut has
 abbrev pub cost : ℕ → List Item → TermSet → ℕ

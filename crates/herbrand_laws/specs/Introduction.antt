@@ -105,7 +105,7 @@ rules_for js = flat_map (λ j. rules_by j.side j.formula j.tuple) js
 abbrev pub left_rules : ℕ → Sequent → List Item → TermSet → List Rule
 left_rules width s items w = AllR (cut_formula width s items w) (cut_variable s items) ∷ rules_for (instances_at width items w (free (cut_variable s items)))
 
--- those of its right premise: the values in order, and the instances that the candidate doesn't cover
+-- those of its right premise: the values in order, and the instances by the tuples of the rest
 abbrev pub right_rules : ℕ → Sequent → List Item → TermSet → List Rule
 right_rules width s items w = map (AllL (cut_formula width s items w)) (set.listing w) ++ rules_for (instances_by (rest width w) items)
 

@@ -36,7 +36,7 @@ use Rattle.proof_trees.proofs.Members.{from_some, some_passes, image_member, ima
 use Rattle.refutations.specs.declared.clause.Clause.{Clause}
 use Rattle.refutations.specs.Clauses.{literals_of, IsClauseOf, closure_of, closures}
 use Rattle.refutations.specs.Refutations.{over_literals, body_of, over_instances, of_input}
-use Rattle.refutations.proofs.FormulaSets.{equal, same_sets, in_first, in_second, in_either, added, stays, image-union_sequent}
+use Rattle.proof_trees.proofs.FormulaSets.{equal, same_sets, in_first, in_second, in_either, added, stays, image-union_sequent}
 use Rattle.refutations.proofs.Closures.{among_first, none_free, has-closures, image-closures}
 use Rattle.refutations.proofs.Derivations.{found_in}
 use Rattle.image_laws.specs.Terms.{over_terms}

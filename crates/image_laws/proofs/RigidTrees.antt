@@ -28,7 +28,7 @@ use Rattle.proof_trees.specs.Substitution.{image_rule, premise_map, sub, sub_all
 use Rattle.proof_trees.proofs.Agreeing.{agree_sequent}
 use Rattle.proof_trees.proofs.Booleans.{or_first, or_second, either}
 use Rattle.proof_trees.proofs.Members.{from_some, some_passes, image_member}
-use Rattle.refutations.proofs.FormulaSets.{equal, same_sets}
+use Rattle.proof_trees.proofs.FormulaSets.{equal, same_sets}
 use Rattle.image_laws.specs.Rigid.{IsRigidRule, IsRigid, AreRigid}
 
 abbrev Replacing : Type 0

@@ -14,3 +14,6 @@ pub mod Interpolated
 pub mod Unrolled
 pub mod Examples
 pub mod MoreExamples
+pub mod Differences
+pub mod InterpolationOrder
+pub mod Faultless

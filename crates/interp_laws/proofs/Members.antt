@@ -13,7 +13,7 @@ use Rattle.lk_rules.specs.Sequents.{side_of, adds_to, extended, union_sequent, I
 use Rattle.proof_trees.proofs.Booleans.{or_first, or_second, either}
 use Rattle.proof_trees.proofs.Members.{from_some, some_passes}
 use Rattle.cut_laws.proofs.Sides.{equal, tied, alone, clash, added, old_or_added, within_extended, extended_both}
-use Rattle.refutations.proofs.FormulaSets.{in_first, in_second, in_either}
+use Rattle.proof_trees.proofs.FormulaSets.{in_first, in_second, in_either}
 
 -- f stands in s on that side
 abbrev pub Stands : Sequent → Side → Formula → Type 0

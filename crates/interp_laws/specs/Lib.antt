@@ -1,2 +1,3 @@
 pub mod Interpolation
 pub mod Parts
+pub mod Interpolating

@@ -1,5 +1,5 @@
 //! The laws of interpolation. Each function does nothing: its contract is the law.
-ghost use Rattle.std.specs.Prelude.{◌≡◌, ℕ, ◌^◌, ◌<◌, ◌≤◌, true, false, List, ◌++◌, Option};
+ghost use Rattle.std.specs.Prelude.{◌≡◌, ℕ, ◌^◌, ◌<◌, ◌≤◌, true, false, List, ◌++◌, Option, ◌↔◌, None, Ok};
 ghost use Rattle.fol.specs.declared.symbols.Var.{Var as Variable};
 ghost use Rattle.fol.specs.Syntax.{Pred, Formula};
 ghost use Rattle.fol.specs.Formed.{IsFormed};
@@ -14,12 +14,13 @@ ghost use Rattle.lk_rules.specs.declared.rule.Rule.{Rule as Inference};
 ghost use Rattle.lk_rules.specs.declared.rule.Rule.TheVariants.{Ax, Weak};
 ghost use Rattle.lk_rules.specs.RuleOrder.{variable_of};
 ghost use Rattle.lk_rules.specs.Sequents.{adds_to, is_free_in_sequent, union_sequent};
-ghost use Rattle.proof_trees.specs.Trees.{Tree as Proof, node, Trees as Proofs, none, more, concl, IsValid, IsCutFree};
+ghost use Rattle.proof_trees.specs.Trees.{Tree as Proof, node, Trees as Proofs, none, more, concl, IsValid, IsCutFree, size};
 ghost use Rattle.proof_trees.specs.Occurrence.{is_pred_in_sequent, has_body_in_sequent};
 ghost use Rattle.proof_trees.specs.Shapes.{height};
 ghost use Rattle.cut_laws.specs.Contraction.{moved_rule};
 ghost use Rattle.interp_laws.specs.Interpolation.{Interpolation, part_of, at_leaf, at_axiom, moved_tree, first_above, second_above, above, above_one, inferred, quantifier_of, closed_by, vars_to_close, over_one, joined, has_main, by_rule, itp_within, itp};
-ghost use Rattle.interp_laws.specs.Parts.{HasParts};
+ghost use Rattle.interp_laws.specs.Parts.{HasParts, IsFormedSequent};
+ghost use Rattle.interp_laws.specs.Interpolating.{first_difference, interpolating};
 
 /// The proofs that interpolation gives: of the first part with the interpolant on the right, and of the second part with it on the left.
 /// They have no cuts, and are valid where the interpolant is well formed.
@@ -63,4 +64,19 @@ pub fn premises()
 pub fn quantifiers()
     ensures closure { (m : Place) (one two : Conclusion) (xs : List Variable) (i : Interpolation) → (closed_by m one two xs i).formula ≡ closed_over (quantifier_of m) xs i.formula }
     ensures valid { (r : Inference) (s : Conclusion) (p : Proof) (one two : Conclusion) → HasParts (node r s (more p none)) one two → has_main r ≡ true → (xs ys : List Variable) → let m = part_of r one in let q = moved_rule (union_sequent one two) r in let i = above_one itp m r p one two in xs ++ ys ≡ vars_to_close m q one two i → let j = closed_by m one two ys (inferred m q one two i) in IsFormed j.formula → IsValid j.first × IsValid j.second }
+{}
+
+/// No formula is named exactly where two sequents are equal.
+pub fn differences()
+    ensures equal { (s t : Conclusion) → (first_difference s t ≡ None) ↔ (s ≡ t) }
+{}
+
+/// What isn't refused is the interpolation by two parts that make up the end sequent, in which no symbol has a body, of a tree within the
+/// budget. If the proof is valid and the parts are well formed, it is as interpolation asks for.
+pub fn interpolations()
+    ensures interpolation { (t : Proof) (one two : Conclusion) (n : ℕ) (i : Interpolation) → interpolating t one two n ≡ Ok i → i ≡ itp t one two }
+    ensures parts { (t : Proof) (one two : Conclusion) (n : ℕ) (i : Interpolation) → IsValid t → IsFormedSequent one → IsFormedSequent two → interpolating t one two n ≡ Ok i → HasParts t one two }
+    ensures union { (t : Proof) (one two : Conclusion) (n : ℕ) (i : Interpolation) → interpolating t one two n ≡ Ok i → union_sequent one two ≡ concl t }
+    ensures bodies { (t : Proof) (one two : Conclusion) (n : ℕ) (i : Interpolation) → interpolating t one two n ≡ Ok i → has_body_in_sequent (concl t) ≡ false }
+    ensures budget { (t : Proof) (one two : Conclusion) (n : ℕ) (i : Interpolation) → interpolating t one two n ≡ Ok i → size t ≤ n }
 {}

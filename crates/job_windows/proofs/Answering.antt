@@ -1,18 +1,19 @@
 -- What is due once the tasks of a window are run.
-use Rattle.std.proofs.Common.{◌≡◌, ℕ, List, [], ◌∷◌, map, length, refl, sym, ap, ◌∙◌, subst, inl, inr, arith}
-use Rattle.std.specs.Prelude.{Option, Some, None, option_map, slice_get}
+use Rattle.std.proofs.Common.{◌≡◌, ℕ, ◌+◌, ◌≤◌, List, [], ◌∷◌, map, length, refl, sym, ap, ◌∙◌, subst, inl, inr, arith}
+use Rattle.std.specs.Prelude.{Option, Some, None, option_map, slice_get, vec_capacity}
 use Rattle.std.specs.List.{All}
+use Rattle.std.proofs.lemmas.List.{length-map}
 use Rattle.std.proofs.lemmas.List.Elements.{All-cons}
 use Rattle.std.proofs.lemmas.Option.{slice_get_cases, slice_get_within, get_or_from_slice_get}
 use Rattle.cut_elim.specs.declared.desk.Desk.{Desk}
 use Rattle.job_lang.specs.declared.jobs.Op.{Op}
 use Rattle.job_workers.specs.declared.tasks.Task.{Task}
 use Rattle.job_workers.specs.Needs.{IsAnswer, AreAnswers}
-use Rattle.operations.specs.declared.held.Held.{Held}
-use Rattle.operations.specs.declared.held.Held.TheVariants as held
-use Rattle.operations.specs.Means.{sense}
+use Rattle.held_values.specs.declared.held.Held.{Held}
+use Rattle.held_values.specs.declared.held.Held.TheVariants as held
+use Rattle.held_values.specs.Means.{sense}
 use Rattle.reply_lines.specs.declared.replies.Outcome.{Outcome}
-use Rattle.session_laws.specs.Jobs.{Past}
+use Rattle.session_laws.specs.Answers.{Past}
 use Rattle.job_windows.specs.Running.{Belongs, FitsDesk}
 use Rattle.job_windows.specs.Windows.{AreInOrder, answer_by, due_by, AreAnswered, AreDue}
 use Rattle.job_windows.specs.Means.{HasPass, IsStore, IsGathered, IsPending}
@@ -66,12 +67,17 @@ dues_fit desk answers fits (seat ∷ seats) (due ∷ dues) same =
     let tail : map (due_by (slice_get answers)) seats ≡ map Some dues = cc in
     All-cons (λ (d : Due). FitsDesk desk d.held) due dues (due_fits desk answers fits seat due head) (dues_fit desk answers fits seats dues tail)
 
+-- as many answers are due as there are seats
+as_many_dues : (answers : List (Outcome × Held)) (seats : List Seat) (dues : List Due) → map (due_by (slice_get answers)) seats ≡ map Some dues → length dues ≡ length seats
+as_many_dues answers seats dues made = sym (length-map dues Some) ∙ sym (ap length made) ∙ length-map seats (due_by (slice_get answers))
+
 -- the answers of the tasks make what is due for each job
 pub pending_after : (old new : Store) (window : Window) (earlier : List Past) (lines : List (List ℕ)) (answers : List (Outcome × Held)) (dues : List Due)
     → IsGathered old window earlier lines → HasPass new → new.desk ≡ old.desk → new.names ≡ old.names → new.held.items ≡ old.held.items
+    → length new.held.items + length window.seats.items ≤ vec_capacity new.held
     → AreAnswers sense Belongs window.tasks.items (slice_get answers) → length answers ≡ length window.tasks.items → All (λ (answer : Outcome × Held). FitsDesk old.desk answer.1) answers
     → map (due_by (slice_get answers)) window.seats.items ≡ map Some dues → IsPending new earlier lines dues
-pending_after old new window earlier lines answers dues gathered pass desk names held belong sized fits made =
+pending_after old new window earlier lines answers dues gathered pass desk names held room belong sized fits made =
     let promised = gathered.promised (slice_get answers) (all_answered window.tasks.items answers belong sized) in
     let same : promised.dues ≡ dues = given_once promised.dues dues (sym promised.found ∙ made) in
     record {
@@ -81,6 +87,7 @@ pending_after old new window earlier lines answers dues gathered pass desk names
         fits = subst (λ d. All (FitsDesk d) new.held.items) (sym desk) (subst (All (FitsDesk old.desk)) (sym held) gathered.holds.fits);
       };
       fits = subst (λ d. All (λ (due : Due). FitsDesk d due.held) dues) (sym desk) (dues_fit old.desk answers fits window.seats.items dues made);
+      room = λ some. let many = as_many_dues answers window.seats.items dues made in omega (arith, room, many);
       due = subst (λ ns. AreDue ns (map sense new.held.items) earlier lines dues) (sym names)
           (subst (λ (hs : List Held). AreDue old.names (map sense hs) earlier lines dues) (sym held)
           (subst (AreDue old.names (map sense old.held.items) earlier lines) same promised.due));
@@ -99,4 +106,4 @@ empty_gathered store window earlier lines pending none seats tasks = record {
 
 -- nothing is due behind a store
 pub nothing_due : (store : Store) (earlier : List Past) → IsStore store earlier → IsPending store earlier [] []
-nothing_due store earlier is = record { holds = is.holds; fits = λ k d within. absurd (omega arith); due = is.known }
+nothing_due store earlier is = record { holds = is.holds; fits = λ k d within. absurd (omega arith); room = λ some. absurd (omega (arith, some)); due = is.known }

@@ -16,13 +16,12 @@ use Rattle.job_workers.specs.Needs.{meaning_of, IsBefore, OnValue, IsAnswer}
 use Rattle.operation_laws.specs.Values.{Value}
 use Rattle.operation_laws.specs.Given.{base_name, names_in}
 use Rattle.operation_laws.specs.Running.{run}
-use Rattle.operations.specs.declared.held.Held.{Held}
-use Rattle.operations.specs.declared.held.Held.TheVariants as held
-use Rattle.operations.specs.Means.{sense}
+use Rattle.held_values.specs.declared.held.Held.{Held}
+use Rattle.held_values.specs.declared.held.Held.TheVariants as held
+use Rattle.held_values.specs.Means.{sense}
 use Rattle.reply_lines.specs.declared.replies.Outcome.{Outcome}
 use Rattle.reply_lines.specs.declared.replies.Outcome.TheVariants.{NameTaken}
-use Rattle.session_laws.specs.Jobs.{Past}
-use Rattle.session_laws.specs.Answers.{JobFault, name_taken, Run as Ran, faulty, answered, Lookup, shown_fault, values_for, name_of, run_read, run_line, held_of}
+use Rattle.session_laws.specs.Answers.{Past, JobFault, name_taken, Came as Ran, faulty, answered, Lookup, shown_fault, values_for, name_of, run_read, run_line, held_of}
 use Rattle.job_windows.specs.Names.{Knows}
 use Rattle.job_windows.specs.Running.{Belongs, FitsDesk, IsConclusion, IsUnnamed}
 use Rattle.job_windows.specs.Windows.{need_by, needs_at, need_at, need_named, AreInOrder, due_by, IsAsked}
@@ -40,8 +39,9 @@ use Rattle.job_windows.proofs.Gathering.{window_more}
 use Rattle.job_windows.proofs.Merging.{order_bound}
 
 -- a line that is refused before it is run comes to just that
-refused_is_faulty : (outcome : Outcome) (f : JobFault) (r : Ran) → r ≡ faulty f → outcome ≡ shown_fault f → IsConclusion outcome held.Refused r
-refused_is_faulty outcome f r is shown = subst (IsConclusion outcome held.Refused) (sym is) (record { lawful = refl; outcome_is = shown; means = refl })
+refused_is_faulty : (outcome : Outcome) (f : JobFault) (r : Ran) → r ≡ faulty f → outcome ≡ shown_fault f → (came : Ran) × IsConclusion outcome held.Refused r came
+refused_is_faulty outcome f r is shown =
+    (faulty f, subst (λ (x : Ran). IsConclusion outcome held.Refused x (faulty f)) (sym is) (record { allowed = refl; outcome_is = shown; means = refl }))
 
 pub asked_fault : (names : Names) (hs : List Held) (seats : List Seat) (tasks : List (Task Op Held)) (line : List ℕ) (outcome : Outcome) (f : JobFault)
     → ((lookup : Lookup) → run_line lookup line ≡ faulty f) → outcome ≡ shown_fault f → IsAsked names hs seats tasks line (Refused outcome)
@@ -82,7 +82,7 @@ module _ (names : Names) (hs : List Held) (seats : List Seat) (line name : List 
     where
       at : (done : ℕ → Option (Outcome × Held)) (dues : List Due) → map (due_by done) seats ≡ map Some dues → (earlier : List Past)
           → Knows names (map sense hs ++ map (λ (d : Due). sense d.held) dues) earlier → (answer : Outcome × Held) → IsAnswer sense done Belongs task answer.0 answer.1
-          → IsUnnamed answer.0 answer.1 ⊎ IsConclusion answer.0 answer.1 (run_line (held_of earlier) line)
+          → IsUnnamed answer.0 answer.1 ⊎ ((came : Ran) × IsConclusion answer.0 answer.1 (run_line (held_of earlier) line) came)
       at done dues found earlier known answer is =
           let whole = map sense hs ++ map (λ (d : Due). sense d.held) dues in
           let free = taken_is whole (get_by_text names.places name) (held_of earlier name) (known name) ∙ absent in
@@ -92,7 +92,7 @@ module _ (names : Names) (hs : List Held) (seats : List Seat) (line name : List 
           let belongs : Belongs op (values_for (held_of earlier) op) answer.0 (sense answer.1) =
           subst (λ (o : Op). Belongs o (values_for (held_of earlier) op) answer.0 (sense answer.1)) job
           (subst (λ vs. Belongs task.job vs answer.0 (sense answer.1)) given is.belongs) in
-          subst (λ (r : Ran). IsUnnamed answer.0 answer.1 ⊎ IsConclusion answer.0 answer.1 r) (sym (runs earlier false free))
+          subst (λ (r : Ran). IsUnnamed answer.0 answer.1 ⊎ ((came : Ran) × IsConclusion answer.0 answer.1 r came)) (sym (runs earlier false free))
           (concluded answer.0 answer.1 (run op (values_for (held_of earlier) op)) belongs)
 
   -- the same of tasks behind which it was pushed

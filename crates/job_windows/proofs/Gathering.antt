@@ -1,21 +1,19 @@
 -- What a window has after one more line.
 use Rattle.std.proofs.Common.{◌≡◌, ◌⊎◌, ℕ, ◌+◌, List, [], ◌∷◌, ◌++◌, length, map, refl, sym, ap, ◌∙◌, subst, inl, inr, arith, length-append}
-use Rattle.std.proofs.lemmas.List.{map-append}
+use Rattle.std.proofs.lemmas.List.{map-append, length-map, get_or_append_left}
 use Rattle.std.specs.Prelude.{Option, Some, option_map, slice_get, slice_index_or}
 use Rattle.std.proofs.Math.Nat.{eq-or-lt_of_le}
-use Rattle.std.proofs.lemmas.List.{length-map, get_or_append_left}
 use Rattle.std.proofs.Math.Seq.{get_or-append_seam}
 use Rattle.job_lang.specs.declared.jobs.Op.{Op}
 use Rattle.job_workers.specs.declared.tasks.Task.{Task}
 use Rattle.job_workers.specs.Needs.{Fits, AreWindow}
 use Rattle.operation_laws.specs.Values.{Value}
-use Rattle.operations.specs.declared.held.Held.{Held}
-use Rattle.operations.specs.Means.{sense}
+use Rattle.held_values.specs.declared.held.Held.{Held}
+use Rattle.held_values.specs.Means.{sense}
 use Rattle.reply_lines.specs.declared.replies.Outcome.{Outcome}
-use Rattle.session_laws.specs.Jobs.{Past, job_of}
-use Rattle.session_laws.specs.Answers.{name_of, run_line, held_of, value_in}
+use Rattle.session_laws.specs.Answers.{Past, Came, job_of, name_of, run_line, held_of, value_of}
 use Rattle.job_windows.specs.Names.{Knows}
-use Rattle.job_windows.specs.Running.{lacks, IsConclusion, IsUnnamed}
+use Rattle.job_windows.specs.Running.{IsConclusion, IsUnnamed}
 use Rattle.job_windows.specs.Windows.{AreInOrder, due_by, AreAnswered, IsPromised, Adds, IsAsked}
 use Rattle.job_windows.specs.declared.names.Names.{Names}
 use Rattle.job_windows.specs.declared.seats.Asks.{Asks}
@@ -23,7 +21,7 @@ use Rattle.job_windows.specs.declared.seats.Asks.TheVariants.{Refused, Run}
 use Rattle.job_windows.specs.declared.seats.Seat.{Seat}
 use Rattle.job_windows.specs.declared.seats.Due.{Due}
 use Rattle.job_windows.proofs.Lists.{stays_there}
-use Rattle.job_windows.proofs.Dues.{IsNext, one_more_due}
+use Rattle.job_windows.proofs.OneMoreDue.{IsNext, one_more_due}
 
 -- the tasks before one more are a window where all of them are
 pub window_more : {J H : Type 0} (arity : J → ℕ) (JobFits : J → Type 0) (HeldFits : H → Type 0) (tasks : List (Task J H)) (task : Task J H)
@@ -68,10 +66,10 @@ ordered_more seats seat old new ordered adds = order_more seats seat 0 (length o
 module _ (old new : Names) (hs : List Held) (seats : List Seat) (seat : Seat) (line : List ℕ) where
   abbrev pub Learns : Type 0
   Learns = (held : List (Option Value)) (last : List Past) (job : Past) → Knows old held last → name_of job.line ≡ name_of line → length held ≡ length hs + length seats
-      → Knows new (held ++ Some (value_in job.lacked (run_line (held_of last) job.line)) ∷ []) (job ∷ last)
+      → Knows new (held ++ Some (value_of job.came) ∷ []) (job ∷ last)
 
   next_due : (dues : List Due) (answer : Outcome × Held) → seat.name ≡ name_of line → Learns → length (map sense hs ++ map (λ (d : Due). sense d.held) dues) ≡ length hs + length seats
-      → ((earlier : List Past) → Knows old (map sense hs ++ map (λ (d : Due). sense d.held) dues) earlier → IsUnnamed answer.0 answer.1 ⊎ IsConclusion answer.0 answer.1 (run_line (held_of earlier) line))
+      → ((earlier : List Past) → Knows old (map sense hs ++ map (λ (d : Due). sense d.held) dues) earlier → IsUnnamed answer.0 answer.1 ⊎ ((came : Came) × IsConclusion answer.0 answer.1 (run_line (held_of earlier) line) came))
       → (last : List Past) → Knows old (map sense hs ++ map (λ (d : Due). sense d.held) dues) last
       → IsNext old new line (record { name = seat.name; outcome = answer.0; held = answer.1 }) (map sense hs ++ map (λ (d : Due). sense d.held) dues) last
   next_due dues answer named learns sized asked last known = (
@@ -79,9 +77,10 @@ module _ (old new : Names) (hs : List Held) (seats : List Seat) (seat : Seat) (l
     elim (asked last known) [
       | inl unnamed ↦ inl unnamed
       | inr concluded ↦ inr (
-        concluded,
-        subst (λ (x : Option Value). Knows new ((map sense hs ++ map (λ (d : Due). sense d.held) dues) ++ x ∷ []) (job_of line (lacks answer.1) ∷ last)) (sym concluded.means)
-            (learns (map sense hs ++ map (λ (d : Due). sense d.held) dues) last (job_of line (lacks answer.1)) known refl sized),
+        concluded.0,
+        concluded.1,
+        subst (λ (x : Option Value). Knows new ((map sense hs ++ map (λ (d : Due). sense d.held) dues) ++ x ∷ []) (job_of line concluded.0 ∷ last)) (sym concluded.1.means)
+            (learns (map sense hs ++ map (λ (d : Due). sense d.held) dues) last (job_of line concluded.0) known refl sized),
       )
     ],
   )

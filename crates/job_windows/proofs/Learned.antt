@@ -9,8 +9,7 @@ use Rattle.std.proofs.lemmas.Slice.Eq.{bytes_eq-Decides}
 use Rattle.fol.specs.Order.{text_cmp}
 use Rattle.operation_laws.specs.Values.{Value}
 use Rattle.operation_laws.specs.Given.{or_else}
-use Rattle.session_laws.specs.Jobs.{Past}
-use Rattle.session_laws.specs.Answers.{name_of, run_line, named_value, held_of, value_in}
+use Rattle.session_laws.specs.Answers.{Past, name_of, named_value, held_of, value_of}
 use Rattle.job_windows.specs.Names.{Knows}
 use Rattle.job_windows.specs.declared.names.Names.{Names}
 use Rattle.job_windows.proofs.Lists.{stays_there, stands_next}
@@ -49,7 +48,7 @@ meant_none held (Some i) v w none is = cc
 
 module _ (earlier : List Past) (job : Past) where
   abbrev value : Value
-  value = value_in job.lacked (run_line (held_of earlier) job.line)
+  value = value_of job.came
 
   -- a job without a name
   pub known_unnamed : (names : Names) (held : List (Option Value)) (x : Option Value) → name_of job.line ≡ None → Knows names held earlier → Knows names (held ++ x ∷ []) (job ∷ earlier)

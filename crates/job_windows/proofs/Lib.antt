@@ -1,7 +1,7 @@
 pub mod Answered
 pub mod Answering
 pub mod Asking
-pub mod Dues
+pub mod OneMoreDue
 pub mod Gathering
 pub mod Learned
 pub mod Lists

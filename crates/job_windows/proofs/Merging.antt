@@ -3,7 +3,7 @@ use Rattle.std.proofs.Common.{◌≡◌, ℕ, ◌+◌, ◌<◌, ◌≤◌, List,
 use Rattle.std.proofs.lemmas.List.{map-append}
 use Rattle.std.specs.Prelude.{Option, Some, option_map, slice_get, slice_index_or}
 use Rattle.std.proofs.lemmas.Option.{slice_get-get_or}
-use Rattle.operations.specs.declared.held.Held.{Held}
+use Rattle.held_values.specs.declared.held.Held.{Held}
 use Rattle.reply_lines.specs.declared.replies.Outcome.{Outcome}
 use Rattle.job_windows.specs.Windows.{AreInOrder, answer_by, due_by}
 use Rattle.job_windows.specs.declared.seats.Asks.{Asks}

@@ -10,12 +10,11 @@ use Rattle.job_workers.specs.declared.tasks.Need.TheVariants.{Value as ByValue}
 use Rattle.job_workers.specs.Needs.{meaning_of, AreGiven}
 use Rattle.operation_laws.specs.Values.{Value}
 use Rattle.operation_laws.specs.Given.{base_name, names_in}
-use Rattle.operations.specs.declared.held.Held.{Held}
-use Rattle.operations.specs.declared.held.Held.TheVariants as held
-use Rattle.operations.specs.Means.{sense}
+use Rattle.held_values.specs.declared.held.Held.{Held}
+use Rattle.held_values.specs.declared.held.Held.TheVariants as held
+use Rattle.held_values.specs.Means.{sense}
 use Rattle.reply_lines.specs.declared.replies.Outcome.{Outcome}
-use Rattle.session_laws.specs.Jobs.{Past}
-use Rattle.session_laws.specs.Answers.{values_for, held_of}
+use Rattle.session_laws.specs.Answers.{Past, values_for, held_of}
 use Rattle.job_windows.specs.Names.{Knows}
 use Rattle.job_windows.specs.Windows.{need_by, needs_at, need_at, need_named, answer_by, due_by}
 use Rattle.job_windows.specs.declared.names.Names.{Names}

@@ -2,7 +2,7 @@
 --     IsStore      the store stands behind jobs
 --     IsGathered      the window has the jobs of these lines after them
 --     IsPending      these answers are due for the jobs of these lines
-use Rattle.std.specs.Prelude.{◌≡◌, ℕ, List, length, map, Option}
+use Rattle.std.specs.Prelude.{◌≡◌, ℕ, ◌+◌, ◌<◌, ◌≤◌, List, length, map, Option, vec_capacity}
 use Rattle.std.specs.List.{All}
 use Rattle.cut_elim.specs.declared.desk.Desk.{Desk}
 use Rattle.cut_elim.specs.Desks.{IsDeskPassOf}
@@ -11,10 +11,10 @@ use Rattle.job_lang.specs.FormedOps.{IsFormedOp}
 use Rattle.job_workers.specs.declared.tasks.Task.{Task}
 use Rattle.job_workers.specs.Needs.{AreWindow}
 use Rattle.operation_laws.specs.Given.{names_in}
-use Rattle.operations.specs.declared.held.Held.{Held}
-use Rattle.operations.specs.Means.{sense}
+use Rattle.held_values.specs.declared.held.Held.{Held}
+use Rattle.held_values.specs.Means.{sense}
 use Rattle.reply_lines.specs.declared.replies.Outcome.{Outcome}
-use Rattle.session_laws.specs.Jobs.{Past}
+use Rattle.session_laws.specs.Answers.{Past}
 use Rattle.job_windows.specs.Names.{Knows}
 use Rattle.job_windows.specs.Running.{FitsDesk}
 use Rattle.job_windows.specs.Windows.{AreInOrder, AreDue, AreAnswered, IsPromised}
@@ -57,8 +57,9 @@ pub record IsGathered (store : Store) (window : Window) (earlier : List Past) (l
   pub counted : length window.seats.items ≡ length lines
   pub promised : (done : ℕ → Option (Outcome × Held)) → AreAnswered done window.tasks.items → IsPromised done store.names store.held.items earlier lines window.seats.items
 
--- these answers are due for the jobs of these lines, which come after earlier ones
+-- These answers are due for the jobs of these lines, which come after earlier ones, and there is room in the store for what the jobs hold.
 pub record IsPending (store : Store) (earlier : List Past) (lines : List (List ℕ)) (dues : List Due) : Type 0 where
   pub holds : Holds store earlier
   pub fits : All (λ due. FitsDesk store.desk due.held) dues
+  pub room : 0 < length dues → length store.held.items + length dues ≤ vec_capacity store.held
   pub due : AreDue store.names (map sense store.held.items) earlier lines dues

@@ -2,8 +2,7 @@
 use Rattle.std.specs.Prelude.{◌≡◌, ℕ, List, Option, Some, option_map, slice_get}
 use Rattle.std.specs.HashMap.{get_by_text}
 use Rattle.operation_laws.specs.Values.{Value}
-use Rattle.session_laws.specs.Jobs.{Past}
-use Rattle.session_laws.specs.Answers.{held_of}
+use Rattle.session_laws.specs.Answers.{Past, held_of}
 use Rattle.job_windows.specs.declared.names.Names.{Names}
 
 -- the names are those of these jobs: at the place of each stands what the first job with it holds

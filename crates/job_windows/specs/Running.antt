@@ -1,8 +1,8 @@
 -- What the jobs of a window are answered by those who run them.
 --     Belongs      an outcome and what the job holds belong to an operation and the values given
---     IsConclusion      they are what a line comes to, where it is known whether memory ran out
+--     IsConclusion      they are what a line came to
 --     IsUnnamed      there was no memory for the name that a refusal shows
-use Rattle.std.specs.Prelude.{◌≡◌, ◌⊎◌, Bool, true, false, List, Option, Some}
+use Rattle.std.specs.Prelude.{◌≡◌, ◌⊎◌, List, Option, Some}
 use Rattle.cut_elim.specs.declared.desk.Desk.{Desk}
 use Rattle.cut_elim.specs.Desks.{bench_of}
 use Rattle.proof_subst.specs.Benches.{graph_of}
@@ -13,10 +13,10 @@ use Rattle.operation_laws.specs.Values.{Value, refused, lacking}
 use Rattle.operation_laws.specs.Answers.{Answer, shown_refusal, shown_failure, shown_product, held_product}
 use Rattle.operation_laws.specs.Answers as answers
 use Rattle.operation_laws.specs.Running.{run}
-use Rattle.operations.specs.declared.held.Held.{Held}
-use Rattle.operations.specs.declared.held.Held.TheVariants as held
-use Rattle.operations.specs.Means.{sense, Fits, ShowsName}
-use Rattle.session_laws.specs.Answers.{Run, outcome_in, value_in, may_lack}
+use Rattle.held_values.specs.declared.held.Held.{Held}
+use Rattle.held_values.specs.declared.held.Held.TheVariants as held
+use Rattle.held_values.specs.Means.{sense, Fits, ShowsName}
+use Rattle.session_laws.specs.Answers.{Came, IsAllowed, outcome_of, value_of}
 
 -- an outcome and what the value of the job means
 abbrev pub Is : Outcome → Option Value → Outcome → Value → Type 0
@@ -38,22 +38,11 @@ Belongs op given outcome meant = IsAnswered outcome meant (run op given)
 abbrev pub FitsDesk : Desk → Held → Type 0
 FitsDesk desk h = Fits (graph_of (bench_of desk)) h
 
--- the value of a job that reports want of memory
-abbrev pub lacks : Held → Bool
-lacks held.Unheld = true
-lacks held.Nothing = false
-lacks held.Refused = false
-lacks held.Unknown = false
-lacks (held.Proof r) = false
-lacks (held.Pair r s) = false
-lacks (held.Problem p) = false
-lacks (held.Expansion e) = false
-
--- the outcome and the value are what a line comes to
-pub record IsConclusion (outcome : Outcome) (h : Held) (r : Run) : Type 0 where
-  pub lawful : may_lack (lacks h) r
-  pub outcome_is : outcome ≡ outcome_in (lacks h) r
-  pub means : sense h ≡ Some (value_in (lacks h) r)
+-- the outcome and the value are those of what a line came to, which it may come to
+pub record IsConclusion (outcome : Outcome) (h : Held) (r came : Came) : Type 0 where
+  pub allowed : IsAllowed r came
+  pub outcome_is : outcome ≡ outcome_of came
+  pub means : sense h ≡ Some (value_of came)
 
 abbrev pub IsUnnamed : Outcome → Held → Type 0
 IsUnnamed outcome h = (outcome ≡ Memory) × (h ≡ held.Refused)

@@ -12,18 +12,17 @@ use Rattle.job_workers.specs.declared.tasks.Need.TheVariants.{Value as ByValue, 
 use Rattle.job_workers.specs.declared.tasks.Task.{Task}
 use Rattle.job_workers.specs.Needs.{IsAnswer}
 use Rattle.operation_laws.specs.Values.{Value}
-use Rattle.operations.specs.declared.held.Held.{Held}
-use Rattle.operations.specs.declared.held.Held.TheVariants as held
-use Rattle.operations.specs.Means.{sense}
-use Rattle.session_laws.specs.Jobs.{Past, job_of}
-use Rattle.session_laws.specs.Answers.{name_of, run_line, held_of}
+use Rattle.held_values.specs.declared.held.Held.{Held}
+use Rattle.held_values.specs.declared.held.Held.TheVariants as held
+use Rattle.held_values.specs.Means.{sense}
+use Rattle.session_laws.specs.Answers.{Past, Came, job_of, name_of, run_line, held_of}
 use Rattle.job_windows.specs.declared.names.Names.{Names}
 use Rattle.job_windows.specs.declared.seats.Asks.{Asks}
 use Rattle.job_windows.specs.declared.seats.Asks.TheVariants.{Refused, Run}
 use Rattle.job_windows.specs.declared.seats.Seat.{Seat}
 use Rattle.job_windows.specs.declared.seats.Due.{Due}
 use Rattle.job_windows.specs.Names.{Knows}
-use Rattle.job_windows.specs.Running.{Belongs, lacks, IsConclusion, IsUnnamed}
+use Rattle.job_windows.specs.Running.{Belongs, IsConclusion, IsUnnamed}
 
 -- what a later operation is given that names the job
 abbrev pub need_by : Asks → Need Held
@@ -53,8 +52,8 @@ abbrev pub AreDue : Names → List (Option Value) → List Past → List (List �
 AreDue names held earlier [] [] = Knows names held earlier
 AreDue names held earlier (line ∷ lines) (due ∷ dues) = (due.name ≡ name_of line)
     × (IsUnnamed due.outcome due.held
-    ⊎ (IsConclusion due.outcome due.held (run_line (held_of earlier) line)
-    × AreDue names (held ++ sense due.held ∷ []) (job_of line (lacks due.held) ∷ earlier) lines dues))
+    ⊎ ((came : Came) × IsConclusion due.outcome due.held (run_line (held_of earlier) line) came
+    × AreDue names (held ++ sense due.held ∷ []) (job_of line came ∷ earlier) lines dues))
 AreDue names held earlier [] (due ∷ dues) = ⊥
 AreDue names held earlier (line ∷ lines) [] = ⊥
 
@@ -89,4 +88,4 @@ abbrev pub IsAsked : Names → List Held → List Seat → List (Task Op Held) �
 IsAsked names held seats tasks line asks = (done : ℕ → Option (Outcome × Held)) → AreAnswered done tasks → (dues : List Due) → map (due_by done) seats ≡ map Some dues
     → (answer : Outcome × Held) × (answer_by done asks ≡ Some answer)
     × ((earlier : List Past) → Knows names (map sense held ++ map (λ (due : Due). sense due.held) dues) earlier
-    → IsUnnamed answer.0 answer.1 ⊎ IsConclusion answer.0 answer.1 (run_line (held_of earlier) line))
+    → IsUnnamed answer.0 answer.1 ⊎ ((came : Came) × IsConclusion answer.0 answer.1 (run_line (held_of earlier) line) came))

@@ -2,8 +2,7 @@
 ghost use Rattle.std.specs.Prelude.{◌≡◌, ◌∷◌, ◌++◌, [], List, Option, Some, OnOk, option_copied, length, is_some};
 ghost use Rattle.std.specs.HashMap.{get_by_text};
 ghost use Rattle.operation_laws.specs.Values.{Value};
-ghost use Rattle.session_laws.specs.Jobs.{Past};
-ghost use Rattle.session_laws.specs.Answers.{name_of, run_line, held_of, value_in};
+ghost use Rattle.session_laws.specs.Answers.{Past, name_of, value_of};
 ghost use Rattle.job_windows.specs.Names.{Knows};
 
 use job_words::Name;
@@ -44,7 +43,7 @@ impl Names {
     fn put(&mut self, alloc: Global, name: &str, place: usize) -> Result<(), AllocError>
         ensures { (held : List (Option Value)) (earlier : List Past) (job : Past) → Knows self.old held earlier
             → name_of job.line ≡ Some name.now → place ≡ length held
-            → OnOk result (Knows self.new (held ++ Some (value_in job.lacked (run_line (held_of earlier) job.line)) ∷ []) (job ∷ earlier)) }
+            → OnOk result (Knows self.new (held ++ Some (value_of job.came) ∷ []) (job ∷ earlier)) }
     {
         if self.places.contains_key(name) {
             return Ok(());
@@ -63,7 +62,7 @@ impl Names {
     ) -> Result<(), AllocError>
         ensures { (held : List (Option Value)) (earlier : List Past) (job : Past) → Knows self.old held earlier
             → name_of job.line ≡ option_copied name.entry → place ≡ length held
-            → OnOk result (Knows self.new (held ++ Some (value_in job.lacked (run_line (held_of earlier) job.line)) ∷ []) (job ∷ earlier)) }
+            → OnOk result (Knows self.new (held ++ Some (value_of job.came) ∷ []) (job ∷ earlier)) }
     {
         match name {
             Some(name) => self.put(alloc, name.as_str(), place),

@@ -1,13 +1,13 @@
 //! The reply line of a job.
 ghost use Rattle.std.specs.Prelude.{◌≡◌, ◌+◌, ◌<◌, ◌^◌, ℕ, List, IfOk, false, length};
-ghost use Rattle.session_laws.specs.Jobs.{Past};
-ghost use Rattle.session_laws.specs.Answers.{name_of, run_line, held_of};
+ghost use Rattle.reply_lines.specs.OneLine.{is_want};
+ghost use Rattle.session_laws.specs.Answers.{Past, Came, name_of, run_line, held_of};
 ghost use Rattle.session_laws.specs.Replying.{reductions_in};
-ghost use Rattle.job_windows.specs.Running.{lacks, IsConclusion, IsUnnamed};
+ghost use Rattle.job_windows.specs.Running.{IsConclusion, IsUnnamed};
 ghost use Rattle.job_windows.specs.Replying.{IsReply};
 
 use crate::seats::Due;
-use operations::Held;
+use held_values::Held;
 use reply_lines::{Outcome, Reply, reply_line};
 use std::alloc::{AllocError, Global};
 use text_tables::CanonicalTexts;
@@ -40,11 +40,11 @@ fn is_unnamed(outcome: &Outcome, held: &Held) -> bool
     matches!(outcome, Outcome::Memory) && matches!(held, Held::Refused)
 }
 
-// Whether a job that holds this reports want of memory.
-fn lacks_memory(held: &Held) -> bool
-    ensures { result ≡ lacks held.now }
+// Whether the reply is want of memory.
+fn lacks_memory(outcome: &Outcome) -> bool
+    ensures { result ≡ is_want outcome.now }
 {
-    matches!(held, Held::Unheld)
+    matches!(outcome, Outcome::Memory)
 }
 
 impl Due {
@@ -58,10 +58,10 @@ impl Due {
     ) -> Result<ReplyLine, AllocError>
         requires { count + 1 < 2 ^ 64 }
         ensures named { IfOk result (λ _. ¬ IsUnnamed self.outcome self.held) }
-        ensures held { IfOk result (λ r. (r.held ≡ self.held) × (r.lacked ≡ lacks self.held)) }
-        ensures reply { (earlier : List Past) (line : List ℕ) → count ≡ length earlier → self.name ≡ name_of line
-            → IsConclusion self.outcome self.held (run_line (held_of earlier) line)
-            → IfOk result (λ r. IsReply r line earlier) }
+        ensures held { IfOk result (λ r. r.held ≡ self.held) }
+        ensures reply { (earlier : List Past) (line : List ℕ) (came : Came) → count ≡ length earlier → self.name ≡ name_of line
+            → IsConclusion self.outcome self.held (run_line (held_of earlier) line) came
+            → IfOk result (λ r. IsReply r line earlier came) }
     {
         let Due {
             name,
@@ -71,7 +71,7 @@ impl Due {
         if is_unnamed(&outcome, &held) {
             return Err(AllocError);
         }
-        let lacked = lacks_memory(&held);
+        let lacked = lacks_memory(&outcome);
         let is_ok = outcome.is_ok();
         let reductions = reductions_of(&outcome);
         let reply = Reply {

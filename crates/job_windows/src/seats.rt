@@ -1,14 +1,14 @@
 //! The jobs of a window, before and after they are run.
 ghost use Rattle.std.specs.Prelude.{◌≡◌, ◌≤◌, ◌∷◌, [], ℕ, List, map, Some, drop, length, slice_get, vec_capacity};
-ghost use Rattle.operations.specs.declared.held.Held.{Held as HeldMeaning};
+ghost use Rattle.held_values.specs.declared.held.Held.{Held as HeldMeaning};
 ghost use Rattle.reply_lines.specs.declared.replies.Outcome.{Outcome as OutcomeMeaning};
 ghost use Rattle.job_windows.specs.declared.seats.Seat.{Seat as SeatMeaning};
 ghost use Rattle.job_windows.specs.Windows.{need_by, AreInOrder, due_by};
 
+use held_values::Held;
 use job_lang::Op;
 use job_words::Name;
 use job_workers::{Need, Task};
-use operations::Held;
 use reply_lines::Outcome;
 use std::alloc::Global;
 use std::collections::VecDeque;

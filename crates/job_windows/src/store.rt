@@ -1,26 +1,24 @@
-//! The store of a session, and running the windows of its jobs.
-ghost use Rattle.std.specs.Prelude.{◌≡◌, ◌+◌, ◌∷◌, ◌++◌, [], ℕ, List, IfOk, OnOk, Some, map, length, Ok, option_copied};
-ghost use Rattle.session_laws.specs.Answers.{Lookup, name_of, run_read, run_line};
+//! The store of a session, and gathering the lines that are read into windows of jobs.
+ghost use Rattle.std.specs.Prelude.{◌≡◌, ◌+◌, ◌∷◌, ◌++◌, [], ℕ, List, IfOk, OnOk, Some, map, length, Ok, option_copied, ◌<◌, vec_capacity};
+ghost use Rattle.session_laws.specs.Answers.{Past, Lookup, name_of, run_read, run_line};
 ghost use Rattle.job_lang.specs.FormedOps.{IsFormedOp};
 ghost use Rattle.operation_laws.specs.Given.{names_in, base_name as base_of};
-ghost use Rattle.session_laws.specs.Jobs.{Past, IsKept};
+ghost use Rattle.session_laws.specs.Jobs.{IsKept};
 ghost use Rattle.job_windows.specs.Windows.{needs_at, need_at as need_of_place, need_named, Adds, IsAsked};
 ghost use Rattle.job_windows.specs.Means.{HasPass, AreTasks, AreRunnable, IsStore, IsGathered, IsPending};
 
 use crate::names::Names;
 use crate::reading::{Reading, read};
-use crate::runner::Operations;
-use crate::seats::{Asks, Due, Seat, Window, dues};
+use crate::seats::{Asks, Seat, Window};
 use cut_elim::{Desk, DeskPass};
+use held_values::{Held, base_name, name_at};
 use job_lang::{Job, Op};
 use job_words::Name;
-use job_workers::{Gate, Need, Task, run_window};
-use operations::{Held, base_name, name_at};
+use job_workers::{Need, Task};
 use reply_lines::Outcome;
 use std::alloc::{AllocError, Global};
 use std::mem::forget;
 use std::sync::Wait;
-use std::thread::Threads;
 use text_tables::FormulaTexts;
 
 /// The proofs of a session: the desk with the graph that they share, the names of jobs, and what each job holds, in their order. It can't be
@@ -194,39 +192,13 @@ impl Store {
         Ok(())
     }
 
-    /// Runs the jobs of a window by so many workers at most, and answers what is due for each, in their order. Room for the answers is made
-    /// before the first job is run. Where there is no memory for what a job left to the caller is given, no job of the window is answered.
-    pub fn run<R: Wait + Threads + Sync, G: Gate>(
-        &mut self,
-        rt: &R,
-        alloc: Global,
-        window: Window,
-        workers: u64,
-        gate: &G,
-    ) -> Result<Vec<Due>, AllocError>
-        requires { (earlier : List Past) × (lines : List (List ℕ)) × IsGathered self.old window earlier lines }
-        ensures due { (earlier : List Past) (lines : List (List ℕ)) → IsGathered self.old window earlier lines
-            → IfOk result (λ dues. IsPending self.new earlier lines dues.items) }
-        ensures length { IfOk result (λ dues. length dues.items ≡ length window.seats.items) }
-        ensures pass { HasPass self.new }
-    {
-        let Window { seats, tasks } = window;
-        let room = Vec::with_capacity(alloc, seats.len())?;
-        self.held.reserve(seats.len())?;
-        let operations = Operations {
-            desk: &self.desk,
-            alloc,
-        };
-        let answers = run_window(rt, alloc, &operations, &mut self.pass, tasks, workers, gate)?;
-        Ok(dues(seats, answers, room))
-    }
-
-    /// Keeps what a job holds that was due, for later ones.
-    pub fn keep(&mut self, held: Held) -> Result<(), AllocError>
-        ensures kept { OnOk result (self.new.held.items ≡ self.old.held.items ++ held ∷ []) }
+    /// Keeps what a job holds that was due, for later ones, in the room that was made before its window was run.
+    pub fn keep(&mut self, held: Held)
+        requires room { length self.old.held.items < vec_capacity self.old.held }
+        ensures kept { self.new.held.items ≡ self.old.held.items ++ held ∷ [] }
+        ensures room { vec_capacity self.new.held ≡ vec_capacity self.old.held }
         ensures same { (self.new.desk ≡ self.old.desk) × (self.new.pass ≡ self.old.pass) × (self.new.names ≡ self.old.names) }
     {
-        self.held.push(held)?;
-        Ok(())
+        self.held.push_reserved(held);
     }
 }

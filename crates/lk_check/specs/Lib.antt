@@ -1,3 +1,1 @@
-pub mod Checking
-pub mod StepTrees
 pub mod Admission

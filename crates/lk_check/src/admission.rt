@@ -3,38 +3,21 @@ ghost use Rattle.std.specs.Prelude.{◌≡◌, ◌≢◌, ◌<◌, ℕ, [], leng
 ghost use Rattle.std.specs.List.{All, filter_map};
 ghost use Rattle.lk_rules.specs.Rules.{IsFormedRule};
 ghost use Rattle.proof_trees.specs.Trees.{concl, IsInference};
-ghost use Rattle.proof_graph.specs.Shown.{trees};
+ghost use Rattle.proof_trees.specs.TreeLists.{trees};
 ghost use Rattle.proof_graph.specs.References.{trees_of};
 ghost use Rattle.proof_graph.specs.Graphs.{IsOf, IsPassOf, history, Extends};
-ghost use Rattle.lk_check.specs.Checking.{last_end, first_fault as first_fault_of, IsProof};
-ghost use Rattle.lk_check.specs.declared.checking.StepCause.{StepCause as Cause};
-ghost use Rattle.lk_check.specs.StepTrees.{tree_over, trees_of_steps, IsTreeOf};
-ghost use Rattle.lk_check.specs.Admission.{IsFault, Admits, admission};
+ghost use Rattle.step_laws.specs.Checking.{last_end, first_fault as first_fault_of, IsProof};
+ghost use Rattle.step_laws.specs.declared.fault.StepCause.{StepCause as Cause};
+ghost use Rattle.step_laws.specs.StepTrees.{tree_over, trees_of_steps, IsTreeOf};
+ghost use Rattle.step_laws.specs.Admission.{IsFault, admission};
+ghost use Rattle.lk_check.specs.Admission.{Admits};
 
-use crate::checking::{StepCause, first_fault};
+use crate::checking::first_fault;
 use lk_rules::Step;
 use proof_graph::{Graph, GraphPass, ProofRef};
 use std::alloc::{AllocError, Global};
 use std::sync::Wait;
-
-/// Why a list of steps has no tree.
-#[derive(Clone, Copy, PartialEq, Eq, Debug)]
-pub enum AdmitFault {
-    /// There is no step.
-    Empty,
-    /// This is the first faulty step, counted from 0, with its first fault.
-    Step { step: u64, cause: StepCause },
-    /// Memory ran out.
-    Memory,
-}
-
-impl From<AllocError> for AdmitFault {
-    fn from(_error: AllocError) -> AdmitFault
-        ensures { result ≡ AdmitFault.Memory }
-    {
-        AdmitFault::Memory
-    }
-}
+use step_laws::AdmitFault;
 
 // The references of the premises, by the numbers of the steps.
 fn pick(alloc: Global, proofs: &[ProofRef], premises: &[u64]) -> Result<Vec<ProofRef>, AllocError>

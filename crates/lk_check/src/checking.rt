@@ -2,18 +2,10 @@
 ghost use Rattle.std.specs.Prelude.{◌≡◌, ◌<◌, ◌↔◌, IsNone, IfSome, nat_lt, length, slice_get, option_copied};
 ghost use Rattle.std.specs.List.{list_all, All};
 ghost use Rattle.lk_rules.specs.Rules.{IsFormedRule};
-ghost use Rattle.lk_check.specs.Checking.{premise_end as end_of_premise, fault_of as step_fault, fault_from, first_fault as first_step_fault, IsProof, IsFirstFault};
+ghost use Rattle.step_laws.specs.Checking.{premise_end as end_of_premise, fault_of as step_fault, fault_from, first_fault as first_step_fault, IsProof, IsFirstFault};
 
-use lk_rules::{RuleFault, Sequent, Step, check};
-
-/// What is wrong with a step: the first fault in this order.
-#[derive(Clone, Copy, PartialEq, Eq, Debug)]
-pub enum StepCause {
-    /// A premise is not the number of an earlier step.
-    Reference,
-    /// The fault of the step's inference.
-    Rule(RuleFault),
-}
+use lk_rules::{Sequent, Step, check};
+use step_laws::StepCause;
 
 /// Whether each premise is the number of an earlier step.
 fn are_earlier(premises: &[u64], place: u64) -> bool

@@ -3,7 +3,7 @@
 
 mod admission;
 mod checking;
-pub mod laws;
 
-pub use admission::{AdmitFault, admit};
-pub use checking::{StepCause, first_fault};
+pub use admission::admit;
+pub use checking::first_fault;
+pub use step_laws::{AdmitFault, StepCause};

@@ -1,5 +1,5 @@
--- What isn't refused is as interpolation asks for.
-use Rattle.std.proofs.Common.{◌≡◌, ℕ, ◌<◌, ◌≤◌, true, false, None, Ok, refl, sym, subst, arith}
+-- The proofs of an interpolation, and the quantifiers of a small interpolant.
+use Rattle.std.proofs.Common.{◌≡◌, ℕ, ◌<◌, ◌≤◌, sym, subst, arith}
 use Rattle.std.proofs.lemmas.List.Sums.{list_all-from_AllPass}
 use Rattle.fol.specs.Syntax.{Formula}
 use Rattle.fol.specs.OrderLaws.{formula_total}
@@ -11,43 +11,13 @@ use Rattle.finite.specs.Finite as set
 use Rattle.finite.proofs.Finite.{all-adds}
 use Rattle.lk_rules.specs.declared.sequent.Sequent.{Sequent}
 use Rattle.lk_rules.specs.declared.sequent.Side.TheVariants.{Left, Right}
-use Rattle.lk_rules.specs.Sequents.{adds_to, union_sequent}
+use Rattle.lk_rules.specs.Sequents.{adds_to}
 use Rattle.lk_rules.proofs.Listings.{alike}
-use Rattle.proof_trees.specs.Trees.{Tree, concl, IsValid, size}
+use Rattle.proof_trees.specs.Trees.{Tree, concl, IsValid}
 use Rattle.proof_trees.specs.Conclusions as conclusions
-use Rattle.proof_trees.specs.Occurrence.{has_body_in_sequent}
-use Rattle.proof_steps.proofs.CutPlaces.{no_first_cut}
-use Rattle.proof_steps.proofs.Found.{plain_found}
-use Rattle.interp_laws.specs.Interpolation.{Interpolation, itp}
-use Rattle.interp_laws.specs.Parts.{IsFormedSequent, HasParts}
-use Rattle.lk_interp.specs.Interpolating.{interpolating, AreProofs}
-use Rattle.lk_interp.proofs.Order.{IsFaultless, faultless}
-use Rattle.lk_interp.proofs.Found.{equal_found}
-
-module _ (t : Tree) (one two : Sequent) (n : ℕ) (i : Interpolation) (answered : interpolating t one two n ≡ Ok i) where
-  here : IsFaultless t one two n i
-  here = faultless t one two n i answered
-
-  pub interpolation : i ≡ itp t one two
-  interpolation = here.is
-
-  pub union : union_sequent one two ≡ concl t
-  union = (equal_found (union_sequent one two) (concl t)).0 here.same
-
-  pub bodies : has_body_in_sequent (concl t) ≡ false
-  bodies = (plain_found (concl t)).0 here.no_body
-
-  pub budget : size t ≤ n
-  budget = here.small
-
-  pub parts : IsValid t → IsFormedSequent one → IsFormedSequent two → HasParts t one two
-  parts valid first second = record {
-    valid = valid;
-    without_cuts = (no_first_cut t None (sym here.no_cut)).0 refl;
-    first_formed = first;
-    second_formed = second;
-    together = record { left = λ f h. subst (λ (s : Sequent). set.has s.left f ≡ true) (sym union) h; right = λ f h. subst (λ (s : Sequent). set.has s.right f ≡ true) (sym union) h };
-  }
+use Rattle.interp_laws.specs.Interpolation.{Interpolation}
+use Rattle.interp_laws.specs.Parts.{IsFormedSequent}
+use Rattle.lk_interp.specs.Interpolating.{AreProofs}
 
 -- a sequent of well-formed formulas with one more
 listed : (s : Sequent) → IsFormedSequent s → conclusions.IsFormedSequent s

@@ -5,10 +5,11 @@ ghost use Rattle.fol.specs.Formed.{IsFormed};
 ghost use Rattle.finite.specs.Finite as set;
 ghost use Rattle.proof_graph.specs.Graphs.{IsOf};
 ghost use Rattle.interp_laws.specs.Interpolation.{itp};
-ghost use Rattle.lk_interp.specs.Interpolating.{first_outside as first_outside_formula, first_difference as first_different_formula, interpolating, Interpolates, NamesFormed};
+ghost use Rattle.interp_laws.specs.Interpolating.{first_outside as first_outside_formula, first_difference as first_different_formula, interpolating};
+ghost use Rattle.lk_interp.specs.Interpolating.{Interpolates, NamesFormed};
 
-use crate::fault::InterpFault;
 use fol::Formula;
+use interp_laws::InterpFault;
 use lk_rules::{Formulas, Sequent, Side};
 use proof_graph::{Graph, ProofRef};
 use proof_steps::{exceeds, first_cut, first_defined};

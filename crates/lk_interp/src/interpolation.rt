@@ -15,14 +15,14 @@ ghost use Rattle.interp_laws.specs.Parts.{IsFormedSequent, HasParts};
 ghost use Rattle.arena_cells.specs.Standing.{Extends as ExtendsArena, tree_at, IsTreeAt};
 ghost use Rattle.arena_interp.specs.Partitions.{IsInterpolatedAt, interpolation_at, HasInterpolation};
 ghost use Rattle.proof_subst.specs.Benches.{graph_of, pass_in, images_in, arena_in, IsBenchPassOf, Extends};
-ghost use Rattle.lk_interp.specs.Interpolating.{interpolating, interpolation_of, Interpolates, AreProofs, NamesFormed};
+ghost use Rattle.interp_laws.specs.Interpolating.{interpolating};
+ghost use Rattle.lk_interp.specs.Interpolating.{interpolation_of, Interpolates, AreProofs, NamesFormed};
 
-use crate::fault::InterpFault;
 use crate::faults::check;
-use crate::laws;
 use arena::Arena;
 use arena_interp::{Interpolated, interpolate_in};
 use fol::Formula;
+use interp_laws::{InterpFault, laws};
 use lk_rules::Sequent;
 use proof_graph::ProofRef;
 use proof_subst::{Bench, BenchPass, number_of, proof_at};

@@ -1,10 +1,8 @@
 //! Interpolation over shared proofs, after Maehara (1960), by way of an arena.
 #![tactic(auto)]
 
-mod fault;
 mod faults;
 mod interpolation;
-pub mod laws;
 
-pub use fault::InterpFault;
+pub use interp_laws::InterpFault;
 pub use interpolation::{Interp, interpolate};

@@ -5,7 +5,7 @@ use Rattle.std.specs.List.{All}
 use Rattle.proof_trees.specs.Trees.{Tree}
 use Rattle.expansion_laws.specs.Dependency.{Expansion}
 use Rattle.exp_tree.specs.Writing.{flat_of}
-use Rattle.proof_steps.specs.Places.{steps_of}
+use Rattle.step_laws.specs.Places.{steps_of}
 use Rattle.tptp_problem.specs.declared.problems.Problem.{Problem}
 use Rattle.job_lang.specs.declared.jobs.Op.{Op}
 use Rattle.job_lang.specs.declared.jobs.Op.TheVariants as ops

@@ -6,9 +6,9 @@ use Rattle.lk_rules.specs.declared.sequent.Sequent.{Sequent}
 use Rattle.proof_trees.specs.Trees.{Tree, IsValid}
 use Rattle.interp_laws.specs.Interpolation.{Interpolation}
 use Rattle.interp_laws.specs.Parts.{IsFormedSequent}
-use Rattle.lk_interp.specs.declared.fault.InterpFault.{InterpFault}
-use Rattle.lk_interp.specs.declared.fault.InterpFault.TheVariants as interpolation
-use Rattle.lk_interp.specs.Interpolating.{interpolating}
+use Rattle.interp_laws.specs.declared.fault.InterpFault.{InterpFault}
+use Rattle.interp_laws.specs.declared.fault.InterpFault.TheVariants as interpolation
+use Rattle.interp_laws.specs.Interpolating.{interpolating}
 use Rattle.job_lang.specs.FormedOps.{AreFormedSides}
 use Rattle.operation_laws.specs.Values.{Value, IsSound}
 use Rattle.operation_laws.specs.Answers.{Product, interpolant, lacking, product}

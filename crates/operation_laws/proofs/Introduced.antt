@@ -4,13 +4,13 @@ use Rattle.std.specs.Prelude.{IfSome}
 use Rattle.proof_trees.specs.Trees.{Tree, concl, quants, IsValid}
 use Rattle.herbrand_laws.specs.Herbrand.{Item, herbrand_sequent}
 use Rattle.herbrand_laws.specs.Introduction.{IsProofWithCut}
-use Rattle.delta_table.specs.Items.{counted}
-use Rattle.cut_intro.specs.declared.fault.HerbrandFault.{HerbrandFault}
-use Rattle.cut_intro.specs.declared.fault.HerbrandFault.TheVariants as instances
-use Rattle.cut_intro.specs.declared.fault.IntroFault.{IntroFault}
-use Rattle.cut_intro.specs.declared.fault.IntroFault.TheVariants as introduction
-use Rattle.cut_intro.specs.Instancing.{instancing}
-use Rattle.cut_intro.specs.Introducing.{Answer as Introduction, shorter, same, introducing, has_formed_instances}
+use Rattle.herbrand_laws.specs.Counted.{counted}
+use Rattle.introduction_laws.specs.declared.fault.HerbrandFault.{HerbrandFault}
+use Rattle.introduction_laws.specs.declared.fault.HerbrandFault.TheVariants as instances
+use Rattle.introduction_laws.specs.declared.fault.IntroFault.{IntroFault}
+use Rattle.introduction_laws.specs.declared.fault.IntroFault.TheVariants as introduction
+use Rattle.introduction_laws.specs.Instancing.{instancing}
+use Rattle.introduction_laws.specs.Introducing.{Answer as Introduction, shorter, same, introducing, has_formed_instances}
 use Rattle.operation_laws.specs.Values.{Value, IsSound}
 use Rattle.operation_laws.specs.Answers.{Product, herbrand, introduced, lacking, product, capped}
 use Rattle.operation_laws.specs.Given.{found, proof_given}

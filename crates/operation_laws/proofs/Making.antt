@@ -30,9 +30,9 @@ use Rattle.refutations.proofs.InputTrees.{few_variables}
 use Rattle.refutations.proofs.Refuting.{end_of_refutation, valid_refutation}
 use Rattle.search_laws.specs.Search.{walk}
 use Rattle.search_laws.proofs.Found.{IsFound, found as found_tree, formed_sequent}
-use Rattle.prop_search.specs.declared.fault.SearchFault.{SearchFault}
-use Rattle.prop_search.specs.declared.fault.SearchFault.TheVariants as search
-use Rattle.prop_search.specs.Deciding.{found as found_within}
+use Rattle.search_laws.specs.declared.fault.SearchFault.{SearchFault}
+use Rattle.search_laws.specs.declared.fault.SearchFault.TheVariants as search
+use Rattle.search_laws.specs.Budgets.{found as found_within}
 use Rattle.lk_rules.specs.declared.sequent.Side.TheVariants.{Left, Right}
 use Rattle.expansion_laws.specs.Building.{is_built}
 use Rattle.expansion_laws.specs.Dependency.{Expansion}
@@ -42,14 +42,14 @@ use Rattle.exp_tree.specs.FlatReading.{AreRight, reading}
 use Rattle.exp_tree.specs.declared.flat.FlatExp.{FlatExp}
 use Rattle.exp_tree.specs.declared.flat.NodesFault.{NodesFault}
 use Rattle.exp_tree.specs.declared.flat.NodesFault.TheVariants as reading_faults
-use Rattle.exp_check.specs.declared.fault.ExpFault.{ExpFault}
-use Rattle.exp_check.specs.declared.fault.ExpFault.TheVariants as checks
-use Rattle.exp_check.specs.Checking.{checking}
-use Rattle.lk_check.specs.declared.admission.AdmitFault.{AdmitFault}
-use Rattle.lk_check.specs.declared.admission.AdmitFault.TheVariants as admission
-use Rattle.lk_check.specs.Checking.{last_end}
-use Rattle.lk_check.specs.Admission.{admission as admission_of}
-use Rattle.lk_check.proofs.Admissions.{valid_admission, end_of_admission}
+use Rattle.expansion_laws.specs.declared.fault.ExpFault.{ExpFault}
+use Rattle.expansion_laws.specs.declared.fault.ExpFault.TheVariants as checks
+use Rattle.expansion_laws.specs.Checking.{checking}
+use Rattle.step_laws.specs.declared.fault.AdmitFault.{AdmitFault}
+use Rattle.step_laws.specs.declared.fault.AdmitFault.TheVariants as admission
+use Rattle.step_laws.specs.Checking.{last_end}
+use Rattle.step_laws.specs.Admission.{admission as admission_of}
+use Rattle.step_laws.proofs.Admissions.{valid_admission, end_of_admission}
 use Rattle.tptp_problem.specs.declared.problems.Problem.{Problem}
 use Rattle.tptp_problem.specs.ProblemClauses.{clauses_of, IsReadProblem}
 use Rattle.tptp_problem.proofs.ReadClauses.{all_clauses}

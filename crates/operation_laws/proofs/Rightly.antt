@@ -6,7 +6,7 @@ use Rattle.expansion_laws.specs.Proofs.{shallow_sequent, IsExpansionProof}
 use Rattle.exp_tree.specs.declared.flat.FlatExp.{FlatExp}
 use Rattle.exp_tree.specs.Roots.{expansion_over}
 use Rattle.exp_tree.specs.FlatReading.{AreRight, reading}
-use Rattle.exp_to_lk.specs.Building.{building, has_formed_trees}
+use Rattle.building_laws.specs.Budgets.{building, has_formed_trees}
 use Rattle.operation_laws.proofs.Making.{ReadsRightly, ChecksRightly}
 use Rattle.operation_laws.proofs.Interpolated.{InterpolatesRightly}
 use Rattle.operation_laws.proofs.Trees.{ExtractsRightly, BuildsRightly}

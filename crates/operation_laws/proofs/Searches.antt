@@ -3,8 +3,8 @@ use Rattle.std.proofs.Common.{◌≡◌, ℕ, Bool, true, false, cond, Ok, Err, 
 use Rattle.std.specs.Prelude.{nat_lt}
 use Rattle.proof_trees.specs.Trees.{Tree}
 use Rattle.search_laws.specs.Search.{Walk, proved, falsified, visits}
-use Rattle.prop_search.specs.declared.fault.SearchFault.TheVariants as search
-use Rattle.prop_search.specs.Deciding.{verdict, found}
+use Rattle.search_laws.specs.declared.fault.SearchFault.TheVariants as search
+use Rattle.search_laws.specs.Budgets.{verdict, found}
 
 -- a proof that is found within a budget is that of the whole search
 pub found_proved : (n : ℕ) (w : Walk) (t : Tree) → found n w ≡ Ok t → w ≡ proved t

@@ -9,7 +9,7 @@ use Rattle.proof_trees.specs.Trees.{Tree, IsValid}
 use Rattle.expansion_laws.specs.Dependency.{Expansion}
 use Rattle.expansion_laws.specs.Proofs.{IsExpansionProof}
 use Rattle.exp_tree.specs.Writing.{flat_of}
-use Rattle.proof_steps.specs.Places.{steps_of}
+use Rattle.step_laws.specs.Places.{steps_of}
 use Rattle.job_lang.specs.declared.jobs.Op.{Op}
 use Rattle.job_lang.specs.declared.jobs.Op.TheVariants as ops
 use Rattle.job_lang.specs.FormedOps.{IsFormedOp}

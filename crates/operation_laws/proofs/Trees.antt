@@ -4,12 +4,12 @@ use Rattle.std.specs.Prelude.{IfSome}
 use Rattle.proof_trees.specs.Trees.{Tree, concl, IsValid}
 use Rattle.expansion_laws.specs.Dependency.{Expansion}
 use Rattle.expansion_laws.specs.Proofs.{shallow_sequent, IsExpansionProof}
-use Rattle.exp_extract.specs.declared.fault.ExtractFault.{ExtractFault}
-use Rattle.exp_extract.specs.declared.fault.ExtractFault.TheVariants as extraction
-use Rattle.exp_extract.specs.Extracting.{extracting}
-use Rattle.exp_to_lk.specs.declared.fault.BuildFault.{BuildFault}
-use Rattle.exp_to_lk.specs.declared.fault.BuildFault.TheVariants as construction
-use Rattle.exp_to_lk.specs.Building.{building, has_formed_trees}
+use Rattle.extraction_laws.specs.declared.fault.ExtractFault.{ExtractFault}
+use Rattle.extraction_laws.specs.declared.fault.ExtractFault.TheVariants as extraction
+use Rattle.extraction_laws.specs.Extracting.{extracting}
+use Rattle.building_laws.specs.declared.fault.BuildFault.{BuildFault}
+use Rattle.building_laws.specs.declared.fault.BuildFault.TheVariants as construction
+use Rattle.building_laws.specs.Budgets.{building, has_formed_trees}
 use Rattle.operation_laws.specs.Values.{Value, IsSound}
 use Rattle.operation_laws.specs.Answers.{Product, expansion, lacking, product}
 use Rattle.operation_laws.specs.Given.{found, proof_given, expansion_given}

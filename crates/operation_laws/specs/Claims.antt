@@ -22,12 +22,12 @@ use Rattle.expansion_laws.specs.Dependency.{Expansion}
 use Rattle.expansion_laws.specs.Proofs.{shallow_sequent, IsExpansionProof}
 use Rattle.extraction_laws.specs.Extraction.{extracted}
 use Rattle.herbrand_laws.specs.Herbrand.{items_of, herbrand_sequent}
-use Rattle.delta_table.specs.Items.{counted}
+use Rattle.herbrand_laws.specs.Counted.{counted}
 use Rattle.exp_tree.specs.declared.flat.FlatExp.{FlatExp}
 use Rattle.exp_tree.specs.Roots.{expansion_over}
 use Rattle.exp_tree.specs.Writing.{flat_of}
-use Rattle.lk_check.specs.Checking.{last_end}
-use Rattle.proof_steps.specs.Places.{steps_of}
+use Rattle.step_laws.specs.Checking.{last_end}
+use Rattle.step_laws.specs.Places.{steps_of}
 use Rattle.tptp_problem.specs.declared.problems.Problem.{Problem}
 use Rattle.tptp_problem.specs.ProblemClauses.{clauses_of}
 use Rattle.job_lang.specs.declared.jobs.Op.{Op}

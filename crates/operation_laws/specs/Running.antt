@@ -19,41 +19,41 @@ use Rattle.refutations.specs.declared.step.ResCause.TheVariants as refutation_ca
 use Rattle.refutations.specs.Refutations.{refutation}
 use Rattle.search_laws.specs.Truth.{has_quantifier}
 use Rattle.search_laws.specs.Search.{walk}
-use Rattle.prop_search.specs.declared.fault.SearchFault.{SearchFault}
-use Rattle.prop_search.specs.declared.fault.SearchFault.TheVariants as search
-use Rattle.prop_search.specs.Deciding.{found as found_within}
+use Rattle.search_laws.specs.declared.fault.SearchFault.{SearchFault}
+use Rattle.search_laws.specs.declared.fault.SearchFault.TheVariants as search
+use Rattle.search_laws.specs.Budgets.{found as found_within}
 use Rattle.expansion_laws.specs.Dependency.{Expansion}
 use Rattle.exp_tree.specs.declared.flat.NodesFault.{NodesFault}
 use Rattle.exp_tree.specs.declared.flat.NodesFault.TheVariants as reading_faults
 use Rattle.exp_tree.specs.FlatReading.{reading}
 use Rattle.exp_tree.specs.Writing.{flat_of}
-use Rattle.exp_check.specs.declared.fault.ExpFault.{ExpFault}
-use Rattle.exp_check.specs.declared.fault.ExpFault.TheVariants as checks
-use Rattle.exp_check.specs.Checking.{checking}
-use Rattle.exp_extract.specs.declared.fault.ExtractFault.{ExtractFault}
-use Rattle.exp_extract.specs.declared.fault.ExtractFault.TheVariants as extraction
-use Rattle.exp_extract.specs.Extracting.{extracting}
-use Rattle.exp_to_lk.specs.declared.fault.BuildFault.{BuildFault}
-use Rattle.exp_to_lk.specs.declared.fault.BuildFault.TheVariants as construction
-use Rattle.exp_to_lk.specs.Building.{building, has_formed_trees}
+use Rattle.expansion_laws.specs.declared.fault.ExpFault.{ExpFault}
+use Rattle.expansion_laws.specs.declared.fault.ExpFault.TheVariants as checks
+use Rattle.expansion_laws.specs.Checking.{checking}
+use Rattle.extraction_laws.specs.declared.fault.ExtractFault.{ExtractFault}
+use Rattle.extraction_laws.specs.declared.fault.ExtractFault.TheVariants as extraction
+use Rattle.extraction_laws.specs.Extracting.{extracting}
+use Rattle.building_laws.specs.declared.fault.BuildFault.{BuildFault}
+use Rattle.building_laws.specs.declared.fault.BuildFault.TheVariants as construction
+use Rattle.building_laws.specs.Budgets.{building, has_formed_trees}
 use Rattle.herbrand_laws.specs.Herbrand.{Item, herbrand_sequent}
-use Rattle.delta_table.specs.Items.{counted}
-use Rattle.cut_intro.specs.declared.fault.HerbrandFault.{HerbrandFault}
-use Rattle.cut_intro.specs.declared.fault.HerbrandFault.TheVariants as instances
-use Rattle.cut_intro.specs.declared.fault.IntroFault.{IntroFault}
-use Rattle.cut_intro.specs.declared.fault.IntroFault.TheVariants as introduction
-use Rattle.cut_intro.specs.Instancing.{instancing}
-use Rattle.cut_intro.specs.Introducing.{Answer as Introduction, shorter, same, introducing, has_formed_instances}
+use Rattle.herbrand_laws.specs.Counted.{counted}
+use Rattle.introduction_laws.specs.declared.fault.HerbrandFault.{HerbrandFault}
+use Rattle.introduction_laws.specs.declared.fault.HerbrandFault.TheVariants as instances
+use Rattle.introduction_laws.specs.declared.fault.IntroFault.{IntroFault}
+use Rattle.introduction_laws.specs.declared.fault.IntroFault.TheVariants as introduction
+use Rattle.introduction_laws.specs.Instancing.{instancing}
+use Rattle.introduction_laws.specs.Introducing.{Answer as Introduction, shorter, same, introducing, has_formed_instances}
 use Rattle.interp_laws.specs.Interpolation.{Interpolation}
-use Rattle.lk_interp.specs.declared.fault.InterpFault.{InterpFault}
-use Rattle.lk_interp.specs.declared.fault.InterpFault.TheVariants as interpolation
-use Rattle.lk_interp.specs.Interpolating.{interpolating}
-use Rattle.lk_check.specs.declared.checking.StepCause.{StepCause}
-use Rattle.lk_check.specs.declared.checking.StepCause.TheVariants as causes
-use Rattle.lk_check.specs.declared.admission.AdmitFault.{AdmitFault}
-use Rattle.lk_check.specs.declared.admission.AdmitFault.TheVariants as admission
-use Rattle.lk_check.specs.Admission.{admission as admission_of}
-use Rattle.proof_steps.specs.Places.{steps_of}
+use Rattle.interp_laws.specs.declared.fault.InterpFault.{InterpFault}
+use Rattle.interp_laws.specs.declared.fault.InterpFault.TheVariants as interpolation
+use Rattle.interp_laws.specs.Interpolating.{interpolating}
+use Rattle.step_laws.specs.declared.fault.StepCause.{StepCause}
+use Rattle.step_laws.specs.declared.fault.StepCause.TheVariants as causes
+use Rattle.step_laws.specs.declared.fault.AdmitFault.{AdmitFault}
+use Rattle.step_laws.specs.declared.fault.AdmitFault.TheVariants as admission
+use Rattle.step_laws.specs.Admission.{admission as admission_of}
+use Rattle.step_laws.specs.Places.{steps_of}
 use Rattle.tptp_problem.specs.declared.problems.Problem.{Problem}
 use Rattle.tptp_problem.specs.ProblemClauses.{clauses_of}
 use Rattle.job_lang.specs.declared.jobs.Op.{Op}

@@ -6,10 +6,10 @@ ghost use Rattle.lk_rules.specs.declared.sequent.Sequent.{Sequent as Conclusion}
 ghost use Rattle.proof_trees.specs.Trees.{Tree, IsValid};
 ghost use Rattle.interp_laws.specs.Interpolation.{Interpolation};
 ghost use Rattle.interp_laws.specs.Parts.{IsFormedSequent};
-ghost use Rattle.lk_interp.specs.Interpolating.{interpolating};
+ghost use Rattle.interp_laws.specs.Interpolating.{interpolating};
 ghost use Rattle.herbrand_laws.specs.Herbrand.{Item, herbrand_sequent};
-ghost use Rattle.delta_table.specs.Items.{counted};
-ghost use Rattle.cut_intro.specs.Instancing.{instancing};
+ghost use Rattle.herbrand_laws.specs.Counted.{counted};
+ghost use Rattle.introduction_laws.specs.Instancing.{instancing};
 ghost use Rattle.job_lang.specs.declared.jobs.Op.{Op as Operation};
 ghost use Rattle.job_lang.specs.FormedOps.{IsFormedOp};
 ghost use Rattle.reply_lines.specs.Replies.{is_ok_outcome};
@@ -25,7 +25,7 @@ fn interpolations()
     ensures { (t : Tree) (one two : Conclusion) (n : ℕ) (i : Interpolation) → IsValid t → IsFormedSequent one → IsFormedSequent two
         → interpolating t one two n ≡ Ok i → IsFormed i.formula → IsInterpolated t one two i.formula i.first i.second }
 {
-    lk_interp::laws::interpolations();
+    interp_laws::laws::interpolations();
     interp_laws::laws::proofs();
     interp_laws::laws::interpolants();
 }
@@ -34,7 +34,7 @@ fn interpolations()
 fn herbrand_sequents()
     ensures { (t : Tree) (n : ℕ) (items : List Item) → IsValid t → instancing t n ≡ Ok items → IsHerbrandOf t (capped (counted items)) (herbrand_sequent items) }
 {
-    cut_intro::laws::instancings();
+    introduction_laws::laws::instancings();
 }
 
 /// Over sound values each operation makes what it claims, each proof in its product is valid, and what the job holds is sound.
@@ -47,12 +47,12 @@ pub fn claims()
         → IsSound (held (run op vs)) }
 {
     exp_tree::laws::readings();
-    exp_check::laws::checks();
-    exp_extract::laws::extractions();
-    exp_to_lk::laws::buildings();
+    expansion_laws::laws::checks();
+    extraction_laws::laws::extractions();
+    building_laws::laws::buildings();
     interpolations();
     herbrand_sequents();
-    cut_intro::laws::introductions();
+    introduction_laws::laws::introductions();
 }
 
 /// What is replied is want of memory exactly where memory ran out, and no error exactly where it shows a product.

@@ -3,9 +3,9 @@ use Rattle.std.proofs.Common.{◌≡◌, ℕ, Bool, true, cond, Result, Ok, Err,
 use Rattle.proof_trees.specs.Trees.{Tree}
 use Rattle.proof_graph.specs.declared.graph.Graph.{Graph}
 use Rattle.expansion_laws.specs.Dependency.{Expansion}
-use Rattle.exp_to_lk.specs.declared.fault.BuildFault.{BuildFault}
-use Rattle.exp_to_lk.specs.declared.fault.BuildFault.TheVariants as construction
-use Rattle.exp_to_lk.specs.Building.{building, has_formed_trees}
+use Rattle.building_laws.specs.declared.fault.BuildFault.{BuildFault}
+use Rattle.building_laws.specs.declared.fault.BuildFault.TheVariants as construction
+use Rattle.building_laws.specs.Budgets.{building, has_formed_trees}
 use Rattle.operation_laws.specs.declared.refusals.Failure.TheVariants.{Budget}
 use Rattle.operations.specs.declared.answers.Ran.{Ran}
 use Rattle.operations.specs.declared.answers.Ran.TheVariants as ran

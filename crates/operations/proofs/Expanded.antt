@@ -10,9 +10,9 @@ use Rattle.exp_tree.specs.Reads.{expansion_of, StandsRightly}
 use Rattle.exp_tree.specs.declared.flat.NodesFault.{NodesFault}
 use Rattle.exp_tree.specs.declared.flat.NodesFault.TheVariants as reading_faults
 use Rattle.exp_tree.specs.declared.sequents.ExpSequent.{ExpSequent}
-use Rattle.exp_check.specs.declared.fault.ExpFault.{ExpFault}
-use Rattle.exp_check.specs.declared.fault.ExpFault.TheVariants as checks
-use Rattle.exp_check.specs.Checking.{checking}
+use Rattle.expansion_laws.specs.declared.fault.ExpFault.{ExpFault}
+use Rattle.expansion_laws.specs.declared.fault.ExpFault.TheVariants as checks
+use Rattle.expansion_laws.specs.Checking.{checking}
 use Rattle.operations.specs.declared.answers.Ran.{Ran}
 use Rattle.operations.specs.declared.answers.Ran.TheVariants as ran
 use Rattle.operation_laws.specs.Answers.{expansion, product, capped}

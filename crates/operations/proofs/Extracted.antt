@@ -2,8 +2,8 @@
 use Rattle.std.proofs.Common.{◌≡◌, Result, Ok, Err, sym, subst}
 use Rattle.proof_graph.specs.declared.graph.Graph.{Graph}
 use Rattle.expansion_laws.specs.Dependency.{Expansion}
-use Rattle.exp_extract.specs.declared.fault.ExtractFault.{ExtractFault}
-use Rattle.exp_extract.specs.declared.fault.ExtractFault.TheVariants as extraction
+use Rattle.extraction_laws.specs.declared.fault.ExtractFault.{ExtractFault}
+use Rattle.extraction_laws.specs.declared.fault.ExtractFault.TheVariants as extraction
 use Rattle.operations.specs.declared.answers.Ran.{Ran}
 use Rattle.operations.specs.declared.answers.Ran.TheVariants as ran
 use Rattle.operation_laws.specs.Answers.{expansion, product}

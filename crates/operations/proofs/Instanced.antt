@@ -2,9 +2,9 @@
 use Rattle.std.proofs.Common.{◌≡◌, List, Result, Ok, Err, sym, subst}
 use Rattle.proof_graph.specs.declared.graph.Graph.{Graph}
 use Rattle.herbrand_laws.specs.Herbrand.{Item, herbrand_sequent}
-use Rattle.delta_table.specs.Items.{counted}
-use Rattle.cut_intro.specs.declared.fault.HerbrandFault.{HerbrandFault}
-use Rattle.cut_intro.specs.declared.fault.HerbrandFault.TheVariants as instances
+use Rattle.herbrand_laws.specs.Counted.{counted}
+use Rattle.introduction_laws.specs.declared.fault.HerbrandFault.{HerbrandFault}
+use Rattle.introduction_laws.specs.declared.fault.HerbrandFault.TheVariants as instances
 use Rattle.operations.specs.declared.answers.Ran.{Ran}
 use Rattle.operations.specs.declared.answers.Ran.TheVariants as ran
 use Rattle.operation_laws.specs.Answers.{herbrand, capped, product}

@@ -3,8 +3,8 @@ use Rattle.std.proofs.Common.{◌≡◌, Bool, true, false, cond, Result, Ok, Er
 use Rattle.fol.specs.Formed.{is_formed, IsFormed}
 use Rattle.proof_graph.specs.declared.graph.Graph.{Graph}
 use Rattle.interp_laws.specs.Interpolation.{Interpolation}
-use Rattle.lk_interp.specs.declared.fault.InterpFault.{InterpFault}
-use Rattle.lk_interp.specs.declared.fault.InterpFault.TheVariants as interpolation
+use Rattle.interp_laws.specs.declared.fault.InterpFault.{InterpFault}
+use Rattle.interp_laws.specs.declared.fault.InterpFault.TheVariants as interpolation
 use Rattle.lk_interp.specs.declared.interpolation.Interp.{Interp}
 use Rattle.lk_interp.specs.Interpolating.{interpolation_of}
 use Rattle.operations.specs.declared.answers.Ran.{Ran}

@@ -5,9 +5,9 @@ use Rattle.lk_rules.proofs.Subsequents.{and_left, and_right}
 use Rattle.std.specs.Prelude.{nat_le}
 use Rattle.proof_trees.specs.Trees.{Tree}
 use Rattle.proof_graph.specs.declared.graph.Graph.{Graph}
-use Rattle.cut_intro.specs.declared.fault.IntroFault.{IntroFault}
-use Rattle.cut_intro.specs.declared.fault.IntroFault.TheVariants as introduction
-use Rattle.cut_intro.specs.Introducing.{Answer as Introduction, shorter, same, has_formed_instances}
+use Rattle.introduction_laws.specs.declared.fault.IntroFault.{IntroFault}
+use Rattle.introduction_laws.specs.declared.fault.IntroFault.TheVariants as introduction
+use Rattle.introduction_laws.specs.Introducing.{Answer as Introduction, shorter, same, has_formed_instances}
 use Rattle.job_lang.specs.Widths.{is_width}
 use Rattle.operations.specs.declared.answers.Ran.{Ran}
 use Rattle.operations.specs.declared.answers.Ran.TheVariants as ran

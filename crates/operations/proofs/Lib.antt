@@ -1,4 +1,3 @@
-pub mod Suffixes
 pub mod Givings
 pub mod Eliminated
 pub mod Refuted
@@ -10,5 +9,4 @@ pub mod Built
 pub mod Interpolated
 pub mod Instanced
 pub mod Introduced
-pub mod Crossing
 pub mod Noted

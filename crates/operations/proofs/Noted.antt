@@ -8,7 +8,7 @@ use Rattle.operation_laws.specs.declared.refusals.Refusal.TheVariants as refusal
 use Rattle.operation_laws.specs.declared.refusals.Failure.{Failure}
 use Rattle.operation_laws.specs.declared.refusals.Failure.TheVariants as failures
 use Rattle.operation_laws.specs.Answers.{shown_refusal, shown_failure}
-use Rattle.operations.specs.declared.held.Held.{Held}
+use Rattle.held_values.specs.declared.held.Held.{Held}
 use Rattle.operations.specs.Means.{Needs, a_graph, a_bench, a_desk, needs}
 use Rattle.operations.specs.Noted.{IsNoted, is_reduced}
 

@@ -12,9 +12,9 @@ use Rattle.proof_trees.specs.Trees.{Tree}
 use Rattle.proof_graph.specs.declared.graph.Graph.{Graph}
 use Rattle.search_laws.specs.Truth.{Assignment, has_quantifier, IsPropositional}
 use Rattle.search_laws.specs.Search.{walk}
-use Rattle.prop_search.specs.declared.fault.SearchFault.{SearchFault}
-use Rattle.prop_search.specs.declared.fault.SearchFault.TheVariants as search
-use Rattle.prop_search.specs.Deciding.{found}
+use Rattle.search_laws.specs.declared.fault.SearchFault.{SearchFault}
+use Rattle.search_laws.specs.declared.fault.SearchFault.TheVariants as search
+use Rattle.search_laws.specs.Budgets.{found}
 use Rattle.operation_laws.specs.declared.refusals.Failure.TheVariants.{Budget, Quantified, Falsified}
 use Rattle.operations.specs.declared.answers.Ran.{Ran}
 use Rattle.operations.specs.declared.answers.Ran.TheVariants as ran

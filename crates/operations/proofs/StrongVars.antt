@@ -18,22 +18,24 @@ use Rattle.fol.specs.Formed.{is_formed, is_formed_term, is_formed_var, IsFormedV
 use Rattle.fol.proofs.OrderTies.{var_ties}
 use Rattle.proof_trees.specs.Trees.{Tree as ProofTree}
 use Rattle.search_laws.specs.Search.{walk}
-use Rattle.prop_search.specs.declared.fault.SearchFault.{SearchFault}
-use Rattle.prop_search.specs.declared.fault.SearchFault.TheVariants as search
-use Rattle.prop_search.specs.Deciding.{found}
+use Rattle.search_laws.specs.declared.fault.SearchFault.{SearchFault}
+use Rattle.search_laws.specs.declared.fault.SearchFault.TheVariants as search
+use Rattle.search_laws.specs.Budgets.{found}
 use Rattle.expansion_laws.specs.Expansions.{Exp as Tree, wk, leaf, neg, conj, disj, impl, weak, strong, Insts, none, more}
 use Rattle.expansion_laws.specs.Dependency.{Expansion, strongs, strongs_in, strongs_each, strongs_of, is_before}
 use Rattle.expansion_laws.specs.Proofs.{shallow_sequent}
 use Rattle.expansion_laws.specs.Sequents.{deep_sequent}
-use Rattle.exp_tree.specs.Sizes.{is_formed_exp, are_formed_insts}
+use Rattle.expansion_laws.specs.Formed.{is_formed_exp, are_formed_insts}
 use Rattle.exp_tree.specs.Sequents.{AreArranged}
 use Rattle.exp_tree.specs.Reads.{expansion_of}
 use Rattle.exp_tree.specs.declared.sequents.ExpSequent.{ExpSequent}
-use Rattle.exp_check.specs.declared.fault.ExpFault.{ExpFault}
-use Rattle.exp_check.specs.declared.fault.ExpFault.TheVariants.{EigenTwice, EigenFree, Cycle, Falsified, Budget, Memory}
-use Rattle.exp_check.specs.Eigenvariables.{is_repeated, is_free_eigenvariable}
-use Rattle.exp_check.specs.Cycles.{fewest, leads, way, cycle_from, first_cycle, variables, cycle}
-use Rattle.exp_check.specs.Checking.{or_fault, searched, checking, Checks}
+use Rattle.expansion_laws.specs.declared.fault.ExpFault.{ExpFault}
+use Rattle.expansion_laws.specs.declared.fault.ExpFault.TheVariants.{EigenTwice, EigenFree, Cycle, Falsified, Budget, Memory}
+use Rattle.expansion_laws.specs.Eigenvariables.{is_repeated, is_free_eigenvariable}
+use Rattle.expansion_laws.specs.Cycles.{fewest, leads, way, cycle_from, first_cycle, variables, cycle}
+use Rattle.step_laws.specs.Faults.{or_fault}
+use Rattle.expansion_laws.specs.Checking.{searched, checking}
+use Rattle.exp_check.specs.Checking.{Checks}
 use Rattle.operations.specs.Means.{HasFormedVars}
 
 -- the strong quantifiers of trees that name what is well formed

@@ -1,36 +1,27 @@
--- What the program's values and answers stand for, over the graph that the proofs share.
---     sense      what a value means, and nothing for a name that no job has
---     Fits      the value may be given to an operation over this graph
+-- What the program's answers stand for, over the graph that the proofs share.
 --     made_of      what a product of the program means
 --     needs      what an operation is run with
 --     Comes      what an operation came to stands for an answer
 --     is_refusal      an operation came to a refusal or a failure
 --     IsShort      an operation failed because the work takes more than the budget allows
---     IsAnswerOf      an outcome and a value are what is answered
-use Rattle.std.specs.Prelude.{◌≡◌, ◌⊎◌, Bool, true, false, Option, Some, None, Result, Ok, Err}
+use Rattle.std.specs.Prelude.{◌≡◌, Bool, true, false, Result, Ok, Err}
 use Rattle.std.specs.List.{All}
 use Rattle.proof_graph.specs.declared.graph.Graph.{Graph}
 use Rattle.proof_graph.specs.Graphs.{IsOf}
 use Rattle.fol.specs.Formed.{IsFormedVar}
 use Rattle.exp_tree.specs.Reads.{expansion_of}
-use Rattle.exp_check.specs.declared.fault.ExpFault.{ExpFault}
-use Rattle.exp_check.specs.declared.fault.ExpFault.TheVariants as checks
+use Rattle.expansion_laws.specs.declared.fault.ExpFault.{ExpFault}
+use Rattle.expansion_laws.specs.declared.fault.ExpFault.TheVariants as checks
 use Rattle.tptp_problem.specs.ProblemClauses.{IsReadProblem}
 use Rattle.job_lang.specs.declared.jobs.Op.{Op}
 use Rattle.job_lang.specs.declared.jobs.Op.TheVariants as ops
-use Rattle.reply_lines.specs.declared.replies.Outcome.{Outcome}
-use Rattle.reply_lines.specs.declared.replies.Outcome.TheVariants.{Memory}
 use Rattle.operation_laws.specs.declared.refusals.Refusal.{Refusal}
-use Rattle.operation_laws.specs.declared.refusals.Refusal.TheVariants.{UnknownName, Kind, Empty, Step}
 use Rattle.operation_laws.specs.declared.refusals.Failure.TheVariants.{Budget}
-use Rattle.operations.specs.declared.held.Held.{Held}
-use Rattle.operations.specs.declared.held.Held.TheVariants as held
 use Rattle.operations.specs.declared.answers.Made.{Made}
 use Rattle.operations.specs.declared.answers.Made.TheVariants as made
 use Rattle.operations.specs.declared.answers.Ran.{Ran}
 use Rattle.operations.specs.declared.answers.Ran.TheVariants as ran
-use Rattle.operation_laws.specs.Values.{Value, nothing, refused, lacking, proof, pair, problem, expansion}
-use Rattle.operation_laws.specs.Answers.{Product, Answer, shown_refusal, shown_failure, shown_product, held_product}
+use Rattle.operation_laws.specs.Answers.{Product, Answer}
 use Rattle.operation_laws.specs.Answers as answers
 use Rattle.operation_laws.specs.Given.{Found}
 use Rattle.operation_laws.specs.Given as given
@@ -38,27 +29,7 @@ use Rattle.operations.specs.declared.given.ToShow.{ToShow}
 use Rattle.operations.specs.declared.given.ToShow.TheVariants as to_show
 use Rattle.operations.specs.declared.answers.Absent.{Absent}
 use Rattle.operations.specs.declared.answers.Absent.TheVariants as absent
-
-abbrev pub sense : Held → Option Value
-sense held.Nothing = Some nothing
-sense held.Refused = Some refused
-sense held.Unheld = Some lacking
-sense held.Unknown = None
-sense (held.Proof r) = Some (proof r.tree)
-sense (held.Pair r s) = Some (pair r.tree s.tree)
-sense (held.Problem p) = Some (problem p)
-sense (held.Expansion e) = Some (expansion (expansion_of e))
-
--- references are of the graph, and a problem is such as is read
-abbrev pub Fits : Graph → Held → Type 0
-Fits g held.Nothing = Unit {0}
-Fits g held.Refused = Unit {0}
-Fits g held.Unheld = Unit {0}
-Fits g held.Unknown = Unit {0}
-Fits g (held.Proof r) = IsOf g r
-Fits g (held.Pair r s) = IsOf g r × IsOf g s
-Fits g (held.Problem p) = IsReadProblem p
-Fits g (held.Expansion e) = Unit {0}
+use Rattle.held_values.specs.Means.{ShowsName}
 
 -- what a product of the program means
 abbrev pub made_of : Made → Product
@@ -87,13 +58,6 @@ FitsMade g (made.Nodes flat) = Unit {0}
 FitsMade g (made.Interpolant f r s) = IsOf g r × IsOf g s
 FitsMade g (made.Herbrand k s) = Unit {0}
 FitsMade g (made.Introduced r b) = IsOf g r
-
--- the refusal shows a name
-abbrev pub ShowsName : Refusal → Type 0
-ShowsName (UnknownName text) = Unit {0}
-ShowsName (Kind text) = Unit {0}
-ShowsName Empty = ⊥
-ShowsName (Step i cause) = ⊥
 
 -- the field is given nothing, and refused so, unless there is no memory for the name that the refusal shows
 abbrev pub IsAbsent : Absent → Refusal → Type 0
@@ -166,10 +130,6 @@ Comes g ran.Lacking (answers.refused r) = ⊥
 Comes g ran.Lacking wanted = Unit {0}
 Comes g (ran.Done m) wanted = (wanted ≡ answers.product (made_of m)) × FitsMade g m
 
--- these two are the outcome and the value that are answered
-abbrev pub Is : Outcome × Held → Outcome → Held → Type 0
-Is answer outcome h = (answer.0 ≡ outcome) × (answer.1 ≡ h)
-
 -- whether an operation came to no product though memory didn't run out: it is refused, or it failed
 abbrev pub is_refusal : Ran → Bool
 is_refusal (ran.Refused r) = true
@@ -180,12 +140,3 @@ is_refusal (ran.Done m) = false
 
 abbrev pub IsShort : Ran → Type 0
 IsShort r = r ≡ ran.Failed Budget
-
--- An outcome with what the job holds. Where a refusal shows a name and there is no memory for that, want of memory is answered with the
--- value of a refusal, which no other answer has. Where memory ran out in the operation, want of it is answered with the value that later
--- jobs find of it.
-abbrev pub IsAnswerOf : Outcome × Held → Answer → Type 0
-IsAnswerOf answer (answers.refused r) = Is answer (shown_refusal r) held.Refused ⊎ (ShowsName r × Is answer Memory held.Refused)
-IsAnswerOf answer (answers.failed f) = Is answer (shown_failure f) held.Refused ⊎ Is answer Memory held.Unheld
-IsAnswerOf answer answers.lacking = Is answer Memory held.Unheld
-IsAnswerOf answer (answers.product p) = ((answer.0 ≡ shown_product p) × (sense answer.1 ≡ Some (held_product p))) ⊎ Is answer Memory held.Unheld

@@ -11,7 +11,8 @@ ghost use Rattle.job_lang.specs.FormedOps.{IsFormedOp};
 ghost use Rattle.operation_laws.specs.Answers.{product, problem as problem_made};
 ghost use Rattle.operation_laws.specs.Given.{names_in};
 ghost use Rattle.operation_laws.specs.Running.{run};
-ghost use Rattle.operations.specs.Means.{sense, Fits, a_graph, a_bench, needs, Comes, is_refusal, IsShort, IsAnswerOf};
+ghost use Rattle.held_values.specs.Means.{sense, Fits, IsAnswerOf};
+ghost use Rattle.operations.specs.Means.{a_graph, a_bench, a_desk, needs, Comes, is_refusal, IsShort};
 ghost use Rattle.operations.specs.Noted.{IsNoted, is_done, is_reduced};
 
 use crate::answers::{Made, Ran};
@@ -20,7 +21,6 @@ use crate::concluding::conclude;
 use crate::expanding::check_expansion;
 use crate::extracting::extract_of;
 use crate::given::{first, second};
-use crate::held::Held;
 use crate::instancing::herbrand_in;
 use crate::interpolating::interpolate_in;
 use crate::introducing::introduce_in;
@@ -29,6 +29,7 @@ use crate::readings::{measure, prove, show};
 use crate::refuting::refute;
 use crate::searching::prove_sequent;
 use cut_elim::{Desk, DeskPass};
+use held_values::Held;
 use job_lang::Op;
 use proof_graph::Graph;
 use proof_subst::{Bench, BenchPass};
@@ -152,6 +153,7 @@ fn run_given<R: Wait + Threads + Sync>(
     ensures images_unchanged { is_refusal result ≡ true → images_in (bench_pass_in pass.new) ≡ images_in (bench_pass_in pass.old) }
     ensures images_grown { IsPrefix (images_in (bench_pass_in pass.old)) (images_in (bench_pass_in pass.new)) }
     ensures eliminations_unchanged { is_refusal result ≡ true → ¬ IsShort result → eliminations_in pass.new ≡ eliminations_in pass.old }
+    ensures eliminations_only { needs op.now ≢ a_desk → eliminations_in pass.new ≡ eliminations_in pass.old }
     ensures eliminations_grown { IsPrefix (eliminations_in pass.old) (eliminations_in pass.new) }
     ensures extends { ExtendsDesk desk.now pass.old pass.new }
 {
@@ -208,6 +210,8 @@ pub fn answer<R: Wait + Threads + Sync>(
     ensures unchanged { result.1 ≡ Held.Refused → history (pass_in (bench_pass_in pass.new)) ≡ history (pass_in (bench_pass_in pass.old)) }
     ensures images_unchanged { result.1 ≡ Held.Refused → images_in (bench_pass_in pass.new) ≡ images_in (bench_pass_in pass.old) }
     ensures eliminations_unchanged { result.1 ≡ Held.Refused → result.0 ≢ Outcome.Budget → eliminations_in pass.new ≡ eliminations_in pass.old }
+    // Nothing but an elimination of cuts notes any.
+    ensures eliminations_only { needs op.now ≢ a_desk → eliminations_in pass.new ≡ eliminations_in pass.old }
     ensures images_grown { IsPrefix (images_in (bench_pass_in pass.old)) (images_in (bench_pass_in pass.new)) }
     ensures eliminations_grown { IsPrefix (eliminations_in pass.old) (eliminations_in pass.new) }
     ensures extends { ExtendsDesk desk.now pass.old pass.new }

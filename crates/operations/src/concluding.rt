@@ -5,12 +5,13 @@ ghost use Rattle.proof_graph.specs.Graphs.{IsOf};
 ghost use Rattle.exp_tree.specs.Reads.{expansion_of};
 ghost use Rattle.tptp_problem.specs.ProblemClauses.{IsReadProblem};
 ghost use Rattle.operation_laws.specs.Answers.{Answer, product, proof as proof_made, reduced as reduced_made, problem as problem_made, expansion as expansion_made, interpolant as interpolant_made, introduced as introduced_made, summary_of, exp_summary_of, shown_refusal as refusal_shown, shown_failure as failure_shown};
-ghost use Rattle.operations.specs.Means.{Fits, FitsMade, made_of, Comes, is_refusal, IsShort, IsAnswerOf};
+ghost use Rattle.held_values.specs.Means.{Fits, IsAnswerOf};
+ghost use Rattle.operations.specs.Means.{FitsMade, made_of, Comes, is_refusal, IsShort};
 ghost use Rattle.operations.specs.Noted.{is_done, is_reduced};
 
 use crate::answers::{Made, Ran};
-use crate::held::Held;
 use exp_tree::{CheckedExp, count_instances, shallow_sequent, strong_vars};
+use held_values::Held;
 use job_words::FormedFormula;
 use operation_laws::{Failure, Refusal};
 use proof_graph::{Graph, ProofRef};

@@ -6,7 +6,8 @@ ghost use Rattle.proof_graph.specs.declared.graph.Graph.{Graph as GraphMeaning};
 ghost use Rattle.expansion_laws.specs.Dependency.{Expansion, strongs_of};
 ghost use Rattle.exp_tree.specs.Reads.{expansion_of, StandsRightly};
 ghost use Rattle.exp_tree.specs.FlatReading.{reading};
-ghost use Rattle.exp_check.specs.Checking.{checking, Checks};
+ghost use Rattle.expansion_laws.specs.Checking.{checking};
+ghost use Rattle.exp_check.specs.Checking.{Checks};
 ghost use Rattle.operation_laws.specs.Running.{checked, reads};
 ghost use Rattle.operations.specs.Means.{HasFormedVars, Comes};
 

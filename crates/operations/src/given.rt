@@ -1,80 +1,24 @@
 //! What the names of jobs in an operation are given.
-ghost use Rattle.std.specs.Prelude.{◌≡◌, ◌<◌, Some, IfOk, IfSome, is_some, length, map, option_map, slice_get};
+ghost use Rattle.std.specs.Prelude.{◌≡◌, ◌<◌, Some, IfOk, IfSome, is_some, length, map, option_map};
 ghost use Rattle.std.specs.List.{All};
 ghost use Rattle.proof_graph.specs.declared.graph.Graph.{Graph};
 ghost use Rattle.proof_graph.specs.Graphs.{IsOf};
 ghost use Rattle.operation_laws.specs.declared.refusals.Refusal.TheVariants.{UnknownName, Kind as OtherKind};
 ghost use Rattle.exp_tree.specs.Reads.{expansion_of};
-ghost use Rattle.operation_laws.specs.Given.{names_in, without as without_suffix, first_name, second_name, pair_name as pair_of, base_name as base_of, one_of as one_named, proof_given as proof_found, problem_given as problem_found, expansion_given as expansion_found, shown_given as shown_found, first_of, second_of};
-ghost use Rattle.operations.specs.Means.{sense, Fits, FitsShown, Finds, shown_as, IsAbsent};
+ghost use Rattle.operation_laws.specs.Given.{first_name as first_of_pair, second_name as second_of_pair, pair_name as pair_of, one_of as one_named, proof_given as proof_found, problem_given as problem_found, expansion_given as expansion_found, shown_given as shown_found, first_of, second_of};
+ghost use Rattle.held_values.specs.Means.{sense, Fits};
+ghost use Rattle.operations.specs.Means.{FitsShown, Finds, shown_as, IsAbsent};
 ghost use Rattle.operations.specs.Noted.{proof_in, first_held};
-ghost use Rattle.operations.specs.declared.held.Held.TheVariants.{Problem as ProblemHeld};
+ghost use Rattle.held_values.specs.declared.held.Held.TheVariants.{Problem as ProblemHeld};
 
 use crate::answers::Absent;
-use crate::held::Held;
 use exp_tree::CheckedExp;
-use job_lang::Op;
+use held_values::{Held, first_name, pair_name, second_name};
 use job_words::Utf8Text;
 use operation_laws::Refusal;
 use proof_graph::ProofRef;
 use std::alloc::{AllocError, Global};
 use tptp_problem::Problem;
-
-/// The name of a job that is written in an operation, by its place among them, in the order in which the fields are read.
-pub fn name_at(op: &Op, place: usize) -> Option<&str>
-    ensures { option_map (λ name. name.now) result ≡ slice_get (names_in op.now) place }
-{
-    match op {
-        Op::Lk { .. } | Op::Problem { .. } | Op::Tautology { .. } | Op::Expansion { .. } => None,
-        Op::Proves { proof, problem } => match place {
-            0 => Some(proof.as_str()),
-            1 => Some(problem.as_str()),
-            _ => None,
-        },
-        Op::Show { of: text }
-        | Op::Measure { proof: text }
-        | Op::Subst { proof: text, .. }
-        | Op::Cutelim { proof: text, .. }
-        | Op::Expand { proof: text, .. }
-        | Op::Fromexp {
-            expansion: text,
-            ..
-        }
-        | Op::Interpolate { proof: text, .. }
-        | Op::Herbrand { proof: text, .. }
-        | Op::Cutintro { proof: text, .. }
-        | Op::Resolution { problem: text, .. } => match place {
-            0 => Some(text.as_str()),
-            _ => None,
-        },
-    }
-}
-
-fn without<'t>(text: &'t str, suffix: &str) -> Option<&'t str>
-    ensures { option_map (λ name. name.now) result ≡ without_suffix suffix.now text.now }
-{
-    text.strip_suffix(suffix)
-}
-
-// The name of the pair that a name with the suffix `.first` or `.second` is about.
-fn pair_name(text: &str) -> Option<&str>
-    ensures { option_map (λ name. name.now) result ≡ pair_of text.now }
-{
-    match without(text, ".first") {
-        Some(name) => Some(name),
-        None => without(text, ".second"),
-    }
-}
-
-/// The name of the job that a field with this text is about: without the suffix `.first` or `.second`, where it has one.
-pub fn base_name(text: &str) -> &str
-    ensures { result.now ≡ base_of text.now }
-{
-    match pair_name(text) {
-        Some(name) => name,
-        None => text,
-    }
-}
 
 fn is_of_pair(text: &Utf8Text) -> bool
     ensures { result ≡ is_some (pair_of text.now) }
@@ -84,16 +28,16 @@ fn is_of_pair(text: &Utf8Text) -> bool
 
 // Whether a name stands for the first proof of a pair.
 fn is_first(text: &Utf8Text) -> bool
-    ensures { result ≡ is_some (first_name text.now) }
+    ensures { result ≡ is_some (first_of_pair text.now) }
 {
-    without(text.as_str(), ".first").is_some()
+    first_name(text.as_str()).is_some()
 }
 
 // Whether a name stands for the second proof of a pair.
 fn is_second(text: &Utf8Text) -> bool
-    ensures { result ≡ is_some (second_name text.now) }
+    ensures { result ≡ is_some (second_of_pair text.now) }
 {
-    without(text.as_str(), ".second").is_some()
+    second_name(text.as_str()).is_some()
 }
 
 fn text_copy(alloc: Global, text: &Utf8Text) -> Result<Utf8Text, AllocError>

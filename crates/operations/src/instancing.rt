@@ -3,16 +3,18 @@ ghost use Rattle.std.specs.Prelude.{◌≡◌, [], ◌∷◌, List, Result, Ok, 
 ghost use Rattle.proof_graph.specs.declared.graph.Graph.{Graph as GraphMeaning};
 ghost use Rattle.proof_graph.specs.Graphs.{IsOf};
 ghost use Rattle.herbrand_laws.specs.Herbrand.{Item};
-ghost use Rattle.cut_intro.specs.declared.fault.HerbrandFault.{HerbrandFault as Fault};
-ghost use Rattle.cut_intro.specs.Instancing.{instancing, HasInstances, NamesFormed};
+ghost use Rattle.introduction_laws.specs.declared.fault.HerbrandFault.{HerbrandFault as Fault};
+ghost use Rattle.introduction_laws.specs.Instancing.{instancing};
+ghost use Rattle.cut_intro.specs.Instancing.{HasInstances, NamesFormed};
 ghost use Rattle.operation_laws.specs.Running.{instanced, run};
-ghost use Rattle.operations.specs.Means.{sense, Fits, Comes};
+ghost use Rattle.held_values.specs.Means.{sense, Fits};
+ghost use Rattle.operations.specs.Means.{Comes};
 
 use crate::answers::{Made, Ran};
 use crate::given::proof_given;
-use crate::held::Held;
 use cut_intro::{HerbrandFault, herbrand, herbrand_sequent};
 use delta_table::{Instances, count};
+use held_values::Held;
 use job_lang::Op;
 use job_words::{FormedFormula, Utf8Text};
 use operation_laws::Failure;

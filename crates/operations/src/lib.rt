@@ -8,7 +8,6 @@ mod concluding;
 mod expanding;
 mod extracting;
 mod given;
-mod held;
 mod instancing;
 mod interpolating;
 mod introducing;
@@ -18,5 +17,4 @@ mod refuting;
 mod searching;
 
 pub use answering::answer;
-pub use given::{base_name, name_at};
-pub use held::Held;
+pub use held_values::Held;

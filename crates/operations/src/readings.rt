@@ -2,18 +2,19 @@
 ghost use Rattle.std.specs.Prelude.{◌≡◌, [], ◌∷◌, IfOk};
 ghost use Rattle.exp_tree.specs.Reads.{expansion_of};
 ghost use Rattle.exp_tree.specs.Writing.{flat_of};
-ghost use Rattle.proof_steps.specs.Places.{steps_of};
+ghost use Rattle.step_laws.specs.Places.{steps_of};
 ghost use Rattle.proof_graph.specs.declared.graph.Graph.{Graph as GraphMeaning};
 ghost use Rattle.proof_graph.specs.Graphs.{IsOf};
 ghost use Rattle.operation_laws.specs.Answers.{lacking, product, steps as steps_made, nodes as nodes_made};
 ghost use Rattle.operation_laws.specs.Given.{problem_given as problem_found};
 ghost use Rattle.operation_laws.specs.Running.{over, sizes_of, compares, run};
-ghost use Rattle.operations.specs.Means.{sense, Fits, made_of, Comes};
+ghost use Rattle.held_values.specs.Means.{sense, Fits};
+ghost use Rattle.operations.specs.Means.{made_of, Comes};
 
 use crate::answers::{Absent, Made, Ran};
 use crate::given::{ToShow, problem_given, proof_given, shown_given};
-use crate::held::Held;
 use exp_tree::{CheckedExp, write_nodes};
+use held_values::Held;
 use job_lang::Op;
 use job_words::{Steps, Utf8Text};
 use proof_graph::{Graph, ProofRef};

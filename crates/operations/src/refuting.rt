@@ -7,11 +7,12 @@ ghost use Rattle.tptp_problem.specs.ProblemClauses.{IsReadProblem};
 ghost use Rattle.proof_graph.specs.Graphs.{history};
 ghost use Rattle.proof_subst.specs.Benches.{graph_of, pass_in, images_in, IsBenchPassOf, Extends};
 ghost use Rattle.operation_laws.specs.Running.{has_closure, refutation_shown as shown_refutation, refuted, refutes, run};
-ghost use Rattle.operations.specs.Means.{sense, Fits, Comes, is_refusal};
+ghost use Rattle.held_values.specs.Means.{sense, Fits};
+ghost use Rattle.operations.specs.Means.{Comes, is_refusal};
 
 use crate::answers::{Made, Ran};
 use crate::given::problem_given;
-use crate::held::Held;
+use held_values::Held;
 use job_lang::Op;
 use job_words::Utf8Text;
 use operation_laws::Failure;

@@ -7,7 +7,7 @@ ghost use Rattle.proof_graph.specs.Graphs.{history};
 ghost use Rattle.proof_subst.specs.Benches.{graph_of, pass_in, images_in, IsBenchPassOf, Extends};
 ghost use Rattle.search_laws.specs.Truth.{has_quantifier as is_quantified, IsPropositional};
 ghost use Rattle.search_laws.specs.Search.{walk};
-ghost use Rattle.prop_search.specs.Deciding.{found};
+ghost use Rattle.search_laws.specs.Budgets.{found};
 ghost use Rattle.operation_laws.specs.declared.refusals.Failure.TheVariants.{Quantified};
 ghost use Rattle.operation_laws.specs.Answers.{failed};
 ghost use Rattle.operation_laws.specs.Running.{quantified_in as quantified_of, searched, searches};

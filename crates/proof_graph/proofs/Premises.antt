@@ -3,7 +3,7 @@ use Rattle.std.proofs.Common.{◌≡◌, ℕ, ◌<◌, zero, suc, List, [], ◌�
 use Rattle.std.specs.Prelude.{Option, Some, Result, Ok, Err, IfOk}
 use Rattle.std.proofs.lemmas.List.{get_or-map, length-map}
 use Rattle.proof_trees.specs.Trees.{Tree, Trees, count}
-use Rattle.proof_graph.specs.Shown.{tree_at}
+use Rattle.proof_trees.specs.TreeLists.{tree_at}
 use Rattle.proof_graph.specs.References.{Reference, trees_of, numbers_of}
 
 at_trees : (rs : List Reference) (i : ℕ) (d : Reference) → i < length rs → Some (get_or rs i d).tree ≡ tree_at (trees_of rs) i

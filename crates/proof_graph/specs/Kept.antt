@@ -7,7 +7,7 @@ use denote.Param.Weighed.{most}
 use Rattle.proof_trees.specs.Trees.{Tree, node, below, IsValid}
 use Rattle.proof_graph.specs.declared.reference.RefLink.{RefLink}
 use Rattle.proof_graph.specs.declared.tree.Stamp.{Stamp}
-use Rattle.proof_graph.specs.Shown.{nodes, nodes_all}
+use Rattle.proof_trees.specs.TreeLists.{nodes, nodes_all}
 use Rattle.proof_graph.specs.References.{Reference, key_of, trees_of, numbers_of}
 use Rattle.proof_graph.specs.Counts.{AreCountsOf}
 

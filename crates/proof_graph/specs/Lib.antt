@@ -1,5 +1,4 @@
 pub mod Keys
-pub mod Shown
 pub mod References
 pub mod Counts
 pub mod Kept

@@ -9,7 +9,7 @@ use Rattle.lk_rules.specs.declared.sequent.Sequent.{Sequent}
 use Rattle.proof_trees.specs.Trees.{Tree, Trees, rule_of, concl}
 use Rattle.proof_graph.specs.declared.node.Node.{Node}
 use Rattle.proof_trees.specs.Codes.{coded_tree}
-use Rattle.proof_graph.specs.Shown.{trees}
+use Rattle.proof_trees.specs.TreeLists.{trees}
 
 -- a graph is known by the vector that keeps its nodes
 pub record Reference : Type 0 where

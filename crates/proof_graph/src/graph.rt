@@ -8,7 +8,7 @@ ghost use Rattle.turn_log.specs.Passes.{seen};
 ghost use Rattle.boxcar.specs.Table.{shelves_coded};
 ghost use Rattle.std.specs.Coded.{Coded-set};
 ghost use Rattle.proof_trees.specs.Trees.{node, below, IsInference};
-ghost use Rattle.proof_graph.specs.Shown.{tree_at};
+ghost use Rattle.proof_trees.specs.TreeLists.{tree_at};
 ghost use Rattle.proof_graph.specs.References.{key_of, key_over, trees_of, numbers_of};
 ghost use Rattle.proof_graph.specs.History.{IsLegal, StandsAt, AddsAtMost, AddsAtMostEach, AddsFirst};
 ghost use Rattle.proof_graph.specs.Unique.{legal_prop};

@@ -47,7 +47,7 @@ impl Model for ProofRef {
     ghost coded = { coded_reference };
 
     ghost use Rattle.std.proofs.Common.{arith};
-    ghost use Rattle.proof_graph.specs.Shown.{nodes};
+    ghost use Rattle.proof_trees.specs.TreeLists.{nodes};
     ghost use Rattle.proof_graph.specs.Kept.{reference_of, IsKept, falls};
 
     ghost view = { λ r. reference_of r.token r.link.value };

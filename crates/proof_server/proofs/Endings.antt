@@ -10,10 +10,10 @@ use Rattle.edge_io.specs.Lines.{is_newline, AreLines, parts_of, whole_lines, lin
 use Rattle.edge_io.specs.Reader.{Reader, allowance}
 use Rattle.edge_io.specs.Reading.{HandsOn, CutsOff, Overflows, LacksMemory, IsDone as IsAtLast}
 use Rattle.edge_io.proofs.LinesLemmas.{lines_of_at, whole_lines_at}
-use Rattle.session_laws.specs.Jobs.{Past, in_order, jobs}
-use Rattle.session_laws.specs.Answers.{IsLawful}
+use Rattle.session_laws.specs.Jobs.{jobs}
+use Rattle.session_laws.specs.Answers.{Past, in_order, AreAllowed}
 use Rattle.session_laws.specs.Claimed.{AreClaimed}
-use Rattle.session_laws.specs.Session.{out, flags_of, memory_flags, Replies, RepliesInPart, IsPartOfNext}
+use Rattle.session_laws.specs.Session.{Replies, RepliesInPart}
 use Rattle.proof_server.specs.Turn.{seats_in, IsAt, AreInPart, WritesMore, Goes, ended_of}
 use Rattle.proof_server.specs.Ending.{IsDone, IsCutOff, IsFull, IsPartWritten, Ends}
 use Rattle.proof_server.specs.declared.ending.Ended.{Ended}
@@ -46,25 +46,21 @@ nothing_done limit before old = record {
   written = [];
   moved = record { from = Consumes-nil before; to = Appends-nil old };
   within = omega arith;
-  replies = inl (record { done = []; waiting = []; part = []; lawful = tt; claimed = tt; each = refl; bytes = refl; flags = refl; next = refl });
+  replies = inl (record { done = []; waiting = []; part = []; allowed = tt; claimed = tt; each = refl; bytes = refl; next = refl });
 }
 
--- where what each job makes is what its operation claims, and the bytes of replies tell which jobs lacked memory
-module _
-    (all_claimed : (jobs : List Past) → AreClaimed jobs)
-    (told : (done : List Past) (waiting : List (List ℕ)) (part : List ℕ) → IsLawful done → IsPartOfNext done waiting part
-    → flags_of done ≡ memory_flags (out done ++ part)) where
+-- where what each job makes is what its operation claims
+module _ (all_claimed : (jobs : List Past) → AreAllowed jobs → AreClaimed jobs) where
   -- what is written of the replies to these jobs
   in_part : (asked : List (List ℕ)) (lines : List (List ℕ)) (written : List ℕ) → asked ≡ jobs lines → AreInPart asked written → RepliesInPart lines written
   in_part asked lines written same part = record {
     done = part.done;
     waiting = part.waiting;
     part = part.part;
-    lawful = part.lawful;
-    claimed = all_claimed part.done;
+    allowed = part.allowed;
+    claimed = all_claimed part.done part.allowed;
     each = part.each ∙ same;
     bytes = part.bytes;
-    flags = told part.done part.waiting part.part part.lawful part.next ∙ ap memory_flags (sym part.bytes);
     next = part.next;
   }
 
@@ -72,11 +68,10 @@ module _
   unfoldable pub all_answered : (session : Session) (asked lines : List (List ℕ)) (written : List ℕ) → IsAt session asked written → seats_in session ≡ 0 → asked ≡ jobs lines → Replies lines written
   all_answered session asked lines written at empty same = record {
     done = at.done;
-    lawful = at.answered.lawful;
-    claimed = all_claimed at.done;
+    allowed = at.answered.allowed;
+    claimed = all_claimed at.done at.answered.allowed;
     each = sym (append-nil (in_order at.done)) ∙ ap (λ (x : List (List ℕ)). in_order at.done ++ x) (sym none) ∙ at.each ∙ same;
     bytes = at.bytes;
-    flags = told at.done [] [] at.answered.lawful refl ∙ ap memory_flags (append-nil (out at.done) ∙ sym at.bytes);
   }
     where
       none_by : (waiting : List (List ℕ)) → length waiting ≡ 0 → waiting ≡ []
@@ -164,9 +159,9 @@ module _
     | inl ended ↦ elim read.stands [
       | inl w ↦ absurd (apart (sym ended.0 ∙ w.0))
       | inr w ↦ record {
-        from = subst (λ (x : Option (List ℕ)). Consumes before x got) (sym ended.1)
+        from = subst (λ (x : Option (List ℕ)). Consumes before x got) (sym ended.2)
             (subst (Consumes before now) (ap (λ (x : List ℕ). got ++ x) w.2 ∙ append-nil got) read.from);
-        at_end = subst IsAtEnd (sym ended.1) w.3;
+        at_end = subst IsAtEnd (sym ended.2) w.3;
         lines_is = w.1;
       }
     ]

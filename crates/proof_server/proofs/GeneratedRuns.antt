@@ -7,10 +7,9 @@ use Rattle.edge_io.specs.Lines.{AreLines, lines_of}
 use Rattle.edge_io.proofs.LinesLemmas.{lines_of_at}
 use Rattle.job_gen.specs.Generated.{generated_line, generated}
 use Rattle.job_gen.specs.PrintableLine.{IsPrintableLine}
-use Rattle.session_laws.specs.Jobs.{Past, jobs}
-use Rattle.session_laws.specs.Answers.{IsLawful}
+use Rattle.session_laws.specs.Jobs.{jobs}
+use Rattle.session_laws.specs.Answers.{Past, lacked, AreAllowed}
 use Rattle.session_laws.specs.Claimed.{AreClaimed}
-use Rattle.session_laws.specs.Session.{out, flags_of, memory_flags, IsPartOfNext}
 use Rattle.proof_server.specs.Generating.{AreCounts}
 use Rattle.proof_server.specs.Turn.{seats_in, any_lacked, IsAt, WritesMore}
 use Rattle.proof_server.specs.declared.session.Session.{Session}
@@ -52,26 +51,25 @@ go_on i before after so_far line old new took few = record {
 }
 
 -- where no job lacked memory each has it
-all_ample : (done : List Past) → any_lacked done ≡ false → All (λ job. job.lacked ≡ false) done
+all_ample : (done : List Past) → any_lacked done ≡ false → All (λ job. lacked job ≡ false) done
 all_ample [] none = λ k d within. absurd (omega arith)
 all_ample (job ∷ earlier) none =
-    let parts = both (any_lacked earlier) job.lacked none in
-    All-cons (λ (job : Past). job.lacked ≡ false) job earlier parts.1 (all_ample earlier parts.0)
+    let parts = both (any_lacked earlier) (lacked job) none in
+    All-cons (λ (job : Past). lacked job ≡ false) job earlier parts.1 (all_ample earlier parts.0)
   where
     both : (a b : Bool) → (a || b) ≡ false → (a ≡ false) × (b ≡ false)
     both false false is = (refl, refl)
     both true b is = cc
     both false true is = cc
 
--- where what each job makes is what its operation claims, and the bytes of replies tell which jobs lacked memory
-pub all_counted : ((jobs : List Past) → AreClaimed jobs)
-    → ((done : List Past) (waiting : List (List ℕ)) (part : List ℕ) → IsLawful done → IsPartOfNext done waiting part → flags_of done ≡ memory_flags (out done ++ part))
+-- where what each job makes is what its operation claims
+pub all_counted : ((jobs : List Past) → AreAllowed jobs → AreClaimed jobs)
     → (n : ℕ) (before after : Session) (so_far : IsCounting n before) (old new : Option (List ℕ)) → WritesMore (IsAt after so_far.asked) so_far.written old new
     → seats_in after ≡ 0 → after.lacked ≡ false → AreCounts n after.counts
 unfolding all_answered
-all_counted all_claimed told n before after so_far old new writes empty ample = record {
+all_counted all_claimed n before after so_far old new writes empty ample = record {
   bytes = so_far.written ++ writes.more;
-  replies = all_answered all_claimed told after so_far.asked (lines_of (generated n)) (so_far.written ++ writes.more) writes.holds empty
+  replies = all_answered all_claimed after so_far.asked (lines_of (generated n)) (so_far.written ++ writes.more) writes.holds empty
       (sym so_far.all_jobs ∙ ap jobs (sym (lines_of_at (generated n) so_far.asked so_far.lines)));
   ample = all_ample writes.holds.done (sym writes.holds.answered.lacked_is ∙ ample);
   counted = writes.holds.answered.counts;

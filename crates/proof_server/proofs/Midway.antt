@@ -10,7 +10,8 @@ use Rattle.edge_io.specs.Lines.{AreLines, lines_of}
 use Rattle.edge_io.specs.Reader.{Reader, allowance}
 use Rattle.edge_io.specs.Reading.{HandsOn, IsText}
 use Rattle.edge_io.proofs.LinesLemmas.{lines_nil, lines_more, lines_of_last}
-use Rattle.session_laws.specs.Jobs.{Past, in_order, is_job, jobs}
+use Rattle.session_laws.specs.Jobs.{is_job, jobs}
+use Rattle.session_laws.specs.Answers.{Past, in_order}
 use Rattle.proof_server.specs.Turn.{seats_in, IsAt, WritesMore}
 use Rattle.proof_server.specs.declared.session.Session.{Session}
 

@@ -1,7 +1,7 @@
 -- How a session goes on, or stops, with the reply to one job.
 use Rattle.std.proofs.Common.{◌≡◌, ◌⊎◌, ℕ, ◌+◌, ◌<◌, ◌≤◌, Bool, true, false, cond, ◌&&◌, ◌||◌, not, List, [], ◌∷◌, ◌++◌, map, length, take, drop, refl, sym, ap, ◌∙◌, subst, inl, inr, arith, append_assoc, append-nil, length-append, length-drop, take-append-drop}
 use Rattle.std.proofs.lemmas.List.{map-append}
-use Rattle.std.specs.Prelude.{Option, Some, None, Result, Ok, Err, OnOk, IfErr}
+use Rattle.std.specs.Prelude.{Option, Some, None, Result, Ok, Err, OnOk, IfErr, vec_capacity}
 use Rattle.std.specs.List.{All, list_all}
 use Rattle.std.proofs.lemmas.Bool.Decides.{nat_tests}
 use Rattle.std.proofs.lemmas.List.Elements.{All-head, All-tail, All-push}
@@ -10,14 +10,14 @@ use Rattle.std.proofs.KnownBytes.{Appends-trans}
 use Rattle.edge_io.specs.Causes.{Rose}
 use Rattle.operation_laws.specs.Answers.{refused, failed, lacking, product}
 use Rattle.operation_laws.specs.Values.{Value}
-use Rattle.operations.specs.declared.held.Held.{Held}
-use Rattle.operations.specs.Means.{sense}
-use Rattle.session_laws.specs.Jobs.{Past, max_line, in_order, is_too_long, is_blank, is_job, jobs, IsKept, job_of}
-use Rattle.session_laws.specs.Answers.{Run, faulty, answered as answered_by, name_of, run_line, held_of, may_lack, IsLawful}
+use Rattle.held_values.specs.declared.held.Held.{Held}
+use Rattle.held_values.specs.Means.{sense}
+use Rattle.session_laws.specs.Jobs.{max_line, is_too_long, is_blank, is_job, jobs, IsKept}
+use Rattle.session_laws.specs.Answers.{Past, Came, faulty, answered as answered_by, in_order, job_of, name_of, run_line, held_of, IsAllowed, AreAllowed}
 use Rattle.session_laws.specs.Replying.{reply_line}
 use Rattle.session_laws.specs.Session.{out, all_ok, IsPartOfNext}
 use Rattle.session_laws.proofs.ReplyLines.{length-reply_line}
-use Rattle.job_windows.specs.Running.{lacks, IsConclusion, IsUnnamed, FitsDesk}
+use Rattle.job_windows.specs.Running.{IsConclusion, IsUnnamed, FitsDesk}
 use Rattle.job_windows.specs.Windows.{AreDue}
 use Rattle.job_windows.specs.Replying.{IsReply}
 use Rattle.job_windows.specs.Means.{IsPending}
@@ -27,38 +27,38 @@ use Rattle.job_windows.specs.declared.replying.ReplyLine.{ReplyLine}
 use Rattle.job_windows.specs.declared.seats.Due.{Due}
 use Rattle.cut_elim.specs.Desks.{IsDeskPassOf}
 use Rattle.proof_server.specs.Counting.{counts_of}
-use Rattle.proof_server.specs.Turn.{IsAt, IsWriting, AreInPart, WritesMore, Goes, Writes}
+use Rattle.proof_server.specs.Turn.{any_lacked, IsAt, IsWriting, AreInPart, WritesMore, Goes, Writes}
 use Rattle.proof_server.specs.declared.session.Stop.{Stop}
 use Rattle.proof_server.specs.declared.session.Stop.TheVariants.{WriteFault, Memory}
 use Rattle.proof_server.proofs.Midway.{Rose-since}
 use Rattle.proof_server.specs.declared.session.Session.{Session}
 
--- each run may end with memory or without it
-some_end : (r : Run) → (lacked : Bool) × may_lack lacked r
-some_end (faulty f) = (false, refl)
-some_end (answered_by (refused r)) = (false, refl)
-some_end (answered_by (failed f)) = (false, tt)
-some_end (answered_by lacking) = (true, refl)
-some_end (answered_by (product p)) = (false, tt)
+-- each line may come to what it comes to with ample memory
+some_end : (r : Came) → IsAllowed r r
+some_end (faulty f) = refl
+some_end (answered_by (refused r)) = refl
+some_end (answered_by (failed f)) = inl refl
+some_end (answered_by lacking) = refl
+some_end (answered_by (product p)) = inl refl
 
 -- nothing of the next reply is a part of it
-part_none : (earlier : List Past) (waiting : List (List ℕ)) → IsLawful earlier → IsPartOfNext earlier waiting []
-part_none earlier [] lawful = refl
-part_none earlier (line ∷ waiting) lawful =
-    let end = some_end (run_line (held_of earlier) line) in record {
-      job = job_of line end.0;
+part_none : (earlier : List Past) (waiting : List (List ℕ)) → AreAllowed earlier → IsPartOfNext earlier waiting []
+part_none earlier [] allowed = refl
+part_none earlier (line ∷ waiting) allowed =
+    let end = run_line (held_of earlier) line in record {
+      job = job_of line end;
       line_is = refl;
-      lawful = (end.1, lawful);
-      more = reply_line earlier (job_of line end.0);
-      goes_on = length-reply_line earlier (job_of line end.0);
+      allowed = (some_end end, allowed);
+      more = reply_line earlier (job_of line end);
+      goes_on = length-reply_line earlier (job_of line end);
       bytes = refl;
     }
 
 -- a part of the first reply that waits is one however many more wait
-part_of_more : (earlier : List Past) (waiting more : List (List ℕ)) (part : List ℕ) → IsLawful earlier
+part_of_more : (earlier : List Past) (waiting more : List (List ℕ)) (part : List ℕ) → AreAllowed earlier
     → IsPartOfNext earlier waiting part → IsPartOfNext earlier (waiting ++ more) part
-part_of_more earlier [] more part lawful none = subst (IsPartOfNext earlier more) (sym none) (part_none earlier more lawful)
-part_of_more earlier (line ∷ waiting) more part lawful next = next
+part_of_more earlier [] more part allowed none = subst (IsPartOfNext earlier more) (sym none) (part_none earlier more allowed)
+part_of_more earlier (line ∷ waiting) more part allowed next = next
 
 pub in_part_of_more : (asked more : List (List ℕ)) (written : List ℕ) → AreInPart asked written → AreInPart (asked ++ more) written
 in_part_of_more asked more written part = record {
@@ -66,28 +66,28 @@ in_part_of_more asked more written part = record {
   waiting = part.waiting ++ more;
   part = part.part;
   each = sym (append_assoc (in_order part.done) part.waiting more) ∙ ap (λ (x : List (List ℕ)). x ++ more) part.each;
-  lawful = part.lawful;
+  allowed = part.allowed;
   bytes = part.bytes;
-  next = part_of_more part.done part.waiting more part.part part.lawful part.next;
+  next = part_of_more part.done part.waiting more part.part part.allowed part.next;
 }
 
 -- whole replies are a part of all
-whole_in_part : (done : List Past) (waiting asked : List (List ℕ)) (written : List ℕ) → in_order done ++ waiting ≡ asked → written ≡ out done → IsLawful done → AreInPart asked written
-whole_in_part done waiting asked written each bytes lawful = record {
+whole_in_part : (done : List Past) (waiting asked : List (List ℕ)) (written : List ℕ) → in_order done ++ waiting ≡ asked → written ≡ out done → AreAllowed done → AreInPart asked written
+whole_in_part done waiting asked written each bytes allowed = record {
   done = done;
   waiting = waiting;
   part = [];
   each = each;
-  lawful = lawful;
+  allowed = allowed;
   bytes = bytes ∙ sym (append-nil (out done));
-  next = part_none done waiting lawful;
+  next = part_none done waiting allowed;
 }
 
 pub at_in_part : (session : Session) (asked : List (List ℕ)) (written : List ℕ) → IsAt session asked written → AreInPart asked written
-at_in_part session asked written at = whole_in_part at.done at.waiting asked written at.each at.bytes at.answered.lawful
+at_in_part session asked written at = whole_in_part at.done at.waiting asked written at.each at.bytes at.answered.allowed
 
 pub writing_in_part : (session : Session) (asked : List (List ℕ)) (written : List ℕ) (dues : List Due) → IsWriting session asked written dues → AreInPart asked written
-writing_in_part session asked written dues w = whole_in_part w.done w.waiting asked written w.each w.bytes w.answered.lawful
+writing_in_part session asked written dues w = whole_in_part w.done w.waiting asked written w.each w.bytes w.answered.allowed
 
 -- nothing more was written
 pub writes_none : (P : List ℕ → Type 0) (written : List ℕ) (old new : Option (List ℕ)) → Appends old new [] → P written → WritesMore P written old new
@@ -124,8 +124,8 @@ record IsHead (names : Names) (held : List (Option Value)) (earlier : List Past)
   pub lines_are : lines ≡ line ∷ rest
   pub named : due.name ≡ name_of line
   pub goes : IsUnnamed due.outcome due.held
-      ⊎ (IsConclusion due.outcome due.held (run_line (held_of earlier) line)
-      × AreDue names (held ++ sense due.held ∷ []) (job_of line (lacks due.held) ∷ earlier) rest dues)
+      ⊎ ((came : Came) × IsConclusion due.outcome due.held (run_line (held_of earlier) line) came
+      × AreDue names (held ++ sense due.held ∷ []) (job_of line came ∷ earlier) rest dues)
 
 head_of : (names : Names) (held : List (Option Value)) (earlier : List Past) (lines : List (List ℕ)) (due : Due) (dues : List Due)
     → AreDue names held earlier lines (due ∷ dues) → IsHead names held earlier lines due dues
@@ -143,21 +143,21 @@ none_waits names held earlier (line ∷ lines) are = absurd are
 
 -- with the reply to the first job
 module _ (before : Session) (asked : List (List ℕ)) (written : List ℕ) (due : Due) (dues : List Due) (w : IsWriting before asked written (due ∷ dues))
-    (r : ReplyLine) (told : ¬ IsUnnamed due.outcome due.held) (same : (r.held ≡ due.held) × (r.lacked ≡ lacks due.held))
-    (replied : (earlier : List Past) (line : List ℕ) → before.count ≡ length earlier → due.name ≡ name_of line
-    → IsConclusion due.outcome due.held (run_line (held_of earlier) line) → IsReply r line earlier) where
+    (r : ReplyLine) (told : ¬ IsUnnamed due.outcome due.held) (same : r.held ≡ due.held)
+    (replied : (earlier : List Past) (line : List ℕ) (came : Came) → before.count ≡ length earlier → due.name ≡ name_of line
+    → IsConclusion due.outcome due.held (run_line (held_of earlier) line) came → IsReply r line earlier came) where
   head : IsHead before.store.names (map sense before.store.held.items) w.done w.waiting due dues
   head = head_of before.store.names (map sense before.store.held.items) w.done w.waiting due dues w.pending.due
 
-  goes : IsConclusion due.outcome due.held (run_line (held_of w.done) head.line)
-      × AreDue before.store.names (map sense before.store.held.items ++ sense due.held ∷ []) (job_of head.line (lacks due.held) ∷ w.done) head.rest dues
+  goes : (came : Came) × IsConclusion due.outcome due.held (run_line (held_of w.done) head.line) came
+      × AreDue before.store.names (map sense before.store.held.items ++ sense due.held ∷ []) (job_of head.line came ∷ w.done) head.rest dues
   goes = elim head.goes [ inl unnamed ↦ absurd (told unnamed) | inr rest ↦ rest ]
 
-  reply : IsReply r head.line w.done
-  reply = replied w.done head.line w.answered.number head.named goes.0
+  reply : IsReply r head.line w.done goes.0
+  reply = replied w.done head.line goes.0 w.answered.number head.named goes.1
 
   job : Past
-  job = job_of head.line r.lacked
+  job = job_of head.line goes.0
 
   each_more : in_order (job ∷ w.done) ++ head.rest ≡ asked
   unfolding job
@@ -169,17 +169,9 @@ module _ (before : Session) (asked : List (List ℕ)) (written : List ℕ) (due 
   unfolding job
   bytes_more = λ i. w.bytes i ++ reply.bytes i
 
-  lawful_more : IsLawful (job ∷ w.done)
+  allowed_more : AreAllowed (job ∷ w.done)
   unfolding job
-  lawful_more = (reply.lawful, w.answered.lawful)
-
-  -- it was written whole, and there was no memory for more
-  pub stopped_behind : (old new : Option (List ℕ)) → Appends old new r.bytes.items → WritesMore (AreInPart asked) written old new
-  stopped_behind old new to = record {
-    more = r.bytes.items;
-    to = to;
-    holds = whole_in_part (job ∷ w.done) head.rest asked (written ++ r.bytes.items) each_more bytes_more lawful_more;
-  }
+  allowed_more = (reply.allowed, w.answered.allowed)
 
   -- only its first n bytes were written
   pub stopped_within : (n : ℕ) (old new : Option (List ℕ)) → n < length r.bytes.items → Appends old new (take n r.bytes.items) → WritesMore (AreInPart asked) written old new
@@ -192,12 +184,12 @@ module _ (before : Session) (asked : List (List ℕ)) (written : List ℕ) (due 
       waiting = head.line ∷ head.rest;
       part = take n r.bytes.items;
       each = ap (λ (lines : List (List ℕ)). in_order w.done ++ lines) (sym head.lines_are) ∙ w.each;
-      lawful = w.answered.lawful;
+      allowed = w.answered.allowed;
       bytes = ap (λ (x : List ℕ). x ++ take n r.bytes.items) w.bytes;
       next = record {
-        job = job_of head.line r.lacked;
+        job = job_of head.line goes.0;
         line_is = refl;
-        lawful = (reply.lawful, w.answered.lawful);
+        allowed = (reply.allowed, w.answered.allowed);
         more = drop n r.bytes.items;
         goes_on = omega (arith, length-drop n r.bytes.items);
         bytes = take-append-drop n r.bytes.items ∙ reply.bytes;
@@ -207,12 +199,13 @@ module _ (before : Session) (asked : List (List ℕ)) (written : List ℕ) (due 
 
   -- it was written whole, and what the job holds is kept
   module _ (after : Session) (number : after.count ≡ before.count + 1) (good : after.good ≡ (before.good && r.is_ok)) (lacked : after.lacked ≡ (before.lacked || r.lacked))
-      (counted : (earlier : List Past) (text : List ℕ) → before.counts ≡ counts_of earlier → IsReply r text earlier → after.counts ≡ counts_of (job_of text r.lacked ∷ earlier))
+      (counted : (earlier : List Past) (text : List ℕ) (came : Came) → before.counts ≡ counts_of earlier → IsReply r text earlier came → after.counts ≡ counts_of (job_of text came ∷ earlier))
       (kept : after.store.held.items ≡ before.store.held.items ++ r.held ∷ [])
+      (spare : vec_capacity after.store.held ≡ vec_capacity before.store.held)
       (desk : after.store.desk ≡ before.store.desk) (pass : after.store.pass ≡ before.store.pass) (names : after.store.names ≡ before.store.names) where
     held_more : map sense after.store.held.items ≡ map sense before.store.held.items ++ sense due.held ∷ []
     held_more = ap (λ (hs : List Held). map sense hs) kept ∙ map-append sense before.store.held.items (r.held ∷ [])
-        ∙ ap (λ (h : Held). map sense before.store.held.items ++ sense h ∷ []) same.0
+        ∙ ap (λ (h : Held). map sense before.store.held.items ++ sense h ∷ []) same
 
     pending_more : IsPending after.store (job ∷ w.done) head.rest dues
     unfolding job
@@ -223,12 +216,12 @@ module _ (before : Session) (asked : List (List ℕ)) (written : List ℕ) (due 
         fits = subst (λ d. All (FitsDesk d) after.store.held.items) (sym desk)
             (subst (All (FitsDesk before.store.desk)) (sym kept)
             (All-push (FitsDesk before.store.desk) before.store.held.items r.held w.pending.holds.fits
-            (subst (FitsDesk before.store.desk) (sym same.0) (All-head (λ (d : Due). FitsDesk before.store.desk d.held) due dues w.pending.fits))));
+            (subst (FitsDesk before.store.desk) (sym same) (All-head (λ (d : Due). FitsDesk before.store.desk d.held) due dues w.pending.fits))));
       };
       fits = subst (λ d. All (λ (u : Due). FitsDesk d u.held) dues) (sym desk) (All-tail (λ (d : Due). FitsDesk before.store.desk d.held) due dues w.pending.fits);
-      due = subst (λ ns. AreDue ns (map sense after.store.held.items) (job_of head.line r.lacked ∷ w.done) head.rest dues) (sym names)
-          (subst (λ (hs : List (Option Value)). AreDue before.store.names hs (job_of head.line r.lacked ∷ w.done) head.rest dues) (sym held_more)
-          (subst (λ (b : Bool). AreDue before.store.names (map sense before.store.held.items ++ sense due.held ∷ []) (job_of head.line b ∷ w.done) head.rest dues) (sym same.1) goes.1));
+      room = λ some. let room = w.pending.room (omega arith) in omega (arith, room, spare, ap length kept, length-append before.store.held.items (r.held ∷ []));
+      due = subst (λ ns. AreDue ns (map sense after.store.held.items) (job_of head.line goes.0 ∷ w.done) head.rest dues) (sym names)
+          (subst (λ (hs : List (Option Value)). AreDue before.store.names hs (job_of head.line goes.0 ∷ w.done) head.rest dues) (sym held_more) goes.2);
     }
 
     pub written_whole : (old new : Option (List ℕ)) → Appends old new r.bytes.items → WritesMore (λ bytes. IsWriting after asked bytes dues) written old new
@@ -237,16 +230,16 @@ module _ (before : Session) (asked : List (List ℕ)) (written : List ℕ) (due 
       more = r.bytes.items;
       to = to;
       holds = record {
-        done = job_of head.line r.lacked ∷ w.done;
+        done = job_of head.line goes.0 ∷ w.done;
         waiting = head.rest;
         each = each_more;
         bytes = bytes_more;
         answered = record {
-          lawful = lawful_more;
+          allowed = allowed_more;
           number = number ∙ ap (λ n. n + 1) w.answered.number ∙ omega arith;
-          counts = counted w.done head.line w.answered.counts reply;
+          counts = counted w.done head.line goes.0 w.answered.counts reply;
           good_is = good ∙ ap (λ (b : Bool). b && r.is_ok) w.answered.good_is ∙ ap (λ (b : Bool). all_ok w.done && b) reply.ok_is;
-          lacked_is = lacked ∙ ap (λ (b : Bool). b || r.lacked) w.answered.lacked_is;
+          lacked_is = lacked ∙ ap (λ (b : Bool). b || r.lacked) w.answered.lacked_is ∙ ap (λ (b : Bool). any_lacked w.done || b) reply.lacked_is;
         };
         pending = pending_more;
       };
@@ -262,7 +255,7 @@ ran before after asked written dues at number counts good lacked pending = recor
   each = at.each;
   bytes = at.bytes;
   answered = record {
-    lawful = at.answered.lawful;
+    allowed = at.answered.allowed;
     number = number ∙ at.answered.number;
     counts = counts ∙ at.answered.counts;
     good_is = good ∙ at.answered.good_is;

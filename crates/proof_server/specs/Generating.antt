@@ -6,6 +6,7 @@ use Rattle.std.specs.Io.KnownBytes.{Appends, Keeps}
 use Rattle.edge_io.specs.Causes.{Rose}
 use Rattle.edge_io.specs.Lines.{lines_of}
 use Rattle.job_gen.specs.Generated.{generated}
+use Rattle.session_laws.specs.Answers.{lacked}
 use Rattle.session_laws.specs.Session.{Replies}
 use Rattle.proof_server.specs.Counting.{counts_of, counts_line}
 use Rattle.proof_server.specs.Ending.{status_of}
@@ -17,7 +18,7 @@ use Rattle.proof_server.specs.declared.ending.Ended.TheVariants.{Done, ReadFault
 pub record AreCounts (n : ℕ) (counts : Counts) : Type 0 where
   pub bytes : List ℕ
   pub replies : Replies (lines_of (generated n)) bytes
-  pub ample : All (λ job. job.lacked ≡ false) replies.done
+  pub ample : All (λ job. lacked job ≡ false) replies.done
   pub counted : counts ≡ counts_of replies.done
 
 -- the line of counts was written and flushed; it tells of no error where the end is good

@@ -5,8 +5,7 @@
 use Rattle.std.specs.Prelude.{◌≡◌, ℕ, Bool, false, ◌||◌, List, [], ◌∷◌, ◌++◌, length, Option, Result, Ok, Err}
 use Rattle.std.specs.Io.KnownBytes.{Appends}
 use Rattle.edge_io.specs.Causes.{Rose}
-use Rattle.session_laws.specs.Jobs.{Past, in_order}
-use Rattle.session_laws.specs.Answers.{IsLawful}
+use Rattle.session_laws.specs.Answers.{Past, lacked, in_order, AreAllowed}
 use Rattle.session_laws.specs.Session.{out, all_ok, IsPartOfNext}
 use Rattle.job_windows.specs.Means.{IsGathered, IsPending}
 use Rattle.job_windows.specs.declared.seats.Due.{Due}
@@ -24,11 +23,11 @@ seats_in session = length session.window.seats.items
 -- some of these jobs lacked memory
 abbrev pub any_lacked : List Past → Bool
 any_lacked [] = false
-any_lacked (job ∷ earlier) = any_lacked earlier || job.lacked
+any_lacked (job ∷ earlier) = any_lacked earlier || lacked job
 
 -- the session has answered these jobs, and counted their replies
 pub record HasAnswered (session : Session) (done : List Past) : Type 0 where
-  pub lawful : IsLawful done
+  pub allowed : AreAllowed done
   pub number : session.count ≡ length done
   pub counts : session.counts ≡ counts_of done
   pub good_is : session.good ≡ all_ok done
@@ -58,7 +57,7 @@ pub record AreInPart (asked : List (List ℕ)) (written : List ℕ) : Type 0 whe
   pub waiting : List (List ℕ)
   pub part : List ℕ
   pub each : in_order done ++ waiting ≡ asked
-  pub lawful : IsLawful done
+  pub allowed : AreAllowed done
   pub bytes : written ≡ out done ++ part
   pub next : IsPartOfNext done waiting part
 

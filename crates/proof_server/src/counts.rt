@@ -1,7 +1,7 @@
 //! What is counted of the replies to jobs.
 ghost use Rattle.std.specs.Prelude.{◌≡◌, [], ◌∷◌, ℕ, List, IfOk};
 ghost use Rattle.serde_json.specs.View.{view};
-ghost use Rattle.session_laws.specs.Jobs.{Past, job_of};
+ghost use Rattle.session_laws.specs.Answers.{Past, Came, job_of};
 ghost use Rattle.job_windows.specs.Replying.{IsReply};
 ghost use Rattle.proof_server.specs.Counting.{counts_of, counts_data, counts_line as line_of_counts};
 
@@ -36,9 +36,9 @@ impl Counts {
 
     /// Counts one reply more.
     pub fn add(&mut self, reply: &ReplyLine)
-        ensures { (earlier : List Past) (text : List ℕ) → self.old ≡ counts_of earlier
-            → IsReply reply.now text earlier
-            → self.new ≡ counts_of (job_of text reply.now.lacked ∷ earlier) }
+        ensures { (earlier : List Past) (text : List ℕ) (came : Came) → self.old ≡ counts_of earlier
+            → IsReply reply.now text earlier came
+            → self.new ≡ counts_of (job_of text came ∷ earlier) }
     {
         self.bytes = self.bytes.saturating_add(reply.bytes.len() as u64);
         self.jobs = self.jobs.saturating_add(1);

@@ -13,7 +13,7 @@ use edge_io::{NeverSink, Sink, write_whole};
 use job_gen::generate_line;
 use job_gen::laws::lines;
 use job_workers::Gate;
-use session_laws::laws::{held_proofs, replies};
+use session_laws::laws::held_proofs;
 use std::alloc::{AllocError, Global};
 use std::sync::Wait;
 use std::thread::Threads;
@@ -41,7 +41,6 @@ fn count_replies<R: Wait + Threads + Sync, G: Gate>(
     ensures pass { HasPass session.new.store }
 {
     held_proofs();
-    replies();
     lines();
     let mut sink = NeverSink::new();
     for i in 0..n {

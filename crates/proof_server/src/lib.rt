@@ -6,10 +6,12 @@ mod counts;
 mod ending;
 mod generating;
 pub mod laws;
+mod running;
 mod serving;
 mod session;
 
 pub use command::{serve, top};
 pub use ending::Ended;
+pub use held_values::Held;
 pub use job_workers::{Gate, NoGate};
-pub use operations::{Held, answer};
+pub use operations::answer;

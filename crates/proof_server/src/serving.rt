@@ -9,7 +9,7 @@ use crate::ending::Ended;
 use crate::session::{Session, Stop, Storage};
 use edge_io::{LineReader, Next, Sink, Source, next_line};
 use job_workers::Gate;
-use session_laws::laws::{held_proofs, replies};
+use session_laws::laws::held_proofs;
 use std::alloc::Global;
 use std::sync::Wait;
 use std::thread::Threads;
@@ -45,7 +45,6 @@ fn serve_lines<R: Wait + Threads + Sync, S: Source, K: Sink, G: Gate>(
     ensures pass { HasPass session.new.store }
 {
     held_proofs();
-    replies();
     'lines: loop {
         match next_line(reader, source, MAX_LINE) {
             Next::Line(line) => match session.take(rt, alloc, sink, gate, Some(line.as_slice())) {

@@ -1,5 +1,5 @@
 //! A session between two lines.
-ghost use Rattle.std.specs.Prelude.{◌≡◌, ◌+◌, ◌<◌, ◌≤◌, ◌^◌, ◌∷◌, ◌++◌, List, [], ℕ, IfOk, OnOk, IfErr, length, false};
+ghost use Rattle.std.specs.Prelude.{◌≡◌, ◌+◌, ◌<◌, ◌≤◌, ◌^◌, ◌∷◌, ◌++◌, List, [], ℕ, IfOk, OnOk, IfErr, length, false, vec_capacity};
 ghost use Rattle.std.specs.List.{list_all};
 ghost use Rattle.std.specs.Option.{option_copied};
 ghost use Rattle.session_laws.specs.Jobs.{IsKept, is_blank as is_blank_of, is_job as is_job_of, jobs};
@@ -10,6 +10,7 @@ ghost use Rattle.proof_server.specs.Turn.{IsAt, IsWriting, Goes, Writes, seats_i
 ghost use Rattle.proof_server.specs.declared.session.Stop.TheVariants.{WriteFault};
 
 use crate::counts::Counts;
+use crate::running::run_behind;
 use edge_io::{Sink, write_whole};
 use job_windows::{Due, Store, Window};
 use job_workers::Gate;
@@ -241,7 +242,7 @@ impl Session {
         let worthwhile = window.worthwhile_workers(mem::replace(&mut self.bytes, 0));
         let least = if gate.may_hold() { 2 } else { 1 };
         let workers = self.workers.min(worthwhile.max(least));
-        self.store.run(rt, alloc, window, workers, gate)
+        run_behind(&mut self.store, rt, alloc, window, workers, gate)
     }
 
     // Writes the reply to each job, in their order.
@@ -272,10 +273,13 @@ impl Session {
     // Writes the reply to a job, and keeps what it holds.
     fn write<K: Sink>(&mut self, alloc: Global, sink: &mut K, due: Due) -> Result<(), Stop>
         requires room { self.old.count + 1 < 2 ^ 64 }
+        requires spare { length self.old.store.held.items < vec_capacity self.old.store.held }
         requires pass { HasPass self.old.store }
         ensures writes { (asked : List (List ℕ)) (written : List ℕ) (dues : List DueMeaning) → IsWriting self.old asked written (due ∷ dues)
             → Writes result self.new asked written dues (K.faults sink.old) (K.faults sink.new) (K.written sink.old) (K.written sink.new) }
         ensures few { OnOk result (self.new.count ≡ self.old.count + 1) }
+        ensures spare { OnOk result ((length self.new.store.held.items ≡ length self.old.store.held.items + 1)
+            × (vec_capacity self.new.store.held ≡ vec_capacity self.old.store.held)) }
         ensures window { self.new.window ≡ self.old.window }
         ensures faults { K.faults sink.old ≤ K.faults sink.new }
         ensures pass { HasPass self.new.store }
@@ -292,9 +296,7 @@ impl Session {
         self.count += 1;
         self.good &= reply.is_ok;
         self.lacked |= reply.lacked;
-        match self.store.keep(reply.held) {
-            Ok(()) => Ok(()),
-            Err(_) => Err(Stop::Memory),
-        }
+        self.store.keep(reply.held);
+        Ok(())
     }
 }

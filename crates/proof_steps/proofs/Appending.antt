@@ -3,9 +3,9 @@ use Rattle.std.proofs.Common.{◌≡◌, ℕ, zero, suc, Bool, true, false, ◌|
 use Rattle.std.specs.Prelude.{Some, slice_get}
 use Rattle.std.specs.List.{list_any}
 use Rattle.proof_trees.specs.Trees.{Tree, node, Trees, none, more, below}
-use Rattle.proof_steps.specs.Subtrees.{same_tree, subtrees, subtrees_all, appended, appended_each}
+use Rattle.step_laws.specs.Subtrees.{same_tree, subtrees, subtrees_all, appended, appended_each}
 use Rattle.proof_steps.specs.Listed.{IsIn, AllIn, AreDistinct, IsClosed}
-use Rattle.proof_steps.proofs.SameTrees.{equal_of, same_itself}
+use Rattle.step_laws.proofs.SameTrees.{equal_of, same_itself}
 use Rattle.proof_steps.proofs.Standing.{some_same, get_cases, all_in_left}
 
 or_right : (a b : Bool) → b ≡ true → (a || b) ≡ true

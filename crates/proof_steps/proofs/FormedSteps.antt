@@ -6,8 +6,8 @@ use Rattle.std.proofs.lemmas.List.Elements.{All-nil, All-head, All-tail, All-app
 use Rattle.lk_rules.specs.Rules.{IsFormedRule}
 use Rattle.lk_rules.specs.declared.rule.Step.{Step}
 use Rattle.proof_trees.specs.Trees.{Tree, node, Trees, none, more, rule_of, IsValid, AllValid}
-use Rattle.proof_steps.specs.Subtrees.{same_tree, subtrees, subtrees_all, appended, appended_each, distinct_subtrees}
-use Rattle.proof_steps.specs.Places.{step_in, steps_of}
+use Rattle.step_laws.specs.Subtrees.{same_tree, subtrees, subtrees_all, appended, appended_each, distinct_subtrees}
+use Rattle.step_laws.specs.Places.{step_in, steps_of}
 
 mutual
   valid_subtrees : (t : Tree) → IsValid t → All IsValid (subtrees t)

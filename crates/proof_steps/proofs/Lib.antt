@@ -1,12 +1,9 @@
 pub mod Sizes
-pub mod SameTrees
 pub mod Standing
 pub mod Appending
 pub mod Listings
 pub mod StepLists
 pub mod Visits
-pub mod CutPlaces
 pub mod RoundTrip
 pub mod ProofAgain
 pub mod FormedSteps
-pub mod Found

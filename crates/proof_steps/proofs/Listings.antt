@@ -14,8 +14,8 @@ use Rattle.proof_trees.specs.Trees.{Tree, Trees, rule_of, concl, below}
 use Rattle.proof_graph.specs.declared.node.Node.{Node}
 use Rattle.proof_graph.specs.Keys.{coded_node, same_node}
 use Rattle.proof_steps.specs.declared.listing.Entry.{Entry}
-use Rattle.proof_steps.specs.Subtrees.{subtrees, appended_each}
-use Rattle.proof_steps.specs.Places.{step_in}
+use Rattle.step_laws.specs.Subtrees.{subtrees, appended_each}
+use Rattle.step_laws.specs.Places.{step_in}
 use Rattle.proof_steps.specs.Listed.{IsIn, AllIn, ArePlaces, AreDistinct, IsClosed, key_in, GivesPlaces}
 use Rattle.proof_steps.specs.Kept.{trees_in, numbers_in, entry_step, IsListingOf}
 use Rattle.proof_steps.proofs.Standing.{get_left, get_last, get_cases, step_left, key_left, key_back, some_same, places_are, places_within, all_in_places}

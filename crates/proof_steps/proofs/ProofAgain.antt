@@ -9,9 +9,9 @@ use Rattle.lk_rules.specs.declared.inference.RuleFault.{RuleFault}
 use Rattle.lk_rules.specs.Rules.{verdict_of}
 use Rattle.lk_rules.proofs.Rows.{row_of}
 use Rattle.proof_trees.specs.Trees.{Tree, node, Trees, none, more, concl, count, first_end, second_end, IsValid, AllValid}
-use Rattle.lk_check.specs.Checking.{premise_end, IsRight, IsProof}
-use Rattle.proof_steps.specs.Subtrees.{subtrees, subtrees_all, appended, appended_each, distinct_subtrees}
-use Rattle.proof_steps.specs.Places.{place, places, step_in, steps_of}
+use Rattle.step_laws.specs.Checking.{premise_end, IsRight, IsProof}
+use Rattle.step_laws.specs.Subtrees.{subtrees, subtrees_all, appended, appended_each, distinct_subtrees}
+use Rattle.step_laws.specs.Places.{place, places, step_in, steps_of}
 use Rattle.proof_steps.specs.Listed.{IsIn, AllIn}
 use Rattle.proof_steps.proofs.Standing.{some_same, get_cases, all_in_left, place_there, place_left}
 use Rattle.proof_steps.proofs.Appending.{each-append, subtrees_root}

@@ -6,12 +6,12 @@ use Rattle.std.proofs.lemmas.List.{take_at, take-append-le, length-map}
 use Rattle.std.proofs.lemmas.Option.{slice_get_within}
 use Rattle.lk_rules.specs.declared.rule.Step.{Step}
 use Rattle.proof_trees.specs.Trees.{Tree, node, Trees, none, more, rule_of, concl, below}
-use Rattle.proof_graph.specs.Shown.{trees, nodes, nodes_all}
-use Rattle.lk_check.specs.StepTrees.{tree_over, trees_after, trees_of_steps, IsTreeOf}
-use Rattle.proof_steps.specs.Subtrees.{same_tree, subtrees, subtrees_all, appended, appended_each, distinct_subtrees}
-use Rattle.proof_steps.specs.Places.{place, places, step_in, steps_of}
+use Rattle.proof_trees.specs.TreeLists.{trees, nodes, nodes_all}
+use Rattle.step_laws.specs.StepTrees.{tree_over, trees_after, trees_of_steps, IsTreeOf}
+use Rattle.step_laws.specs.Subtrees.{same_tree, subtrees, subtrees_all, appended, appended_each, distinct_subtrees}
+use Rattle.step_laws.specs.Places.{place, places, step_in, steps_of}
 use Rattle.proof_steps.specs.Listed.{IsIn, AllIn, AreDistinct}
-use Rattle.proof_steps.proofs.SameTrees.{equal_of}
+use Rattle.step_laws.proofs.SameTrees.{equal_of}
 use Rattle.proof_steps.proofs.Standing.{get_left, get_last, get_cases, in_left, place_there, place_left}
 use Rattle.proof_steps.proofs.Appending.{any_of, each-append, subtrees_root, distinct_more}
 use Rattle.proof_steps.proofs.Visits.{each_prefix}

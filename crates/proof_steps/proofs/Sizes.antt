@@ -1,6 +1,6 @@
 -- Each premise is smaller than all together.
 use Rattle.std.proofs.Common.{◌≡◌, ℕ, zero, suc, ◌+◌, ◌*◌, ◌<◌, ◌≤◌, List, [], ◌∷◌, length, get_or, ap, arith}
-use Rattle.proof_graph.specs.Shown.{nodes, nodes_all}
+use Rattle.proof_trees.specs.TreeLists.{nodes, nodes_all}
 use Rattle.proof_graph.specs.References.{Reference, trees_of}
 
 nodes_at : (rs : List Reference) (i : ℕ) (d : Reference) → i < length rs → nodes (get_or rs i d).tree ≤ nodes_all (trees_of rs)

@@ -7,10 +7,10 @@ use Rattle.std.proofs.lemmas.List.Elements.{All-nil, All-cons}
 use Rattle.std.proofs.lemmas.Option.{slice_get_within, slice_get-get_or}
 use Rattle.proof_trees.specs.Trees.{Tree, node, Trees, none, more, rule_of, concl, below}
 use Rattle.proof_graph.specs.declared.node.Node.{Node}
-use Rattle.proof_steps.specs.Subtrees.{same_tree}
-use Rattle.proof_steps.specs.Places.{place, places, step_in}
+use Rattle.step_laws.specs.Subtrees.{same_tree}
+use Rattle.step_laws.specs.Places.{place, places, step_in}
 use Rattle.proof_steps.specs.Listed.{IsIn, AllIn, ArePlaces, AreDistinct, key_in}
-use Rattle.proof_steps.proofs.SameTrees.{equal_of, same_itself}
+use Rattle.step_laws.proofs.SameTrees.{equal_of, same_itself}
 
 pub some_same : {X : Type 0} (x y : X) → Some x ≡ Some y → x ≡ y
 some_same x y h = cc

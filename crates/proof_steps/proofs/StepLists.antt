@@ -4,7 +4,7 @@ use Rattle.std.specs.Prelude.{Option, Some, None, nat_lt, not}
 use Rattle.std.specs.List.{position, position_or_len}
 use Rattle.std.proofs.lemmas.List.{length-map}
 use Rattle.proof_trees.specs.Trees.{Tree, rule_of, is_cut}
-use Rattle.proof_steps.specs.Places.{step_in, is_cut_step}
+use Rattle.step_laws.specs.Places.{step_in, is_cut_step}
 use Rattle.proof_steps.specs.declared.listing.Entry.{Entry}
 use Rattle.proof_steps.specs.Kept.{entry_step}
 

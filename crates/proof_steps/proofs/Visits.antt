@@ -6,7 +6,7 @@ use Rattle.std.proofs.lemmas.List.{take_more}
 use mathlib.Core.List.{IsPrefix}
 use Rattle.proof_trees.specs.Trees.{Tree, Trees, none, more, below}
 use Rattle.proof_graph.specs.References.{Reference, trees_of}
-use Rattle.proof_steps.specs.Subtrees.{same_tree, subtrees, subtrees_all, appended, appended_each}
+use Rattle.step_laws.specs.Subtrees.{same_tree, subtrees, subtrees_all, appended, appended_each}
 use Rattle.proof_steps.specs.Listed.{ArePlaces}
 use Rattle.proof_steps.proofs.Standing.{get_left}
 use Rattle.proof_steps.proofs.Appending.{appended_known, each-append, subtrees_root}

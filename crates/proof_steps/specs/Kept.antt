@@ -7,7 +7,7 @@ use Rattle.lk_rules.specs.declared.rule.Step.{Step}
 use Rattle.proof_trees.specs.Trees.{Tree, rule_of, concl}
 use Rattle.proof_graph.specs.declared.node.Node.{Node}
 use Rattle.proof_graph.specs.Keys.{same_node}
-use Rattle.proof_steps.specs.Places.{step_in}
+use Rattle.step_laws.specs.Places.{step_in}
 use Rattle.proof_steps.specs.Listed.{Listed, AreDistinct, IsClosed, key_in, GivesPlaces}
 use Rattle.proof_steps.specs.declared.listing.Entry.{Entry}
 use Rattle.proof_steps.specs.declared.listing.Listing.TheInside.{Inside}

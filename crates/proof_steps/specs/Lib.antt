@@ -1,5 +1,2 @@
-pub mod Subtrees
-pub mod Places
 pub mod Listed
 pub mod Kept
-pub mod Faults

@@ -8,7 +8,7 @@ use Rattle.boxcar.specs.Table.{Shelves, shelves_coded}
 use Rattle.proof_trees.specs.Trees.{Tree, Trees, none, more, rule_of, concl, below}
 use Rattle.proof_graph.specs.declared.node.Node.{Node}
 use Rattle.proof_trees.specs.Codes.{coded_tree}
-use Rattle.proof_steps.specs.Places.{places}
+use Rattle.step_laws.specs.Places.{places}
 
 -- what contracts see of a listing: the graph that its references are of, the trees, and the numbers of the references that stand for them
 pub record Listed : Type 0 where

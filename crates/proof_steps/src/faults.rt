@@ -4,7 +4,7 @@ ghost use Rattle.std.specs.List.{find};
 ghost use Rattle.fol.specs.Facts.{has_body};
 ghost use Rattle.fol.specs.Formed.{IsFormed};
 ghost use Rattle.proof_trees.specs.Trees.{size as size_of};
-ghost use Rattle.proof_steps.specs.Faults.{first_defined as first_defined_formula};
+ghost use Rattle.step_laws.specs.Faults.{first_defined as first_defined_formula};
 
 use fol::Formula;
 use lk_rules::{Sequent, Side};

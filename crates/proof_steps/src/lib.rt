@@ -3,7 +3,6 @@
 
 mod counting;
 mod faults;
-pub mod laws;
 mod listing;
 mod step_list;
 mod visiting;

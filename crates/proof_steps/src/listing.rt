@@ -3,8 +3,8 @@ ghost use Rattle.std.specs.Prelude.{◌≡◌, ◌<◌, ◌++◌, ◌∷◌, [],
 ghost use Rattle.std.specs.List.{All, position};
 ghost use Rattle.proof_trees.specs.Trees.{Tree as Proof, below, rule_of, is_cut as is_cut_rule};
 ghost use Rattle.proof_graph.specs.Graphs.{IsOf};
-ghost use Rattle.proof_steps.specs.Subtrees.{subtrees, appended_each};
-ghost use Rattle.proof_steps.specs.Places.{step_in, is_cut_step};
+ghost use Rattle.step_laws.specs.Subtrees.{subtrees, appended_each};
+ghost use Rattle.step_laws.specs.Places.{step_in, is_cut_step};
 ghost use Rattle.proof_steps.specs.Listed.{IsIn, AllIn, ArePlaces, key_in};
 ghost use Rattle.proof_steps.specs.Kept.{trees_in, numbers_in, entry_step};
 

@@ -4,10 +4,10 @@ ghost use Rattle.std.specs.List.{All, position};
 ghost use Rattle.lk_rules.specs.Rules.{IsFormedRule};
 ghost use Rattle.proof_trees.specs.Trees.{IsCutFree};
 ghost use Rattle.proof_graph.specs.Graphs.{IsOf};
-ghost use Rattle.lk_check.specs.Checking.{IsProof};
-ghost use Rattle.lk_check.specs.StepTrees.{trees_of_steps, IsTreeOf};
-ghost use Rattle.proof_steps.specs.Subtrees.{distinct_subtrees};
-ghost use Rattle.proof_steps.specs.Places.{steps_of, is_cut_step};
+ghost use Rattle.step_laws.specs.Checking.{IsProof};
+ghost use Rattle.step_laws.specs.StepTrees.{trees_of_steps, IsTreeOf};
+ghost use Rattle.step_laws.specs.Subtrees.{distinct_subtrees};
+ghost use Rattle.step_laws.specs.Places.{steps_of, is_cut_step};
 
 use crate::listing::Listing;
 use crate::visiting::visit;

@@ -4,7 +4,7 @@ ghost use Rattle.std.specs.List.{All};
 ghost use Rattle.proof_trees.specs.Trees.{below};
 ghost use Rattle.proof_graph.specs.References.{trees_of};
 ghost use Rattle.proof_graph.specs.Graphs.{IsOf};
-ghost use Rattle.proof_steps.specs.Subtrees.{subtrees, subtrees_all, appended, appended_each};
+ghost use Rattle.step_laws.specs.Subtrees.{subtrees, subtrees_all, appended, appended_each};
 ghost use Rattle.proof_steps.specs.Listed.{ArePlaces};
 
 use crate::listing::Listing;

@@ -10,3 +10,5 @@ pub mod Agreeing
 pub mod Shapes
 pub mod FormedConclusions
 pub mod WithoutBodies
+pub mod FormulaSets
+pub mod Passing

@@ -5,3 +5,5 @@ pub mod Conclusions
 pub mod Occurrence
 pub mod FreeVariables
 pub mod Substitution
+pub mod TreeLists
+pub mod FormulaSets

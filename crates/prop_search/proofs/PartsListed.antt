@@ -8,7 +8,7 @@ use Rattle.std.specs.Ordering.{eq_by_cmp}
 use Rattle.fol.specs.Syntax.{Formula, not, and, or, imp}
 use Rattle.fol.specs.Order.{formula_cmp}
 use Rattle.fol.specs.Formed.{is_formed, IsFormed}
-use Rattle.refutations.proofs.FormulaSets.{equal}
+use Rattle.proof_trees.proofs.FormulaSets.{equal}
 use Rattle.search_laws.proofs.Listed.{passed, all_pass}
 use Rattle.search_laws.proofs.Tests.{split}
 use Rattle.prop_search.specs.Formulas.{is_listed}

@@ -18,8 +18,8 @@ use Rattle.lk_rules.specs.Formulas.{FormulaSet}
 use Rattle.lk_rules.proofs.Listings.{equal_either_way}
 use Rattle.lk_rules.proofs.Subsequents.{and_left, and_right}
 use Rattle.proof_trees.proofs.Booleans.{or_first, or_second, either}
-use Rattle.refutations.specs.Refutations.{without}
-use Rattle.refutations.proofs.FormulaSets.{equal, tied, without_member}
+use Rattle.proof_trees.specs.FormulaSets.{without}
+use Rattle.proof_trees.proofs.FormulaSets.{equal, tied, without_member}
 use Rattle.search_laws.proofs.Listed.{kept}
 use Rattle.search_laws.proofs.Tests.{split, clash, not_true, same_truth}
 use Rattle.prop_search.specs.Formulas.{formula_at, number_of, is_listed, side_of}

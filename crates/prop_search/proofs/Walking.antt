@@ -8,9 +8,10 @@ use Rattle.lk_rules.specs.Rules.{needs}
 use Rattle.proof_trees.specs.Trees.{Tree, node, none, more, size}
 use Rattle.search_laws.specs.Truth.{Assignment, IsTautology}
 use Rattle.search_laws.specs.Search.{Walk, proved, falsified, Walks, all_proved, one_falsified, visits, premises_from, after_first, with_first, walk_each, inferred, by_rule, rule_at, left_atoms, walk}
-use Rattle.prop_search.specs.declared.fault.SearchFault.{SearchFault}
-use Rattle.prop_search.specs.declared.fault.SearchFault.TheVariants.{Falsified, Budget, Memory}
-use Rattle.prop_search.specs.Deciding.{verdict, found, Decides, visits_each, WalksTo, WalkInTurn}
+use Rattle.search_laws.specs.declared.fault.SearchFault.{SearchFault}
+use Rattle.search_laws.specs.declared.fault.SearchFault.TheVariants.{Falsified, Budget, Memory}
+use Rattle.search_laws.specs.Budgets.{verdict, found}
+use Rattle.prop_search.specs.Deciding.{Decides, visits_each, WalksTo, WalkInTurn}
 
 -- the walk at a sequent
 

@@ -4,23 +4,14 @@
 --     WalksTo, WalkInTurn      what one part of the walk does with the budget, and what some parts do one after the other
 --     IsInferred      the walk goes on to these premises
 --     IsProvedIn, IsProved, AreProved      walks that find proofs
-use Rattle.std.specs.Prelude.{◌≡◌, ℕ, ◌+◌, ◌<◌, ◌≤◌, nat_lt, true, List, if◌then◌else◌, Result, Ok, Err}
+use Rattle.std.specs.Prelude.{◌≡◌, ℕ, ◌+◌, ◌<◌, ◌≤◌, true, List, if◌then◌else◌, Result, Ok, Err}
 use Rattle.proof_trees.specs.Trees.{Tree, Trees, size, count_rules_all}
 use Rattle.proof_graph.specs.References.{Reference}
 use Rattle.lk_rules.specs.declared.sequent.Sequent.{Sequent}
 use Rattle.lk_rules.specs.declared.rule.Rule.{Rule}
 use Rattle.search_laws.specs.Search.{Walk, proved, falsified, Walks, all_proved, one_falsified, visits, inferred, walk_each, walk}
-use Rattle.prop_search.specs.declared.fault.SearchFault.{SearchFault}
-use Rattle.prop_search.specs.declared.fault.SearchFault.TheVariants.{Falsified, Budget, Memory}
-
--- a tautology has a proof; another sequent is false under an assignment
-abbrev pub verdict : Walk → Result Tree SearchFault
-verdict (proved t) = Ok t
-verdict (falsified n a) = Err (Falsified a)
-
--- what a search comes to within a budget: it visits at most so many sequents
-abbrev pub found : ℕ → Walk → Result Tree SearchFault
-found n w = if nat_lt n (visits w) then Err Budget else verdict w
+use Rattle.search_laws.specs.declared.fault.SearchFault.{SearchFault}
+use Rattle.search_laws.specs.declared.fault.SearchFault.TheVariants.{Falsified, Budget, Memory}
 
 -- a decision is that, but for the proof
 abbrev pub Decides : Result (Unit {0}) SearchFault → Result Tree SearchFault → Type 0

@@ -12,7 +12,7 @@ use Rattle.lk_rules.specs.declared.sequent.Side.TheVariants.{Left, Right}
 use Rattle.lk_rules.specs.declared.rule.Rule.{Rule}
 use Rattle.lk_rules.specs.declared.rule.Rule.TheVariants.{NegL, NegR, AndL, AndR, OrL, OrR, ImpL, ImpR}
 use Rattle.lk_rules.specs.Sequents.{adds_to}
-use Rattle.refutations.specs.Refutations.{without}
+use Rattle.proof_trees.specs.FormulaSets.{without}
 use Rattle.search_laws.specs.Search.{left_rule, right_rule}
 use Rattle.prop_search.specs.declared.connective.Connective.{Connective}
 use Rattle.prop_search.specs.declared.connective.Connective.TheVariants.{Not, And, Or, Imp}

@@ -2,23 +2,23 @@
 ghost use Rattle.std.specs.Prelude.{◌≡◌, ◌+◌, ◌<◌, true, length, Err, IfOk, IfErr, OnOk};
 ghost use Rattle.std.specs.List.{list_all};
 ghost use Rattle.finite.specs.Finite as set;
-ghost use Rattle.refutations.specs.Clauses.{is_atom};
+ghost use Rattle.proof_trees.specs.FormulaSets.{is_atom};
 ghost use Rattle.search_laws.specs.Truth.{Assignment, IsPropositional, IsTautology, falsifies};
 ghost use Rattle.search_laws.specs.Search.{walk};
-ghost use Rattle.prop_search.specs.Deciding.{found, Decides, WalksTo, IsInferred};
+ghost use Rattle.search_laws.specs.Budgets.{found};
+ghost use Rattle.prop_search.specs.Deciding.{Decides, WalksTo, IsInferred};
 ghost use Rattle.prop_search.specs.Formulas.{sequent_of, IsFit};
 ghost use Rattle.prop_search.specs.Premises.{AreWithin, premises_of};
 ghost use Rattle.prop_search.specs.Seen.{AreSeen};
 
 use crate::choices::{Choice, choose};
 use crate::connective::{Parts, Signed};
-use crate::fault::SearchFault;
 use crate::numbered::Numbered;
 use crate::numbering::Numbering;
 use crate::seen::Seen;
 use crate::sides::{left_atoms, numbered};
 use lk_rules::Sequent;
-use search_laws::laws;
+use search_laws::{SearchFault, laws};
 use std::alloc::Global;
 
 // Takes so many visits from those that are left.

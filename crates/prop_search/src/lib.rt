@@ -5,7 +5,6 @@ mod bits;
 mod choices;
 mod connective;
 mod deciding;
-mod fault;
 mod made;
 mod numbered;
 mod numbering;
@@ -16,6 +15,6 @@ mod seen;
 mod sides;
 
 pub use deciding::decide;
-pub use fault::SearchFault;
 pub use proving::search;
 pub use quantifiers::{has_quantifier, is_propositional};
+pub use search_laws::SearchFault;

@@ -21,7 +21,7 @@ use Rattle.lk_rules.specs.Sequents.{image_sequent}
 use Rattle.proof_trees.proofs.Booleans.{or_first, or_second, either}
 use Rattle.refutations.specs.declared.clause.Clause.{Clause}
 use Rattle.refutations.specs.Clauses.{first_occurrences, IsClauseOf, closure_of, closures}
-use Rattle.refutations.proofs.FormulaSets.{equal, tied, image_of_fixed}
+use Rattle.proof_trees.proofs.FormulaSets.{equal, tied, image_of_fixed}
 
 -- a list of variables and their first occurrences have the same members
 

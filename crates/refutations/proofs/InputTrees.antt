@@ -24,7 +24,7 @@ use Rattle.lk_rules.specs.declared.rule.Rule.TheVariants.{Ax}
 use Rattle.proof_trees.specs.Trees.{Tree, node, none, concl, IsValid}
 use Rattle.refutations.specs.Clauses.{is_clause, literals_of}
 use Rattle.refutations.specs.Refutations.{over_literals, over_instances}
-use Rattle.refutations.proofs.FormulaSets.{in_first, in_second, added, stays}
+use Rattle.proof_trees.proofs.FormulaSets.{in_first, in_second, added, stays}
 use Rattle.refutations.proofs.Inferences.{initial, falsity, negation, disjunction, instance}
 
 pub concl-over_literals : (s : Sequent) (f : Formula) → concl (over_literals s f) ≡ s

@@ -1,5 +1,4 @@
 pub mod FirstOccurrences
-pub mod FormulaSets
 pub mod Closures
 pub mod Inferences
 pub mod InputTrees

@@ -28,8 +28,9 @@ use Rattle.refutations.specs.declared.clause.Clause.{Clause}
 use Rattle.refutations.specs.declared.step.ResStep.{ResStep}
 use Rattle.refutations.specs.Clauses.{literals_of, IsClauseOf, closure_of, closures}
 use Rattle.refutations.specs.DerivedSteps.{image_of, resolved}
-use Rattle.refutations.specs.Refutations.{Derived, of_input, without, resolvent, refutation, AreFormedSteps}
-use Rattle.refutations.proofs.FormulaSets.{equal, in_first, in_second, in_either, added, stays, union-empty_sequent, image-union_sequent, without_member}
+use Rattle.refutations.specs.Refutations.{Derived, of_input, resolvent, refutation, AreFormedSteps}
+use Rattle.proof_trees.specs.FormulaSets.{without}
+use Rattle.proof_trees.proofs.FormulaSets.{equal, in_first, in_second, in_either, added, stays, union-empty_sequent, image-union_sequent, without_member}
 use Rattle.refutations.proofs.Closures.{among_first, closure_stands, image-closures}
 use Rattle.refutations.proofs.Inferences.{cut}
 use Rattle.refutations.proofs.InputTrees.{concl-over_instances, instances_valid}

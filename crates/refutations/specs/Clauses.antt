@@ -3,10 +3,10 @@
 --     literals_of      its literals as a sequent
 --     IsClauseOf      a clause with its variables
 --     closure_of, closures      the universal closure of a clause, and those of all, on the left of a sequent
-use Rattle.std.specs.Prelude.{◌≡◌, Bool, true, false, ◌&&◌, not as negated, List, [], ◌∷◌, map, filter}
+use Rattle.std.specs.Prelude.{◌≡◌, Bool, true, ◌&&◌, not as negated, List, [], ◌∷◌, map, filter}
 use Rattle.std.specs.Ordering.{eq_by_cmp}
 use Rattle.fol.specs.declared.symbols.Var.{Var}
-use Rattle.fol.specs.Syntax.{Formula, atom, bot, not, or, all}
+use Rattle.fol.specs.Syntax.{Formula, bot, not, or, all}
 use Rattle.fol.specs.Order.{var_cmp}
 use Rattle.fol.specs.Formed.{IsFormed}
 use Rattle.finite.specs.Finite as set
@@ -15,11 +15,8 @@ use Rattle.substitution.specs.Closing.{closed_over}
 use Rattle.lk_rules.specs.declared.sequent.Sequent.{Sequent}
 use Rattle.lk_rules.specs.declared.sequent.Side.TheVariants.{Left, Right}
 use Rattle.lk_rules.specs.Sequents.{empty, adds_to, union_sequent}
+use Rattle.proof_trees.specs.FormulaSets.{is_atom}
 use Rattle.refutations.specs.declared.clause.Clause.{Clause}
-
-abbrev pub is_atom : Formula → Bool
-is_atom (atom s ts) = true
-is_atom f = false
 
 -- a literal is an atom, the negation of one, or falsity, which is no alternative
 abbrev pub is_clause : Formula → Bool

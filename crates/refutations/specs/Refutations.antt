@@ -3,12 +3,10 @@
 --     over_literals, over_instances      the proof of an input clause
 --     derives      what a step derives from clauses and earlier steps
 --     refutation      the proof of a whole refutation, or its first faulty step
-use Rattle.std.specs.Prelude.{ℕ, suc, ◌-◌, ◌&&◌, not as negated, if◌then◌else◌, List, [], ◌∷◌, ◌++◌, length, filter, slice_get, Option, Some, None, Result, Ok, Err}
-use Rattle.std.specs.Ordering.{eq_by_cmp}
+use Rattle.std.specs.Prelude.{ℕ, suc, ◌-◌, ◌&&◌, if◌then◌else◌, List, [], ◌∷◌, ◌++◌, length, slice_get, Option, Some, None, Result, Ok, Err}
 use Rattle.std.specs.FinMap as fin
 use Rattle.fol.specs.declared.symbols.Var.{Var}
 use Rattle.fol.specs.Syntax.{Formula, free, bot, not, or, all}
-use Rattle.fol.specs.Order.{formula_cmp}
 use Rattle.finite.specs.Finite as set
 use Rattle.fol.specs.Formed.{IsFormed}
 use Rattle.std.specs.List.{All}
@@ -17,9 +15,9 @@ use Rattle.substitution.specs.Instance.{inst}
 use Rattle.lk_rules.specs.declared.sequent.Sequent.{Sequent}
 use Rattle.lk_rules.specs.declared.sequent.Side.TheVariants.{Left, Right}
 use Rattle.lk_rules.specs.declared.rule.Rule.TheVariants.{Ax, BotL, NegL, OrL, AllL, Cut}
-use Rattle.lk_rules.specs.Formulas.{FormulaSet}
 use Rattle.lk_rules.specs.Sequents.{empty, adds_to, same_sequents, union_sequent, image_sequent}
 use Rattle.proof_trees.specs.Trees.{Tree, node, none, more}
+use Rattle.proof_trees.specs.FormulaSets.{without}
 use Rattle.proof_trees.specs.Substitution.{sub}
 use Rattle.refutations.specs.declared.clause.Clause.{Clause}
 use Rattle.refutations.specs.declared.step.ResStep.{ResStep}
@@ -50,10 +48,6 @@ over_instances s (x ∷ xs) f =
 pub record Derived : Type 0 where
   pub clause : Sequent
   pub tree : Tree
-
--- the set without one formula
-abbrev pub without : FormulaSet → Formula → FormulaSet
-without s a = set.adds_each set.empty (filter (λ f. negated (eq_by_cmp formula_cmp a f)) (set.listing s))
 
 -- a clause itself
 abbrev pub of_input : Sequent → Clause → Derived

@@ -3,7 +3,8 @@ ghost use Rattle.std.specs.Prelude.{◌≡◌, IfOk};
 ghost use Rattle.fol.specs.Formed.{IsFormed};
 ghost use Rattle.lk_rules.specs.Sequents.{empty, adds_to};
 ghost use Rattle.refutations.specs.Clauses.{literals_of};
-ghost use Rattle.refutations.specs.Refutations.{without as without_atom, resolvent as resolvent_of};
+ghost use Rattle.proof_trees.specs.FormulaSets.{without as without_atom};
+ghost use Rattle.refutations.specs.Refutations.{resolvent as resolvent_of};
 
 use fol::{Formula, FormulaNode};
 use lk_rules::{Formulas, Sequent, Side};

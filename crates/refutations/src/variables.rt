@@ -3,7 +3,8 @@ ghost use Rattle.std.specs.Prelude.{◌≡◌, [], ◌∷◌, IfOk, OnOk};
 ghost use Rattle.std.specs.BTreeSet.{contains};
 ghost use Rattle.fol.specs.Order.{var_cmp};
 ghost use Rattle.free_variables.specs.Occurrence.{var_list, var_list_term, var_list_terms};
-ghost use Rattle.refutations.specs.Clauses.{first_occurrences as firsts_of, clause_of as clause_meant, is_clause as is_disjunction, is_atom as is_atomic};
+ghost use Rattle.refutations.specs.Clauses.{first_occurrences as firsts_of, clause_of as clause_meant, is_clause as is_disjunction};
+ghost use Rattle.proof_trees.specs.FormulaSets.{is_atom as is_atomic};
 ghost use Rattle.refutations.specs.FirstOccurrences.{GoesOn};
 
 use crate::clause::{Clause, VarList};

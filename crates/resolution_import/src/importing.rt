@@ -8,11 +8,10 @@ ghost use Rattle.arena_cells.specs.Standing.{tree_at, IsTreeAt};
 ghost use Rattle.proof_subst.specs.Benches.{graph_of, pass_in, images_in, arena_in, IsBenchPassOf, Extends};
 ghost use Rattle.refutations.specs.Clauses.{IsClauseOf, closure_of, closures};
 ghost use Rattle.refutations.specs.Refutations.{refutation, AreFormedSteps};
-ghost use Rattle.resolution_import.specs.Importing.{IsRefuted, Refutes, Imports};
+ghost use Rattle.arena_refutations.specs.Importing.{IsRefuted, Refutes};
+ghost use Rattle.resolution_import.specs.Importing.{Imports};
 
-use crate::clauses::clauses_of_refutation;
-use crate::faults::ImportFault;
-use crate::proving::prove_last;
+use arena_refutations::{ImportFault, clauses_of_refutation, prove_last};
 use proof_graph::ProofRef;
 use proof_subst::{Bench, BenchPass, make_room, proof_at};
 use refutations::{Clause, ResStep, laws};

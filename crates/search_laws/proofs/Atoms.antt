@@ -10,7 +10,7 @@ use Rattle.lk_rules.specs.declared.sequent.Sequent.{Sequent}
 use Rattle.lk_rules.specs.declared.rule.Rule.{Rule}
 use Rattle.lk_rules.specs.Rules.{needs}
 use Rattle.lk_rules.proofs.Subsequents.{and_left, and_both}
-use Rattle.refutations.specs.Clauses.{is_atom}
+use Rattle.proof_trees.specs.FormulaSets.{is_atom}
 use Rattle.search_laws.specs.Truth.{Assignment, IsPropositional}
 use Rattle.search_laws.specs.Search.{is_compound, left_atoms, premises_from, premise_at, rule_at, Walk, proved, falsified, Walks, all_proved, one_falsified, with_first, walk_each, inferred, by_rule, walk_within, walk}
 use Rattle.search_laws.proofs.Tests.{clash}

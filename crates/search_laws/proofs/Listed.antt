@@ -12,8 +12,8 @@ use Rattle.lk_rules.specs.Formulas.{FormulaSet}
 use Rattle.lk_rules.proofs.Listings.{equal_either_way}
 use Rattle.lk_rules.proofs.Subsequents.{and_left, and_right, and_both}
 use Rattle.proof_trees.proofs.Booleans.{or_first, or_second, either}
-use Rattle.refutations.specs.Refutations.{without}
-use Rattle.refutations.proofs.FormulaSets.{equal, tied, without_member}
+use Rattle.proof_trees.specs.FormulaSets.{without}
+use Rattle.proof_trees.proofs.FormulaSets.{equal, tied, without_member}
 use Rattle.search_laws.specs.Search.{without_each}
 use Rattle.search_laws.proofs.Tests.{split, clash, same_truth}
 

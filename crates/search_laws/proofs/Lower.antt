@@ -10,7 +10,7 @@ use Rattle.lk_rules.specs.declared.rule.Rule.{Rule}
 use Rattle.lk_rules.specs.declared.rule.Rule.TheVariants.{NegL, NegR, AndL, AndR, OrL, OrR, ImpL, ImpR}
 use Rattle.lk_rules.specs.Sequents.{extended}
 use Rattle.lk_rules.specs.Rules.{needs, aux, main_stands}
-use Rattle.refutations.specs.Refutations.{without}
+use Rattle.proof_trees.specs.FormulaSets.{without}
 use Rattle.search_laws.specs.Search.{weight, premise_at}
 use Rattle.search_laws.proofs.Weights.{sum-adds_each, sum-without}
 use Rattle.search_laws.proofs.Searched.{is_searched, Fits, alone_left, alone_right}

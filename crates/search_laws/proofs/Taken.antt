@@ -10,7 +10,7 @@ use Rattle.lk_rules.specs.declared.rule.Rule.TheVariants.{Ax, TopR, BotL}
 use Rattle.proof_trees.proofs.Booleans.{either}
 use Rattle.search_laws.specs.Search.{left_rule, right_rule, is_compound, or_else, rule_at}
 use Rattle.search_laws.proofs.Listed.{among, among_first, among_later}
-use Rattle.refutations.proofs.FormulaSets.{equal}
+use Rattle.proof_trees.proofs.FormulaSets.{equal}
 use Rattle.search_laws.proofs.Searched.{Fits}
 
 -- the first formula of a list that passes a test

@@ -5,7 +5,7 @@ use Rattle.fol.specs.Syntax.{Formula, atom, top, bot, not, and, or, imp, all, ex
 use Rattle.finite.specs.Finite as set
 use Rattle.lk_rules.specs.declared.sequent.Sequent.{Sequent}
 use Rattle.lk_rules.proofs.Subsequents.{and_left, and_right, and_both}
-use Rattle.refutations.proofs.FormulaSets.{without_member}
+use Rattle.proof_trees.proofs.FormulaSets.{without_member}
 use Rattle.search_laws.specs.Truth.{value, falsifies}
 use Rattle.search_laws.specs.Search.{is_compound, left_atoms}
 use Rattle.search_laws.proofs.Tests.{clash, fails, not_false}

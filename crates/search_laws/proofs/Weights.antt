@@ -11,8 +11,8 @@ use Rattle.fol.specs.OrderLaws.{formula_total}
 use Rattle.finite.specs.Finite as set
 use Rattle.finite.proofs.Finite.{has-listing, of_rising-empty, listing-of_rising}
 use Rattle.lk_rules.specs.Formulas.{FormulaSet}
-use Rattle.refutations.specs.Refutations.{without}
-use Rattle.refutations.proofs.FormulaSets.{equal}
+use Rattle.proof_trees.specs.FormulaSets.{without}
+use Rattle.proof_trees.proofs.FormulaSets.{equal}
 use Rattle.search_laws.proofs.Listed.{among}
 
 module _ (g : Formula → ℕ) where

@@ -16,7 +16,7 @@ use Rattle.lk_rules.specs.Formulas.{FormulaSet}
 use Rattle.lk_rules.specs.Sequents.{extended}
 use Rattle.lk_rules.specs.Rules.{needs, main, aux}
 use Rattle.proof_trees.specs.Trees.{Tree, node, Trees, none, more, size}
-use Rattle.refutations.specs.Refutations.{without}
+use Rattle.proof_trees.specs.FormulaSets.{without}
 use Rattle.search_laws.specs.Truth.{Assignment}
 
 -- the rule of a connective on the left, and on the right

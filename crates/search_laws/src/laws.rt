@@ -7,7 +7,7 @@ ghost use Rattle.lk_rules.specs.declared.sequent.Sequent.{Sequent as Conclusion}
 ghost use Rattle.lk_rules.specs.declared.rule.Rule.{Rule as Inference};
 ghost use Rattle.lk_rules.specs.Rules.{needs};
 ghost use Rattle.proof_trees.specs.Trees.{Tree as Proof, concl, IsValid, IsCutFree};
-ghost use Rattle.refutations.specs.Clauses.{is_atom};
+ghost use Rattle.proof_trees.specs.FormulaSets.{is_atom};
 ghost use Rattle.search_laws.specs.Truth.{Assignment, IsPropositional, IsTautology, falsifies};
 ghost use Rattle.search_laws.specs.Search.{walk, by_rule, rule_at, premise_at, weight, proved, falsified};
 

@@ -1,5 +1,5 @@
 -- What each job makes is what its operation claims, by the laws of operations and of readings.
-use Rattle.std.proofs.Common.{◌≡◌, ℕ, Bool, true, false, cond, List, [], ◌∷◌, length, Option, Some, None, Result, Ok, Err, refl, subst}
+use Rattle.std.proofs.Common.{◌≡◌, ◌⊎◌, ℕ, Bool, true, false, cond, List, [], ◌∷◌, length, Option, Some, None, Result, Ok, Err, refl, sym, ap, ◌∙◌, subst, inl, inr}
 use Rattle.std.specs.Prelude.{IfSome}
 use Rattle.std.specs.List.{All}
 use Rattle.std.specs.Ordering.{eq_by_cmp}
@@ -13,12 +13,12 @@ use Rattle.job_lang.specs.Jobs.{reads_job}
 use Rattle.job_lang.specs.FormedOps.{IsFormedOp}
 use Rattle.reply_lines.specs.Replies.{is_ok_outcome}
 use Rattle.operation_laws.specs.Values.{Value, IsSound}
-use Rattle.operation_laws.specs.Answers.{Product, Answer, refused, failed, lacking, product, shown, shown_product, held, proofs_in}
+use Rattle.operation_laws.specs.Answers.{Product, Answer, refused, failed, lacking, product, shown, held, proofs_in}
 use Rattle.operation_laws.specs.Given.{or_else, base_name, names_in}
 use Rattle.operation_laws.specs.Running.{run}
 use Rattle.operation_laws.specs.Claims.{Claims}
-use Rattle.session_laws.specs.Jobs.{Past, is_too_long}
-use Rattle.session_laws.specs.Answers.{too_long, unread, name_taken, Run, faulty, answered, Lookup, values_for, name_of, is_taken, run_read, run_line, outcome_in, value_in, named_value, held_of}
+use Rattle.session_laws.specs.Jobs.{is_too_long}
+use Rattle.session_laws.specs.Answers.{Past, too_long, unread, name_taken, Came, faulty, answered, Lookup, values_for, name_of, is_taken, run_read, run_line, IsAllowed, outcome_of, value_of, named_value, held_of, AreAllowed}
 use Rattle.session_laws.specs.Claimed.{IsClaimed, AreClaimed, HoldsSound}
 
 -- a line that is answered is read as an operation, which is run
@@ -42,6 +42,17 @@ line_by lookup line a is = by_test (is_too_long line) is
     by_test true h = cc
     by_test false h = read_by lookup (reads_job line).name (reads_job line).op a h
 
+-- what came of a line is a fault, or an answer without a product, or the product that its operation makes
+came_by : (r c : Came) → IsAllowed r c → ((p : Product) → c ≡ answered (product p) → r ≡ answered (product p))
+came_by (faulty f) c is p made = let none : faulty f ≡ answered (product p) = sym is ∙ made in cc
+came_by (answered a) (faulty f) is p made = absurd is
+came_by (answered (refused r)) (answered b) is p made = let at : b ≡ refused r = is in cc
+came_by (answered (failed f)) (answered b) (inl is) p made = let at : b ≡ failed f = is in cc
+came_by (answered (failed f)) (answered b) (inr is) p made = let at : b ≡ lacking = is in cc
+came_by (answered lacking) (answered b) is p made = let at : b ≡ lacking = is in cc
+came_by (answered (product q)) (answered b) (inl is) p made = let at : b ≡ product q = is in ap answered (sym at) ∙ made
+came_by (answered (product q)) (answered b) (inr is) p made = let at : b ≡ lacking = is in cc
+
 -- a name that was known stands for what it stood for, and another for what the job holds
 held_by_some : {P : Type 0} (before after : Option Value) (v : Value) → (before ≡ Some v → P) → (after ≡ Some v → P) → or_else before after ≡ Some v → P
 held_by_some (Some w) after v old new is = old is
@@ -55,15 +66,13 @@ named_is q (Some name) value v is = some_is (eq_by_cmp text_cmp name q) is
     some_is true h = cc
     some_is false h = cc
 
--- what is held is sound, whether memory ran out or not
-value_sound : (lacked : Bool) (r : Run) → ((a : Answer) → r ≡ answered a → IsSound (held a)) → IsSound (value_in lacked r)
-value_sound lacked (faulty f) sound = tt
-value_sound lacked (answered (refused r)) sound = tt
-value_sound lacked (answered lacking) sound = tt
-value_sound true (answered (failed f)) sound = tt
-value_sound false (answered (failed f)) sound = tt
-value_sound true (answered (product p)) sound = tt
-value_sound false (answered (product p)) sound = sound (product p) refl
+-- what is held is sound, where each product is
+value_sound : (c : Came) → ((p : Product) → c ≡ answered (product p) → IsSound (held (product p))) → IsSound (value_of c)
+value_sound (faulty f) sound = tt
+value_sound (answered (refused r)) sound = tt
+value_sound (answered (failed f)) sound = tt
+value_sound (answered lacking) sound = tt
+value_sound (answered (product p)) sound = sound p refl
 
 found_sound : (o : Option Value) → ((v : Value) → o ≡ Some v → IsSound v) → IfSome o IsSound
 found_sound None sound = tt
@@ -84,16 +93,11 @@ module _
     (shows : (a : Answer) → is_ok_outcome (shown a) ≡ true → (made : Product) × (a ≡ product made))
     (formed : (line : List ℕ) (op : Op) → (reads_job line).op ≡ Ok op → IsFormedOp op) where
   -- a reply that is no error shows a product
-  shown_by : (lacked : Bool) (r : Run) → is_ok_outcome (outcome_in lacked r) ≡ true → (p : Product) × (r ≡ answered (product p)) × (outcome_in lacked r ≡ shown_product p)
-  shown_by lacked (faulty too_long) ok = cc
-  shown_by lacked (faulty (unread cause)) ok = cc
-  shown_by lacked (faulty name_taken) ok = cc
-  shown_by lacked (answered (refused r)) ok = let made = shows (refused r) ok in let none = made.1 in cc
-  shown_by lacked (answered lacking) ok = cc
-  shown_by true (answered (failed f)) ok = cc
-  shown_by false (answered (failed f)) ok = let made = shows (failed f) ok in let none = made.1 in cc
-  shown_by true (answered (product p)) ok = cc
-  shown_by false (answered (product p)) ok = (p, refl, refl)
+  shown_by : (c : Came) → is_ok_outcome (outcome_of c) ≡ true → (p : Product) × (c ≡ answered (product p))
+  shown_by (faulty too_long) ok = cc
+  shown_by (faulty (unread cause)) ok = cc
+  shown_by (faulty name_taken) ok = cc
+  shown_by (answered a) ok = let made = shows a ok in (made.0, ap answered made.1)
 
   made_claimed : (lookup : Lookup) (line : List ℕ) (p : Product) → HoldsSound lookup → run_line lookup line ≡ answered (product p) → IsClaimed lookup line p
   made_claimed lookup line p holds is =
@@ -112,22 +116,22 @@ module _
       subst (λ b. IsSound (held b)) by.2 (sound by.0 (values_for lookup by.0) (formed line by.0 by.1) (values_sound lookup by.0 holds))
 
   -- each value that a name stands for is sound
-  pub holds_sound : (earlier : List Past) → HoldsSound (held_of earlier)
-  holds_sound [] q v is = cc
-  holds_sound (job ∷ earlier) q v is =
+  pub holds_sound : (earlier : List Past) → AreAllowed earlier → HoldsSound (held_of earlier)
+  holds_sound [] allowed q v is = cc
+  holds_sound (job ∷ earlier) allowed q v is =
       let r = run_line (held_of earlier) job.line in
-      held_by_some (held_of earlier q) (named_value q (name_of job.line) (value_in job.lacked r)) v (holds_sound earlier q v)
-      (λ named. subst IsSound (named_is q (name_of job.line) (value_in job.lacked r) v named)
-      (value_sound job.lacked r (λ a ran. answer_sound (held_of earlier) job.line a (holds_sound earlier) ran)))
+      held_by_some (held_of earlier q) (named_value q (name_of job.line) (value_of job.came)) v (holds_sound earlier allowed.1 q v)
+      (λ named. subst IsSound (named_is q (name_of job.line) (value_of job.came) v named)
+      (value_sound job.came (λ p made. answer_sound (held_of earlier) job.line (product p) (holds_sound earlier allowed.1) (came_by r job.came allowed.0 p made))))
       is
 
   -- what each job makes is what its operation claims
-  pub all_claimed : (jobs : List Past) → AreClaimed jobs
-  all_claimed [] = tt
-  all_claimed (job ∷ earlier) = (
+  pub all_claimed : (jobs : List Past) → AreAllowed jobs → AreClaimed jobs
+  all_claimed [] allowed = tt
+  all_claimed (job ∷ earlier) allowed = (
     record {
-      made = λ p is. made_claimed (held_of earlier) job.line p (holds_sound earlier) is;
-      shown = λ ok. shown_by job.lacked (run_line (held_of earlier) job.line) ok;
+      made = λ p made. made_claimed (held_of earlier) job.line p (holds_sound earlier allowed.1) (came_by (run_line (held_of earlier) job.line) job.came allowed.0 p made);
+      shown = λ ok. shown_by job.came ok;
     },
-    all_claimed earlier,
+    all_claimed earlier allowed.1,
   )

@@ -1,19 +1,20 @@
--- The bytes of replies tell which jobs lacked memory, where each reply line is one line.
-use Rattle.std.proofs.Common.{◌≡◌, ℕ, ◌<◌, ◌≤◌, Bool, false, List, [], ◌∷◌, ◌++◌, length, take, map, refl, sym, ap, ◌∙◌, subst, arith, length-append}
-use Rattle.std.proofs.lemmas.List.{same_from_push, map_push, take_at, take-append-le}
-use Rattle.std.specs.List.{All}
+-- The bytes of replies tell which jobs lacked memory, and what each job came to, where each reply line is one line.
+use Rattle.std.proofs.Common.{◌≡◌, ◌⊎◌, ℕ, ◌<◌, ◌≤◌, ◌+◌, Bool, true, false, List, [], ◌∷◌, ◌++◌, length, take, map, refl, sym, ap, ◌∙◌, subst, inl, inr, arith, length-append}
+use Rattle.std.proofs.lemmas.List.{same_from_push, map_push, take_at, take-append-le, length_push}
+use Rattle.std.specs.List.{All, slice_split}
 use Rattle.std.proofs.lemmas.List.Elements.{All-take, All-head, All-tail}
+use Rattle.reply_lines.specs.declared.replies.Outcome.{Outcome}
 use Rattle.reply_lines.specs.declared.replies.Reply.{Reply}
 use Rattle.reply_lines.specs.Replies.{line_of}
 use Rattle.reply_lines.specs.OneLine.{IsOneLine, is_want, reports_want}
-use Rattle.edge_io.specs.Lines.{is_newline, OneLine, AreLines}
+use Rattle.edge_io.specs.Lines.{is_newline, OneLine, AreLines, whole_lines}
 use Rattle.edge_io.proofs.LinesLemmas.{lines_nil, lines_more, whole_lines_at}
-use Rattle.operation_laws.specs.Answers.{Answer, shown, with_lack}
+use Rattle.operation_laws.specs.declared.refusals.Failure.{Failure}
+use Rattle.operation_laws.specs.Answers.{Product, Answer, refused, failed, lacking, product, shown, with_lack}
 use Rattle.operation_laws.specs.Answers as answers
-use Rattle.session_laws.specs.Jobs.{Past, in_order}
-use Rattle.session_laws.specs.Answers.{too_long, unread, name_taken, Run, faulty, answered, run_line, held_of, outcome_in, may_lack, IsLawful}
+use Rattle.session_laws.specs.Answers.{Past, Came, faulty, answered, run_line, held_of, May, IsAllowed, outcome_of, lacked, job_of, in_order, AreAllowed}
 use Rattle.session_laws.specs.Replying.{reply_of, reply_line}
-use Rattle.session_laws.specs.Session.{out, flags_of, memory_flags, Replies, IsPartOfNext}
+use Rattle.session_laws.specs.Session.{out, flags_of, memory_flags, Replies, RepliesInPart, IsPartOfNext}
 
 none_of : OneLine []
 none_of = λ k d within. absurd (omega arith)
@@ -27,17 +28,15 @@ part_of_line part more text line is one some same =
     sym (take_at part more (length part) refl) ∙ ap (λ (x : List ℕ). take (length part) x) (same ∙ is) ∙ take-append-le (length part) text (10 ∷ []) within in
     subst OneLine (sym begins) (All-take (λ b. is_newline b ≡ false) (length part) text one)
 
+-- lists that begin the same list and have one length are the same
+same_front : (a b c d : List (List ℕ)) → a ++ c ≡ b ++ d → length a ≡ length b → a ≡ b
+same_front a b c d same sized =
+    sym (take_at a c (length a) refl) ∙ ap (λ (x : List (List ℕ)). take (length a) x) same ∙ take_at b d (length a) (sym sized)
+
 module _
     (one : (reply : Reply) → IsOneLine (line_of reply))
     (tells : (reply : Reply) (text : List ℕ) → line_of reply ≡ text ++ 10 ∷ [] → reports_want text ≡ is_want reply.outcome)
     (want : (lacked : Bool) (a : Answer) → answers.may_lack lacked a → is_want (shown (with_lack lacked a)) ≡ lacked) where
-  -- an outcome is want of memory just where its job lacked it
-  want_by : (lacked : Bool) (r : Run) → may_lack lacked r → is_want (outcome_in lacked r) ≡ lacked
-  want_by lacked (faulty too_long) may = sym may
-  want_by lacked (faulty (unread cause)) may = sym may
-  want_by lacked (faulty name_taken) may = sym may
-  want_by lacked (answered a) may = want lacked a may
-
   -- the texts of the replies, which are their lines
   texts : List Past → List (List ℕ)
   texts [] = []
@@ -54,13 +53,20 @@ module _
       subst (λ (x : List ℕ). AreLines (out earlier ++ x) (texts (job ∷ earlier))) (sym (reply_is earlier job))
       (lines_more (out earlier) (one (reply_of earlier job)).text (texts earlier) (one (reply_of earlier job)).one (texts_are earlier))
 
-  texts_tell : (done : List Past) → IsLawful done → map reports_want (texts done) ≡ flags_of done
+  -- as many as jobs
+  length-texts : (done : List Past) → length (texts done) ≡ length (in_order done)
   unfolding texts
-  texts_tell [] lawful = refl
-  texts_tell (job ∷ earlier) lawful =
+  length-texts [] = refl
+  length-texts (job ∷ earlier) =
+      length_push (texts earlier) (one (reply_of earlier job)).text ∙ ap (λ (n : ℕ). n + 1) (length-texts earlier) ∙ sym (length_push (in_order earlier) job.line)
+
+  texts_tell : (done : List Past) → map reports_want (texts done) ≡ flags_of done
+  unfolding texts
+  texts_tell [] = refl
+  texts_tell (job ∷ earlier) =
       let reply = reply_of earlier job in
       map_push reports_want (texts earlier) (one reply).text
-      ∙ (λ i. texts_tell earlier lawful.1 i ++ (tells reply (one reply).text (one reply).ends ∙ want_by job.lacked (run_line (held_of earlier) job.line) lawful.0) i ∷ [])
+      ∙ (λ i. texts_tell earlier i ++ tells reply (one reply).text (one reply).ends i ∷ [])
 
   part_is : (done : List Past) (waiting : List (List ℕ)) (part : List ℕ) → IsPartOfNext done waiting part → OneLine part
   part_is done [] part none = subst OneLine (sym none) none_of
@@ -69,36 +75,102 @@ module _
       part_of_line part next.more is_one.text (reply_line done next.job) (reply_is done next.job) is_one.one next.goes_on next.bytes
 
   -- the bytes tell which jobs lacked memory, with a part of the next reply or without one
-  pub flags_told : (done : List Past) (waiting : List (List ℕ)) (part : List ℕ) → IsLawful done → IsPartOfNext done waiting part
+  pub flags_told : (done : List Past) (waiting : List (List ℕ)) (part : List ℕ) → IsPartOfNext done waiting part
       → flags_of done ≡ memory_flags (out done ++ part)
-  flags_told done waiting part lawful next =
-      sym (texts_tell done lawful)
+  flags_told done waiting part next =
+      sym (texts_tell done)
       ∙ ap (λ (x : List (List ℕ)). map reports_want x) (sym (whole_lines_at (out done) part (texts done) (texts_are done) (part_is done waiting part next)))
 
--- two lists of jobs with the same lines and flags are the same list
-same_pasts : (a b : List Past) → in_order a ≡ in_order b → flags_of a ≡ flags_of b → a ≡ b
-same_pasts [] [] lines flags = refl
-same_pasts [] (y ∷ b) lines flags = absurd (omega (arith, ap length lines, length-append (in_order b) (y.line ∷ [])))
-same_pasts (x ∷ a) [] lines flags = absurd (omega (arith, ap length lines, length-append (in_order a) (x.line ∷ [])))
-same_pasts (x ∷ a) (y ∷ b) lines flags =
-    let line = same_from_push (in_order a) (in_order b) x.line y.line lines in
-    let flag = same_from_push (flags_of a) (flags_of b) x.lacked y.lacked flags in
-    let rest = same_pasts a b line.0 flag.0 in
-    λ i. record { line = line.1 i; lacked = flag.1 i } ∷ rest i
+  -- no failure and no product is want of memory
+  failed_is : (f : Failure) → is_want (shown (failed f)) ≡ false
+  failed_is f = want false (failed f) tt
 
--- bytes are the replies of one list of jobs
-pub one_list : (lines : List (List ℕ)) (written : List ℕ) (a b : Replies lines written) → a.done ≡ b.done
-one_list lines written a b = same_pasts a.done b.done (a.each ∙ sym b.each) (a.flags ∙ sym b.flags)
+  product_is : (p : Product) → is_want (shown (product p)) ≡ false
+  product_is p = want false (product p) tt
 
--- where no job lacked memory there is no flag to tell
-flags_ample : (done : List Past) → All (λ job. job.lacked ≡ false) done → flags_of done ≡ map (λ _. false) (in_order done)
-flags_ample [] ample = refl
-flags_ample (job ∷ earlier) ample =
-    let unlacked : Past → Type 0 = λ job. job.lacked ≡ false in
-    (λ i. flags_ample earlier (All-tail unlacked job earlier ample) i ++ All-head unlacked job earlier ample i ∷ [])
-    ∙ sym (map_push (λ _. false) (in_order earlier) job.line)
+  wanting_is : is_want (shown lacking) ≡ true
+  wanting_is = want true lacking refl
 
--- so the lines tell which jobs there were
-pub same_ample : (a b : List Past) → in_order a ≡ in_order b → All (λ job. job.lacked ≡ false) a → All (λ job. job.lacked ≡ false) b → a ≡ b
-same_ample a b lines first second =
-    same_pasts a b lines (flags_ample a first ∙ ap (λ (x : List (List ℕ)). map (λ _. false) x) lines ∙ sym (flags_ample b second))
+  -- what an operation came to is told by whether that is want of memory
+  one_answer : (a b c : Answer) → May a b → May a c → is_want (shown b) ≡ is_want (shown c) → b ≡ c
+  one_answer (refused r) b c is as_well same = is ∙ sym as_well
+  one_answer lacking b c is as_well same = is ∙ sym as_well
+  one_answer (failed f) b c (inl is) (inl as_well) same = is ∙ sym as_well
+  one_answer (failed f) b c (inr is) (inr as_well) same = is ∙ sym as_well
+  one_answer (failed f) b c (inl is) (inr as_well) same =
+      let none : false ≡ true = sym (failed_is f) ∙ ap (λ (x : Answer). is_want (shown x)) (sym is) ∙ same ∙ ap (λ (x : Answer). is_want (shown x)) as_well ∙ wanting_is in cc
+  one_answer (failed f) b c (inr is) (inl as_well) same =
+      let none : true ≡ false = sym wanting_is ∙ ap (λ (x : Answer). is_want (shown x)) (sym is) ∙ same ∙ ap (λ (x : Answer). is_want (shown x)) as_well ∙ failed_is f in cc
+  one_answer (product p) b c (inl is) (inl as_well) same = is ∙ sym as_well
+  one_answer (product p) b c (inr is) (inr as_well) same = is ∙ sym as_well
+  one_answer (product p) b c (inl is) (inr as_well) same =
+      let none : false ≡ true = sym (product_is p) ∙ ap (λ (x : Answer). is_want (shown x)) (sym is) ∙ same ∙ ap (λ (x : Answer). is_want (shown x)) as_well ∙ wanting_is in cc
+  one_answer (product p) b c (inr is) (inl as_well) same =
+      let none : true ≡ false = sym wanting_is ∙ ap (λ (x : Answer). is_want (shown x)) (sym is) ∙ same ∙ ap (λ (x : Answer). is_want (shown x)) as_well ∙ product_is p in cc
+
+  one_came : (r c d : Came) → IsAllowed r c → IsAllowed r d → is_want (outcome_of c) ≡ is_want (outcome_of d) → c ≡ d
+  one_came (faulty f) c d is as_well same = is ∙ sym as_well
+  one_came (answered a) (faulty f) d is as_well same = absurd is
+  one_came (answered a) (answered b) (faulty f) is as_well same = absurd as_well
+  one_came (answered a) (answered b) (answered c) is as_well same = ap answered (one_answer a b c is as_well same)
+
+  -- a reply line tells what its job came to
+  pub one_reply : (earlier : List Past) (line : List ℕ) (c d : Came) → IsAllowed (run_line (held_of earlier) line) c → IsAllowed (run_line (held_of earlier) line) d
+      → reply_line earlier (job_of line c) ≡ reply_line earlier (job_of line d) → c ≡ d
+  unfolding reply_line
+  one_reply earlier line c d is as_well same =
+      let first = one (reply_of earlier (job_of line c)) in
+      one_came (run_line (held_of earlier) line) c d is as_well
+      (sym (tells (reply_of earlier (job_of line c)) first.text first.ends) ∙ tells (reply_of earlier (job_of line d)) first.text (sym same ∙ first.ends))
+
+  -- two lists of jobs with the same lines and replies are the same list
+  same_pasts : (a b : List Past) → AreAllowed a → AreAllowed b → in_order a ≡ in_order b → texts a ≡ texts b → a ≡ b
+  unfolding texts
+  same_pasts [] [] first second lines replies = refl
+  same_pasts [] (y ∷ b) first second lines replies = absurd (omega (arith, ap length lines, length-append (in_order b) (y.line ∷ [])))
+  same_pasts (x ∷ a) [] first second lines replies = absurd (omega (arith, ap length lines, length-append (in_order a) (x.line ∷ [])))
+  same_pasts (x ∷ a) (y ∷ b) first second lines replies =
+      let line = same_from_push (in_order a) (in_order b) x.line y.line lines in
+      let reply = same_from_push (texts a) (texts b) (one (reply_of a x)).text (one (reply_of b y)).text replies in
+      let rest = same_pasts a b first.1 second.1 line.0 reply.0 in
+      let as_well : IsAllowed (run_line (held_of a) x.line) y.came =
+      subst (λ (l : List ℕ). IsAllowed (run_line (held_of a) l) y.came) (sym line.1) (subst (λ (ps : List Past). IsAllowed (run_line (held_of ps) y.line) y.came) (sym rest) second.0) in
+      let last : reply_line a (job_of x.line y.came) ≡ reply_line b y =
+      ap (λ (ps : List Past). reply_line ps (job_of x.line y.came)) rest ∙ ap (λ (l : List ℕ). reply_line b (job_of l y.came)) line.1 in
+      let told : reply_line a x ≡ reply_line a (job_of x.line y.came) =
+      reply_is a x ∙ ap (λ (t : List ℕ). t ++ 10 ∷ []) reply.1 ∙ sym (reply_is b y) ∙ sym last in
+      let came = one_reply a x.line x.came y.came first.0 as_well told in
+      λ i. record { line = line.1 i; came = came i } ∷ rest i
+
+  -- two lists of jobs with the same lines, none of which lacked memory, are the same list
+  pub one_ample : (a b : List Past) → AreAllowed a → AreAllowed b → in_order a ≡ in_order b → All (λ job. lacked job ≡ false) a → All (λ job. lacked job ≡ false) b → a ≡ b
+  one_ample [] [] first second lines ample other = refl
+  one_ample [] (y ∷ b) first second lines ample other = absurd (omega (arith, ap length lines, length-append (in_order b) (y.line ∷ [])))
+  one_ample (x ∷ a) [] first second lines ample other = absurd (omega (arith, ap length lines, length-append (in_order a) (x.line ∷ [])))
+  one_ample (x ∷ a) (y ∷ b) first second lines ample other =
+      let has : Past → Type 0 = λ job. lacked job ≡ false in
+      let line = same_from_push (in_order a) (in_order b) x.line y.line lines in
+      let rest = one_ample a b first.1 second.1 line.0 (All-tail has x a ample) (All-tail has y b other) in
+      let as_well : IsAllowed (run_line (held_of a) x.line) y.came =
+      subst (λ (l : List ℕ). IsAllowed (run_line (held_of a) l) y.came) (sym line.1) (subst (λ (ps : List Past). IsAllowed (run_line (held_of ps) y.line) y.came) (sym rest) second.0) in
+      let came = one_came (run_line (held_of a) x.line) x.came y.came first.0 as_well (All-head has x a ample ∙ sym (All-head has y b other)) in
+      λ i. record { line = line.1 i; came = came i } ∷ rest i
+
+  -- bytes are the replies of one list of jobs
+  texts_of : (done : List Past) (part : List ℕ) → OneLine part → whole_lines (out done ++ part) ≡ texts done
+  texts_of done part is = whole_lines_at (out done) part (texts done) (texts_are done) is
+
+  pub one_front : (lines : List (List ℕ)) (written : List ℕ) (a b : RepliesInPart lines written) → a.done ≡ b.done
+  one_front lines written a b =
+      let first = texts_of a.done a.part (part_is a.done a.waiting a.part a.next) in
+      let second = texts_of b.done b.part (part_is b.done b.waiting b.part b.next) in
+      let replies : texts a.done ≡ texts b.done = sym first ∙ ap whole_lines (sym a.bytes ∙ b.bytes) ∙ second in
+      let sized : length (in_order a.done) ≡ length (in_order b.done) = sym (length-texts a.done) ∙ ap length replies ∙ length-texts b.done in
+      same_pasts a.done b.done a.allowed b.allowed (same_front (in_order a.done) (in_order b.done) a.waiting b.waiting (a.each ∙ sym b.each) sized) replies
+
+  pub one_list : (lines : List (List ℕ)) (written : List ℕ) (a b : Replies lines written) → a.done ≡ b.done
+  one_list lines written a b =
+      let first = texts_of a.done [] none_of in
+      let second = texts_of b.done [] none_of in
+      let whole : out a.done ++ [] ≡ out b.done ++ [] = ap (λ (w : List ℕ). w ++ []) (sym a.bytes ∙ b.bytes) in
+      same_pasts a.done b.done a.allowed b.allowed (a.each ∙ sym b.each) (sym first ∙ ap whole_lines whole ∙ second)

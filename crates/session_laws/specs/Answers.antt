@@ -1,10 +1,13 @@
--- What the jobs of a session hold and what is answered to each, as a function of their lines and of which lacked memory.
+-- What the jobs of a session hold and what is answered to each: which answers a line may come to, after jobs that came to these.
 --     JobFault      why a line asks for no operation
+--     Came      what a job came to
 --     values_for      the values that the names in an operation stand for
---     run_line      what a line comes to
+--     run_line      what a line asks for
+--     May, IsAllowed      what an operation may come to, and a line
+--     Past      a job that has been answered
 --     held_of      what the jobs hold, by name
---     outcome_of      what is replied
-use Rattle.std.specs.Prelude.{◌≡◌, ℕ, Bool, false, is_some, map, List, [], ◌∷◌, Option, Some, None, Result, Ok, Err, if◌then◌else◌}
+--     AreAllowed      each job came to what its line may come to
+use Rattle.std.specs.Prelude.{◌≡◌, ◌⊎◌, ℕ, Bool, false, is_some, map, List, [], ◌∷◌, ◌++◌, Option, Some, None, Result, Ok, Err, if◌then◌else◌}
 use Rattle.std.specs.Ordering.{eq_by_cmp}
 use Rattle.fol.specs.Order.{text_cmp}
 use Rattle.job_lang.specs.declared.jobs.Op.{Op}
@@ -12,12 +15,13 @@ use Rattle.job_words.specs.declared.causes.JobCause.{JobCause}
 use Rattle.job_lang.specs.Jobs.{reads_job}
 use Rattle.reply_lines.specs.declared.replies.Outcome.{Outcome}
 use Rattle.reply_lines.specs.declared.replies.Outcome.TheVariants as outcomes
+use Rattle.reply_lines.specs.OneLine.{is_want}
 use Rattle.operation_laws.specs.Values.{Value, refused}
-use Rattle.operation_laws.specs.Answers.{Answer, shown, held, with_lack}
+use Rattle.operation_laws.specs.Answers.{Answer, shown, held}
 use Rattle.operation_laws.specs.Answers as answers
 use Rattle.operation_laws.specs.Given.{or_else, base_name, names_in}
 use Rattle.operation_laws.specs.Running.{run}
-use Rattle.session_laws.specs.Jobs.{Past, is_too_long}
+use Rattle.session_laws.specs.Jobs.{is_too_long}
 
 -- The line is too long, or isn't a job, or an earlier line has the job's name.
 pub data JobFault : Type 0 where
@@ -25,10 +29,10 @@ pub data JobFault : Type 0 where
   unread : JobCause → JobFault
   name_taken : JobFault
 
--- A line comes to a fault, or to what its operation is answered.
-pub data Run : Type 0 where
-  faulty : JobFault → Run
-  answered : Answer → Run
+-- A line has a fault, or an operation is answered.
+pub data Came : Type 0 where
+  faulty : JobFault → Came
+  answered : Answer → Came
 
 -- what the first job with a name holds, where there is one
 abbrev pub Lookup : Type 0
@@ -48,28 +52,59 @@ is_taken lookup None = false
 is_taken lookup (Some name) = is_some (lookup name)
 
 -- a job that is read is run where its name is its own
-abbrev pub run_read : Lookup → Option (List ℕ) → Result Op JobCause → Run
+abbrev pub run_read : Lookup → Option (List ℕ) → Result Op JobCause → Came
 run_read lookup name (Err cause) = faulty (unread cause)
 run_read lookup name (Ok op) = if is_taken lookup name then faulty name_taken else answered (run op (values_for lookup op))
 
--- what a line comes to, after jobs that hold these values
-unfoldable pub run_line : Lookup → List ℕ → Run
+-- what a line comes to with ample memory, after jobs that hold these values
+unfoldable pub run_line : Lookup → List ℕ → Came
 run_line lookup line =
     if is_too_long line then faulty too_long else run_read lookup (reads_job line).name (reads_job line).op
+
+-- What an operation may come to. A refusal needs no memory; a failure and a product may give way to want of it.
+abbrev pub May : Answer → Answer → Type 0
+May (answers.refused r) b = b ≡ answers.refused r
+May (answers.failed f) b = (b ≡ answers.failed f) ⊎ (b ≡ answers.lacking)
+May answers.lacking b = b ≡ answers.lacking
+May (answers.product p) b = (b ≡ answers.product p) ⊎ (b ≡ answers.lacking)
+
+-- what a line may come to
+abbrev pub IsAllowed : Came → Came → Type 0
+IsAllowed (faulty f) c = c ≡ faulty f
+IsAllowed (answered a) (faulty f) = ⊥
+IsAllowed (answered a) (answered b) = May a b
 
 abbrev pub shown_fault : JobFault → Outcome
 shown_fault too_long = outcomes.LineTooLong
 shown_fault (unread cause) = outcomes.Reading cause
 shown_fault name_taken = outcomes.NameTaken
 
--- what is replied to a job, and what it holds, where it is known whether memory ran out
-abbrev pub outcome_in : Bool → Run → Outcome
-outcome_in lacked (faulty f) = shown_fault f
-outcome_in lacked (answered a) = shown (with_lack lacked a)
+-- what is replied to a job that came to this, and what it holds
+abbrev pub outcome_of : Came → Outcome
+outcome_of (faulty f) = shown_fault f
+outcome_of (answered a) = shown a
 
-abbrev pub value_in : Bool → Run → Value
-value_in lacked (faulty f) = refused
-value_in lacked (answered a) = held (with_lack lacked a)
+abbrev pub value_of : Came → Value
+value_of (faulty f) = refused
+value_of (answered a) = held a
+
+-- a job that has been answered: its line, and what it came to
+pub record Past : Type 0 where
+  pub line : List ℕ
+  pub came : Came
+
+-- a line as a job
+abbrev pub job_of : List ℕ → Came → Past
+job_of line came = record { line = line; came = came }
+
+-- whether the reply to a job is want of memory
+abbrev pub lacked : Past → Bool
+lacked job = is_want (outcome_of job.came)
+
+-- the lines of the jobs in the order in which they came: in a list of jobs the newest is first
+abbrev pub in_order : List Past → List (List ℕ)
+in_order [] = []
+in_order (job ∷ earlier) = in_order earlier ++ job.line ∷ []
 
 -- a value, where the name is q
 abbrev pub named_value : List ℕ → Option (List ℕ) → Value → Option Value
@@ -79,18 +114,9 @@ named_value q (Some name) value = if eq_by_cmp text_cmp name q then Some value e
 -- what the first of these jobs with a name holds
 abbrev pub held_of : List Past → Lookup
 held_of [] = λ q. None
-held_of (job ∷ earlier) = λ q. or_else (held_of earlier q)
-    (named_value q (name_of job.line) (value_in job.lacked (run_line (held_of earlier) job.line)))
+held_of (job ∷ earlier) = λ q. or_else (held_of earlier q) (named_value q (name_of job.line) (value_of job.came))
 
--- what is replied to a job that comes after these
-abbrev pub outcome_of : List Past → Past → Outcome
-outcome_of earlier job = outcome_in job.lacked (run_line (held_of earlier) job.line)
-
--- a fault lacks no memory, and an answer only where it may
-abbrev pub may_lack : Bool → Run → Type 0
-may_lack lacked (faulty f) = lacked ≡ false
-may_lack lacked (answered a) = answers.may_lack lacked a
-
-abbrev pub IsLawful : List Past → Type 0
-IsLawful [] = Unit {0}
-IsLawful (job ∷ earlier) = may_lack job.lacked (run_line (held_of earlier) job.line) × IsLawful earlier
+-- each job came to what its line may come to after the jobs before it
+abbrev pub AreAllowed : List Past → Type 0
+AreAllowed [] = Unit {0}
+AreAllowed (job ∷ earlier) = IsAllowed (run_line (held_of earlier) job.line) job.came × AreAllowed earlier

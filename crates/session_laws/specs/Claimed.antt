@@ -8,10 +8,9 @@ use Rattle.job_lang.specs.declared.jobs.Op.{Op}
 use Rattle.job_lang.specs.Jobs.{reads_job}
 use Rattle.reply_lines.specs.Replies.{is_ok_outcome}
 use Rattle.operation_laws.specs.Values.{Value, IsSound}
-use Rattle.operation_laws.specs.Answers.{Product, product, proofs_in, shown_product}
+use Rattle.operation_laws.specs.Answers.{Product, product, proofs_in}
 use Rattle.operation_laws.specs.Claims.{Claims}
-use Rattle.session_laws.specs.Jobs.{Past}
-use Rattle.session_laws.specs.Answers.{Lookup, values_for, answered, run_line, held_of, outcome_of}
+use Rattle.session_laws.specs.Answers.{Past, Lookup, values_for, answered, held_of, outcome_of}
 
 -- the line asks for an operation, the product is what this claims over the values that its names stand for, and each proof in it is valid
 pub record IsClaimed (lookup : Lookup) (line : List ℕ) (made : Product) : Type 0 where
@@ -20,11 +19,10 @@ pub record IsClaimed (lookup : Lookup) (line : List ℕ) (made : Product) : Type
   pub claims : Claims op (values_for lookup op) made
   pub valid : All IsValid (proofs_in made)
 
--- A job after earlier ones: what its line makes is what its operation claims, and a reply that is no error shows just that.
+-- A job after earlier ones: what it made is what its operation claims, and where its reply is no error it made something.
 pub record AnswersClaimed (earlier : List Past) (job : Past) : Type 0 where
-  pub made : (p : Product) → run_line (held_of earlier) job.line ≡ answered (product p) → IsClaimed (held_of earlier) job.line p
-  pub shown : is_ok_outcome (outcome_of earlier job) ≡ true
-      → (p : Product) × (run_line (held_of earlier) job.line ≡ answered (product p)) × (outcome_of earlier job ≡ shown_product p)
+  pub made : (p : Product) → job.came ≡ answered (product p) → IsClaimed (held_of earlier) job.line p
+  pub shown : is_ok_outcome (outcome_of job.came) ≡ true → (p : Product) × (job.came ≡ answered (product p))
 
 -- that of each of these jobs, after those before it
 abbrev pub AreClaimed : List Past → Type 0

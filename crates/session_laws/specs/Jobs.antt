@@ -1,4 +1,4 @@
--- The jobs of a session: which lines are jobs, and what is known of a job that has been answered.
+-- The jobs of a session: which lines are jobs.
 use Rattle.std.specs.Prelude.{◌≡◌, ℕ, ◌==◌, ◌||◌, ◌<◌, ◌^◌, Bool, false, not, nat_lt, List, [], ◌∷◌, ◌++◌, length, filter, Option, Some, None}
 use Rattle.std.specs.List.{list_all}
 
@@ -24,20 +24,6 @@ is_job line = is_too_long line || not (list_all is_blank line)
 
 abbrev pub jobs : List (List ℕ) → List (List ℕ)
 jobs lines = filter is_job lines
-
--- a job that has been answered: its line, and whether its reply was want of memory
-pub record Past : Type 0 where
-  pub line : List ℕ
-  pub lacked : Bool
-
--- a line as a job
-abbrev pub job_of : List ℕ → Bool → Past
-job_of line lacked = record { line = line; lacked = lacked }
-
--- the lines of the jobs in the order in which they came: in a list of jobs the newest is first
-abbrev pub in_order : List Past → List (List ℕ)
-in_order [] = []
-in_order (job ∷ earlier) = in_order earlier ++ job.line ∷ []
 
 -- what a session keeps of a line that it read: its bytes, or of a too long one nothing
 abbrev pub IsKept : Option (List ℕ) → List ℕ → Type 0

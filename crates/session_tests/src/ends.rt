@@ -1,5 +1,5 @@
 //! Sources and sinks that fail in mid-stream.
-use crate::running::{Failing, JOB, NONE, REPLY, run};
+use crate::running::{Failing, NONE, run};
 use std::test::Fail;
 
 const READ_FAULT: &str = "gaptd: read fault\n";
@@ -20,37 +20,43 @@ const REPLIES: &str = r#"{"job":"a","n":1,"ok":{"cuts":0,"left":["p"],"quants":0
 {"job":"c","n":3,"ok":{"cuts":0,"left":["p"],"quants":0,"right":["p"]}}
 "#;
 
-/// The job's line has 98 bytes with its newline, so the 99th read of one byte meets the end of the input.
+/// At each call that fails the replies to the whole lines before it are written; the 295th read meets the end of the input.
 #[test]
 fn a_read_fails_at_each_call(rt: HostRuntime) -> Result<(), Fail> {
-    let input = format!(in rt.alloc(); "{JOB}\n")?;
-    for call in 1..=100u64 {
+    for call in 1..=296u64 {
         let failing = Failing { read: call, ..NONE };
-        let ran = run(&rt, rt.alloc(), &[], input.as_bytes(), 1, failing)?;
-        let reply = if call > 98 { REPLY } else { "" };
-        let (status, note) = if call > 99 { (0, "") } else { (3, READ_FAULT) };
-        assert_eq!(rt; ran.written.as_slice(), reply.as_bytes(), "at read {call}");
+        let ran = run(&rt, rt.alloc(), &[], JOBS.as_bytes(), 1, failing)?;
+        let count = (call.saturating_sub(1) / 98).saturating_mul(72);
+        let (status, note) = if call > 295 { (0, "") } else { (3, READ_FAULT) };
+        assert_eq!(rt; ran.written.len() as u64, count, "at read {call}");
+        assert!(rt;
+            REPLIES.as_bytes().starts_with(&ran.written),
+            "at read {call}"
+        );
         assert_eq!(rt; ran.status, status, "at read {call}");
         assert_eq!(rt; ran.notes.as_slice(), note.as_bytes(), "at read {call}");
     }
     Ok(())
 }
 
-/// The reply has 72 bytes. A flush comes at the empty line behind the job, and one at the end.
+/// The replies have 216 bytes. The call behind them is a flush.
 #[test]
 fn a_write_fails_at_each_call(rt: HostRuntime) -> Result<(), Fail> {
-    let input = format!(in rt.alloc(); "{JOB}\n\n")?;
-    for call in 1..=75u64 {
+    for call in 1..=218u64 {
         let failing = Failing {
             write: call,
             ..NONE
         };
-        let ran = run(&rt, rt.alloc(), &[], input.as_bytes(), 1, failing)?;
-        let count = call.saturating_sub(1).min(72);
-        let (status, note) = if call > 74 { (0, "") } else { (4, WRITE_FAULT) };
+        let ran = run(&rt, rt.alloc(), &[], JOBS.as_bytes(), 1, failing)?;
+        let count = call.saturating_sub(1).min(216);
+        let (status, note) = if call > 217 {
+            (0, "")
+        } else {
+            (4, WRITE_FAULT)
+        };
         assert_eq!(rt; ran.written.len() as u64, count, "at write {call}");
         assert!(rt;
-            REPLY.as_bytes().starts_with(&ran.written),
+            REPLIES.as_bytes().starts_with(&ran.written),
             "at write {call}"
         );
         assert_eq!(rt; ran.status, status, "at write {call}");
@@ -101,15 +107,14 @@ fn a_full_window_is_flushed(rt: HostRuntime) -> Result<(), Fail> {
     Ok(())
 }
 
-/// All jobs before a read fault are answered, also where the last line is cut off; where the flush behind it fails too, the status is that
-/// of a write fault. A reply goes out in two calls of 50 bytes, and the third reply only in part.
+/// Where a write or the flush behind a read fault fails too, the status is that of a write fault. A reply goes out in two calls of 50
+/// bytes, and the second or the third one only in part.
 #[test]
 fn a_session_is_cut_off(rt: HostRuntime) -> Result<(), Fail> {
     let cases = [
-        (1, 295, 0, 216, 3, READ_FAULT),
-        (1, 250, 0, 144, 3, READ_FAULT),
         (1, 295, 1, 0, 4, WRITE_FAULT),
         (1, 295, 217, 216, 4, WRITE_FAULT),
+        (50, 0, 4, 122, 4, WRITE_FAULT),
         (50, 0, 6, 194, 4, WRITE_FAULT),
     ];
     for (piece, read, write, count, status, note) in cases {

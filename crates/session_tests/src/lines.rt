@@ -68,6 +68,19 @@ fn lines_are_cut_off_or_nested(rt: HostRuntime) -> Result<(), Fail> {
     Ok(())
 }
 
+/// A job without its newline that is cut off is no JSON, wherever that is; with no byte it is no job.
+#[test]
+fn an_only_line_is_cut_off(rt: HostRuntime) -> Result<(), Fail> {
+    let alloc = rt.alloc();
+    expect(&rt, alloc, b"", 1, 0, "")?;
+    for end in 1..JOB.len() {
+        let reply = r#"{"error":{"kind":"json"},"job":null,"n":1}
+"#;
+        expect(&rt, alloc, &JOB.as_bytes()[..end], 1000, 1, reply)?;
+    }
+    Ok(())
+}
+
 /// A line of more than 16 MiB is a job even where it holds blanks alone, and the session goes on after it.
 #[test]
 fn a_line_is_too_long(rt: HostRuntime) -> Result<(), Fail> {

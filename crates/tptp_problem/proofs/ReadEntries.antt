@@ -11,7 +11,8 @@ use Rattle.tptp_tokens.specs.Formed.{IsFormedScan, AreFormedTokens}
 use Rattle.tptp_tokens.proofs.FormedTokens.{scanned_formed}
 use Rattle.tptp_read.specs.declared.state.Limits.{Limits}
 use Rattle.tptp_read.proofs.Formed.{formula_formed}
-use Rattle.refutations.specs.Clauses.{is_atom, is_clause}
+use Rattle.proof_trees.specs.FormulaSets.{is_atom}
+use Rattle.refutations.specs.Clauses.{is_clause}
 use Rattle.tptp_problem.specs.declared.problems.Language.{Language}
 use Rattle.tptp_problem.specs.declared.problems.Language.TheVariants.{Fof, Cnf}
 use Rattle.tptp_problem.specs.declared.problems.Role.{Role}

@@ -5,7 +5,7 @@ use Rattle.std.proofs.lemmas.List.{length-map}
 use Rattle.lk_rules.specs.Rules.{IsWithin}
 use Rattle.proof_trees.specs.Trees.{Tree, Trees, node, none, more, concl, second_end}
 use Rattle.proof_trees.proofs.Shapes.{few_premises}
-use Rattle.proof_graph.specs.Shown.{nodes_all}
+use Rattle.proof_trees.specs.TreeLists.{nodes_all}
 use Rattle.proof_graph.specs.References.{Reference, trees_of}
 use Rattle.arena_cells.specs.Items.{tree}
 use Rattle.arena_cells.specs.Standing.{HasTree, sequent_at}

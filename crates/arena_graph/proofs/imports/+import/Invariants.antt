@@ -1,6 +1,6 @@
 -- The trees get smaller.
 use Rattle.std.proofs.Common.{◌+◌, ◌*◌}
-use Rattle.proof_graph.specs.Shown.{nodes, nodes_all}
+use Rattle.proof_trees.specs.TreeLists.{nodes, nodes_all}
 use Rattle.proof_graph.specs.References.{trees_of}
 use Rattle.arena_graph.proofs.imports.+import.Given as goal
 

@@ -6,7 +6,8 @@ use Rattle.proof_trees.specs.Trees.{concl}
 use Rattle.expansion_laws.specs.Proofs.{IsExpansionProof}
 use Rattle.exp_tree.specs.declared.sequents.ExpSequent.{ExpSequent}
 use Rattle.exp_tree.specs.Reads.{expansion_of}
-use Rattle.cut_intro.specs.Instancing.{first_not_prenex, ArePrenex, AreInstancesFor}
+use Rattle.introduction_laws.specs.Instancing.{first_not_prenex}
+use Rattle.cut_intro.specs.Instancing.{ArePrenex, AreInstancesFor}
 use Rattle.cut_intro.proofs.InstancingOrder.{none_left, prenex_trees}
 use Rattle.cut_intro.proofs.Instanced.{instances_for}
 use Rattle.cut_intro.proofs.instancing.herbrand.Goals as goal

@@ -2,7 +2,7 @@
 use Rattle.std.proofs.Common.{Option, None, Err, sym, ap, subst, ◌∙◌, arith}
 use Rattle.std.proofs.lemmas.Result.{err_from_is_err_and}
 use Rattle.proof_trees.specs.Trees.{concl, quants}
-use Rattle.cut_intro.specs.declared.fault.IntroFault.TheVariants.{TooMany}
+use Rattle.introduction_laws.specs.declared.fault.IntroFault.TheVariants.{TooMany}
 use Rattle.delta_table.specs.declared.candidates.Candidate.{Candidate}
 use Rattle.cut_intro.specs.Introducing.{ChoosesBelow}
 use Rattle.cut_intro.proofs.IntroductionOrder.{too_many, none_below, made_shorter, made_fault}

@@ -2,7 +2,7 @@
 use Rattle.std.proofs.Common.{sym, subst}
 use Rattle.fol.specs.Syntax.{Formula}
 use Rattle.fol.specs.Formed.{IsFormed}
-use Rattle.proof_steps.proofs.Found.{found_formed}
+use Rattle.step_laws.proofs.Found.{found_formed}
 use Rattle.cut_intro.proofs.prenex.first_not_prenex.Goals as goal
 
 pub returns-in-Some-clause-formed : goal.returns-in-Some-clause-formed

@@ -1,6 +1,6 @@
 -- The tuples so far are counted.
 use Rattle.std.proofs.Common.{◌≡◌, ◌-◌, ◌^◌, min, take}
-use Rattle.delta_table.specs.Items.{counted}
+use Rattle.herbrand_laws.specs.Counted.{counted}
 use Rattle.delta_table.proofs.instances.count.Given as goal
 
 abbrev pub invariant-loop-item : goal.invariant-loop-item

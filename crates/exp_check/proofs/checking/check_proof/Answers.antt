@@ -5,8 +5,9 @@ use Rattle.std.proofs.lemmas.List.Sums.{AllPass-from_list_all}
 use Rattle.lk_rules.specs.declared.sequent.Side.TheVariants.{Left, Right}
 use Rattle.expansion_laws.specs.Proofs.{stands}
 use Rattle.exp_tree.specs.Reads.{expansion_of}
-use Rattle.exp_check.specs.Checking.{searched, checking, Checks}
-use Rattle.exp_check.proofs.CheckLaws.{short}
+use Rattle.expansion_laws.specs.Checking.{searched, checking}
+use Rattle.exp_check.specs.Checking.{Checks}
+use Rattle.exp_check.proofs.ShortAnswers.{short}
 use Rattle.exp_check.proofs.checking.check_proof.Goals as goal
 
 pub returns-in_err-check_vars-clause-exact : goal.returns-in_err-check_vars-clause-exact

@@ -2,8 +2,8 @@
 use Rattle.std.proofs.Common.{sym, subst, ◌∙◌}
 use Rattle.expansion_laws.specs.Dependency.{strongs_of}
 use Rattle.exp_tree.specs.Reads.{expansion_of}
-use Rattle.exp_check.specs.Eigenvariables.{is_repeated, is_free_eigenvariable, IsLeast}
-use Rattle.exp_check.proofs.CheckLaws.{twice, free, cyclic, faultless}
+use Rattle.expansion_laws.specs.Eigenvariables.{is_repeated, is_free_eigenvariable, IsLeast}
+use Rattle.expansion_laws.proofs.CheckLaws.{twice, free, cyclic, faultless}
 use Rattle.exp_check.proofs.checking.check_vars.Goals as goal
 
 pub returns-in-Some-clause-err : goal.returns-in-Some-clause-err

@@ -4,7 +4,7 @@ use Rattle.std.specs.List.{All, range_with_len}
 use Rattle.std.specs.Option.{option_map}
 use Rattle.finite.specs.Finite as set
 use Rattle.exp_tree.specs.Reads.{expansion_of}
-use Rattle.exp_check.specs.Cycles.{variables, first_cycle}
+use Rattle.expansion_laws.specs.Cycles.{variables, first_cycle}
 use Rattle.exp_check.specs.Links.{has_link, AreLinks}
 use Rattle.exp_check.proofs.ShownLaws.{numbers_within, none_shown, some_shown}
 use Rattle.exp_check.proofs.checking.cycle.Goals as goal

@@ -1,7 +1,7 @@
 use Rattle.std.proofs.Common.{◌≡◌, ◌<◌, ◌≤◌, ◌-◌, ◌++◌, ◌∷◌, length, get_or}
 use Rattle.std.specs.List.{range_with_len}
 use Rattle.exp_check.specs.Links.{has_link}
-use Rattle.exp_check.specs.Cycles.{way}
+use Rattle.expansion_laws.specs.Cycles.{way}
 use Rattle.exp_check.proofs.cycles.cycle_along.Given as goal
 
 abbrev pub decreases-loop-distance : goal.decreases-loop-distance

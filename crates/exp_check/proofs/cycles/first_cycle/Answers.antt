@@ -4,7 +4,7 @@ use Rattle.std.specs.Prelude.{is_some}
 use Rattle.std.specs.Option.{option_map}
 use Rattle.std.specs.List.{range_with_len}
 use Rattle.std.proofs.lemmas.List.{get_or_read}
-use Rattle.exp_check.specs.Cycles.{fewest}
+use Rattle.expansion_laws.specs.Cycles.{fewest}
 use Rattle.exp_check.specs.Links.{has_link}
 use Rattle.exp_check.proofs.WayLaws.{none_fewest, none_from, first_from, none_first, is_some_map}
 use Rattle.exp_check.proofs.cycles.first_cycle.Goals as goal

@@ -1,11 +1,11 @@
 -- What the sorted list shows is so of the list.
-use Rattle.std.proofs.Common.{◌≡◌, sym, ap, ◌∙◌}
+use Rattle.std.proofs.Common.{◌≡◌, sym, ap, ◌∙◌, subst}
 use Rattle.std.specs.Prelude.{Some, None, option_copied}
-use Rattle.exp_check.specs.Eigenvariables.{first_pair, is_repeated, IsLeast}
+use Rattle.exp_check.specs.Eigenvariables.{first_pair}
+use Rattle.expansion_laws.specs.Eigenvariables.{is_repeated, IsLeast}
 use Rattle.expansion_laws.specs.Dependency.{strongs_of}
 use Rattle.exp_tree.specs.Reads.{expansion_of}
-use Rattle.std.proofs.Common.{subst}
-use Rattle.exp_check.proofs.Conditions.{distinct_by}
+use Rattle.expansion_laws.proofs.Conditions.{distinct_by}
 use Rattle.exp_check.proofs.Repeats.{twice_found}
 use Rattle.exp_check.proofs.eigenvariables.eigen_twice.Goals as goal
 

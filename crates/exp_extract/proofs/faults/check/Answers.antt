@@ -1,6 +1,6 @@
 -- A cut comes first.
 use Rattle.std.proofs.Common.{sym, ◌∙◌}
-use Rattle.exp_extract.proofs.Order.{at_cut}
+use Rattle.extraction_laws.proofs.ExtractionOrder.{at_cut}
 use Rattle.exp_extract.proofs.faults.check.Goals as goal
 
 pub returns-in-Some-clause-err : goal.returns-in-Some-clause-err

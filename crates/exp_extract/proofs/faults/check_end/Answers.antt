@@ -2,8 +2,8 @@
 use Rattle.std.proofs.Common.{◌≡◌, None, sym, ap, ◌∙◌}
 use Rattle.proof_trees.specs.Trees.{concl}
 use Rattle.proof_graph.specs.declared.node.Node.{Node}
-use Rattle.proof_steps.specs.Faults.{first_defined}
-use Rattle.exp_extract.proofs.Order.{at_definition, at_budget, within}
+use Rattle.step_laws.specs.Faults.{first_defined}
+use Rattle.extraction_laws.proofs.ExtractionOrder.{at_definition, at_budget, within}
 use Rattle.exp_extract.proofs.faults.check_end.Goals as goal
 
 pub returns-in-Some-clause-err : goal.returns-in-Some-clause-err

@@ -1,7 +1,7 @@
 -- The trees so far are read.
 use Rattle.std.proofs.Common.{◌≡◌, true, map, take}
 use Rattle.std.specs.List.{list_all}
-use Rattle.exp_tree.specs.Sizes.{is_formed_exp}
+use Rattle.expansion_laws.specs.Formed.{is_formed_exp}
 use Rattle.exp_extract.specs.Marked.{address_at}
 use Rattle.exp_extract.specs.Reading.{tree_of}
 use Rattle.exp_extract.proofs.reading.read_side.Given as goal

@@ -1,7 +1,7 @@
 -- The trees get smaller, and the variables of those so far are there.
 use Rattle.std.proofs.Common.{◌≡◌, ◌+◌, ◌*◌, take}
 use Rattle.finite.specs.Finite as set
-use Rattle.proof_graph.specs.Shown.{nodes, nodes_all}
+use Rattle.proof_trees.specs.TreeLists.{nodes, nodes_all}
 use Rattle.proof_graph.specs.References.{trees_of}
 use Rattle.extraction_laws.specs.Extraction.{var_list_trees}
 use Rattle.exp_extract.specs.Gathering.{IsGathering}

@@ -1,6 +1,6 @@
 -- The trees get smaller.
 use Rattle.std.proofs.Common.{◌+◌, ◌*◌}
-use Rattle.proof_graph.specs.Shown.{nodes}
+use Rattle.proof_trees.specs.TreeLists.{nodes}
 use Rattle.exp_extract.proofs.walking.+walk.Given as goal
 
 abbrev pub decreases-visit : goal.decreases-visit

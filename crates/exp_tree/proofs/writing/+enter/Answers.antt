@@ -1,7 +1,7 @@
 -- The nodes of trees over those below them.
 use Rattle.std.proofs.Common.{◌≡◌, sym, ap, ◌∙◌, subst, arith}
 use Rattle.expansion_laws.specs.Expansions.{weak, strong}
-use Rattle.exp_tree.specs.Sizes.{IsProper}
+use Rattle.expansion_laws.specs.Formed.{IsProper}
 use Rattle.exp_tree.specs.Shown.{exp_of, insts_of}
 use Rattle.exp_tree.specs.Tables.{IsNodeOf}
 use Rattle.exp_tree.specs.declared.flat.ExpNode.TheVariants.{And, Or, Imp, Weak, Strong}

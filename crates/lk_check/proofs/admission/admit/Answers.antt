@@ -1,7 +1,8 @@
 -- There is a last step.
 use Rattle.std.proofs.Common.{◌≡◌, ℕ, ◌==◌, true, length, sym, ap, ◌∙◌, arith}
-use Rattle.lk_check.proofs.Growing.{as_many_proofs, last_tree, tree_end}
-use Rattle.lk_check.proofs.Admitted.{admitted, no_steps, refused, some_tree, no_element, some_element, no_fault_found}
+use Rattle.lk_check.proofs.Growing.{as_many_proofs, last_tree}
+use Rattle.step_laws.proofs.StepEnds.{tree_end}
+use Rattle.step_laws.proofs.Admitted.{admitted, no_steps, refused, some_tree, no_element, some_element, no_fault_found}
 use Rattle.lk_check.proofs.admission.admit.Goals as goal
 
 pub unreachable-requires : goal.unreachable-requires

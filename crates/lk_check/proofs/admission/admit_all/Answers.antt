@@ -4,10 +4,12 @@ use Rattle.std.proofs.lemmas.List.Elements.{All-push}
 use Rattle.lk_rules.specs.declared.rule.Step.{Step}
 use Rattle.lk_rules.specs.Rules.{IsFormedRule}
 use Rattle.proof_graph.specs.Graphs.{IsOf}
-use Rattle.lk_check.specs.StepTrees.{tree_over}
+use Rattle.step_laws.specs.StepTrees.{tree_over}
 use Rattle.turn_log.proofs.Prefixes.{prefix_trans}
-use Rattle.lk_check.proofs.Picks.{tree_of, right_inference}
-use Rattle.lk_check.proofs.Growing.{read_there, trees_next, ends_next}
+use Rattle.lk_check.proofs.Picks.{tree_of}
+use Rattle.step_laws.proofs.Picked.{right_inference}
+use Rattle.step_laws.proofs.StepEnds.{read_there}
+use Rattle.lk_check.proofs.Growing.{trees_next, ends_next}
 use Rattle.lk_check.proofs.admission.admit_all.Goals as goal
 
 pub admit_step-requires-clause-inference : goal.admit_step-requires-clause-inference

@@ -3,9 +3,9 @@ use Rattle.std.proofs.Common.{◌≡◌, map, take, drop}
 use Rattle.std.specs.List.{All}
 use Rattle.proof_trees.specs.Trees.{concl}
 use Rattle.proof_graph.specs.Graphs.{IsOf, Extends}
-use Rattle.lk_check.specs.StepTrees.{trees_after, trees_of_steps}
+use Rattle.step_laws.specs.StepTrees.{trees_after, trees_of_steps}
 use Rattle.lk_check.proofs.Picks.{tree_of}
-use Rattle.lk_check.proofs.Growing.{end_of}
+use Rattle.step_laws.proofs.StepEnds.{end_of}
 use Rattle.lk_check.proofs.admission.admit_all.Given as goal
 
 abbrev pub invariant-loop-step : goal.invariant-loop-step

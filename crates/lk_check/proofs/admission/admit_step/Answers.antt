@@ -3,7 +3,8 @@ use Rattle.std.proofs.Common.{◌≡◌, ◌∙◌}
 use Rattle.std.specs.Prelude.{slice_get}
 use Rattle.std.specs.List.{filter_map}
 use Rattle.proof_graph.specs.Graphs.{IsOf}
-use Rattle.lk_check.proofs.Picks.{all_picked, tree_picked, inference_picked}
+use Rattle.step_laws.proofs.Picked.{all_picked}
+use Rattle.lk_check.proofs.Picks.{tree_picked, inference_picked}
 use Rattle.lk_check.proofs.admission.admit_step.Goals as goal
 
 pub intern-requires-clause-premises_of : goal.intern-requires-clause-premises_of

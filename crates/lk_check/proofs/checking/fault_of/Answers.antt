@@ -1,5 +1,5 @@
 use Rattle.std.proofs.Common.{refl, sym, ◌∙◌}
-use Rattle.lk_check.proofs.Checks.{there}
+use Rattle.step_laws.proofs.Checks.{there}
 use Rattle.lk_check.proofs.checking.fault_of.Goals as goal
 
 pub check-requires-clause-first_there : goal.check-requires-clause-first_there

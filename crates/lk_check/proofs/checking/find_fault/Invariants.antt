@@ -1,5 +1,5 @@
 use Rattle.std.proofs.Common.{◌≡◌, drop}
-use Rattle.lk_check.specs.Checking.{fault_from}
+use Rattle.step_laws.specs.Checking.{fault_from}
 use Rattle.lk_check.proofs.checking.find_fault.Given as goal
 
 abbrev pub invariant-loop-place : goal.invariant-loop-place

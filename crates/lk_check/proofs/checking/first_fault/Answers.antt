@@ -1,4 +1,4 @@
-use Rattle.lk_check.proofs.RightSteps.{proof_by_value, first_by_value}
+use Rattle.step_laws.proofs.RightSteps.{proof_by_value, first_by_value}
 use Rattle.lk_check.proofs.checking.first_fault.Goals as goal
 
 pub returns-clause-proof : goal.returns-clause-proof

@@ -5,11 +5,11 @@ use Rattle.lk_rules.specs.Sequents.{union_sequent}
 use Rattle.lk_rules.specs.declared.sequent.Sequent.{Sequent}
 use Rattle.proof_graph.specs.declared.node.Node.{Node}
 use Rattle.proof_trees.specs.Trees.{concl}
-use Rattle.proof_steps.specs.Places.{steps_of, is_cut_step}
-use Rattle.proof_steps.specs.Faults.{first_defined}
-use Rattle.lk_interp.specs.Interpolating.{first_difference}
+use Rattle.step_laws.specs.Places.{steps_of, is_cut_step}
+use Rattle.step_laws.specs.Faults.{first_defined}
+use Rattle.interp_laws.specs.Interpolating.{first_difference}
 use Rattle.lk_interp.proofs.Found.{none_left}
-use Rattle.lk_interp.proofs.Order.{at_cut, at_definition, at_difference, at_budget, within}
+use Rattle.interp_laws.proofs.InterpolationOrder.{at_cut, at_definition, at_difference, at_budget, within}
 use Rattle.lk_interp.proofs.faults.check.Goals as goal
 
 pub returns-in-Some-clause-err : goal.returns-in-Some-clause-err

@@ -1,7 +1,7 @@
 -- The laws of instances, for the sequent that is shown.
 use Rattle.std.proofs.Common.{ap}
 use Rattle.herbrand_laws.specs.Herbrand.{herbrand_sequent}
-use Rattle.delta_table.specs.Items.{counted}
+use Rattle.herbrand_laws.specs.Counted.{counted}
 use Rattle.operation_laws.specs.Answers.{capped}
 use Rattle.operation_laws.proofs.laws.herbrand_sequents.Goals as goal
 

@@ -6,8 +6,8 @@ use Rattle.proof_graph.specs.declared.graph.Graph.{Graph}
 use Rattle.proof_subst.specs.Benches.{graph_of}
 use Rattle.cut_elim.specs.Desks.{bench_of, HasElimination}
 use Rattle.job_lang.specs.declared.jobs.Op.{Op}
-use Rattle.operations.specs.declared.held.Held.{Held}
-use Rattle.operations.specs.Means.{Fits}
+use Rattle.held_values.specs.declared.held.Held.{Held}
+use Rattle.held_values.specs.Means.{Fits}
 use Rattle.operations.specs.Noted.{proof_in, IsNoted}
 use Rattle.operations.proofs.Noted.{noted_in_graph, noted_at_bench}
 use Rattle.operations.proofs.answering.run_given.Goals as goal

@@ -2,8 +2,8 @@
 use Rattle.std.proofs.Common.{Option, sym, ap, ◌∙◌, subst}
 use Rattle.proof_trees.specs.Trees.{Tree}
 use Rattle.operation_laws.specs.Given.{or_kind, proof_given}
-use Rattle.operations.specs.declared.held.Held.{Held}
-use Rattle.operations.specs.Means.{sense, Fits}
+use Rattle.held_values.specs.declared.held.Held.{Held}
+use Rattle.held_values.specs.Means.{sense, Fits}
 use Rattle.operations.specs.Noted.{proof_in}
 use Rattle.operations.proofs.given.proof_given.Goals as goal
 

@@ -3,8 +3,8 @@ use Rattle.std.proofs.Common.{Option, sym, ap, ◌∙◌, subst}
 use Rattle.std.specs.Prelude.{option_map}
 use Rattle.proof_trees.specs.Trees.{Tree}
 use Rattle.operation_laws.specs.Given.{or_kind, of_proof, shown_given}
-use Rattle.operations.specs.declared.held.Held.{Held}
-use Rattle.operations.specs.Means.{sense, Fits}
+use Rattle.held_values.specs.declared.held.Held.{Held}
+use Rattle.held_values.specs.Means.{sense, Fits}
 use Rattle.operations.proofs.given.shown_given.Goals as goal
 
 pub returns-in-Some-clause-fits : goal.returns-in-Some-clause-fits

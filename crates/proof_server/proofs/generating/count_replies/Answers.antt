@@ -22,5 +22,5 @@ returns-in-Ok-run-clause-counts g c =
     let last : c.loop-i.i ≡ c.args.n = omega arith in
     let so_far : IsCounting c.args.n c.loop-i.session = subst (λ (i : ℕ). IsCounting i c.loop-i.session) last c.loop-i.invariant in
     let ran = c.in-Ok-run.ensures in
-    all_counted c.held_proofs.ensures.claimed c.replies.ensures.told c.args.n c.loop-i.session c.run.new.self so_far _ _
+    all_counted c.held_proofs.ensures.claimed c.args.n c.loop-i.session c.run.new.self so_far _ _
     (ran.goes so_far.asked so_far.written so_far.at) ran.empty c.if-not-session.true

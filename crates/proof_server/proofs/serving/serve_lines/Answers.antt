@@ -27,7 +27,7 @@ returns-in-Err g c =
     let handed = c.in-Line.ensures.answer in
     let kept = kept_line _ _ handed.line c.as_slice.ensures.value handed.told in
     record {
-      ends = stop_ends c.held_proofs.ensures.claimed c.replies.ensures.told _ _ _ _ c.take.new.self c.in-Err.stop c.ended_by.result midway handed c.ended_by.ensures
+      ends = stop_ends c.held_proofs.ensures.claimed _ _ _ _ c.take.new.self c.in-Err.stop c.ended_by.result midway handed c.ended_by.ensures
           (c.in-Err.ensures.takes (jobs midway.lines) midway.written handed.line midway.at kept);
       pass = c.take.ensures.pass;
     }
@@ -37,7 +37,7 @@ returns-in-Err-take g c =
     let midway = c.lines.invariant in
     let handed = c.in-TooLong.ensures.answer in
     record {
-      ends = stop_ends c.held_proofs.ensures.claimed c.replies.ensures.told _ _ _ _ c.take-in-TooLong.new.self c.in-Err-take.stop c.ended_by-in-Err-take.result midway handed
+      ends = stop_ends c.held_proofs.ensures.claimed _ _ _ _ c.take-in-TooLong.new.self c.in-Err-take.stop c.ended_by-in-Err-take.result midway handed
           c.ended_by-in-Err-take.ensures (c.in-Err-take.ensures.takes (jobs midway.lines) midway.written handed.line midway.at handed.told);
       pass = c.take-in-TooLong.ensures.pass;
     }
@@ -46,12 +46,12 @@ pub returns-in-Ok-run-clause-ends : goal.returns-in-Ok-run-clause-ends
 returns-in-Ok-run-clause-ends g c =
     let midway = c.lines.invariant in
     let ran = c.in-Ok-run.ensures in
-    done_all c.held_proofs.ensures.claimed c.replies.ensures.told c.run.new.self midway (ran.goes (jobs midway.lines) midway.written midway.at) ran.empty ran.flushed c.in-End.ensures.answer.0
+    done_all c.held_proofs.ensures.claimed c.run.new.self midway (ran.goes (jobs midway.lines) midway.written midway.at) ran.empty ran.flushed c.in-End.ensures.answer.0
 
 pub returns-in-Err-run-clause-ends : goal.returns-in-Err-run-clause-ends
 returns-in-Err-run-clause-ends g c =
     let midway = c.lines.invariant in
-    stop_at_last c.held_proofs.ensures.claimed c.replies.ensures.told _ _ _ _ c.run.new.self c.in-Err-run.stop c.ended_by-in-Err-run.result midway
+    stop_at_last c.held_proofs.ensures.claimed _ _ _ _ c.run.new.self c.in-Err-run.stop c.ended_by-in-Err-run.result midway
     c.ended_by-in-Err-run.ensures (c.in-Err-run.ensures.goes (jobs midway.lines) midway.written midway.at) c.in-End.ensures.answer.0
 
 pub returns-in-Ok-run-2-clause-ends : goal.returns-in-Ok-run-2-clause-ends
@@ -59,13 +59,13 @@ returns-in-Ok-run-2-clause-ends g c =
     let midway = c.lines.invariant in
     let fault = c.in-ReadFault.ensures.answer in
     let ran = c.in-Ok-run-2.ensures in
-    (Rose-since _ _ _ midway.reads fault.0, cut_off c.held_proofs.ensures.claimed c.replies.ensures.told c.run-in-ReadFault.new.self midway (ran.goes (jobs midway.lines) midway.written midway.at) ran.empty ran.flushed fault.1 fault.2)
+    (Rose-since _ _ _ midway.reads fault.0, cut_off c.held_proofs.ensures.claimed c.run-in-ReadFault.new.self midway (ran.goes (jobs midway.lines) midway.written midway.at) ran.empty ran.flushed fault.1 fault.2)
 
 pub returns-in-Err-run-2-clause-ends : goal.returns-in-Err-run-2-clause-ends
 returns-in-Err-run-2-clause-ends g c =
     let midway = c.lines.invariant in
     let fault = c.in-ReadFault.ensures.answer in
-    stop_at_fault c.held_proofs.ensures.claimed c.replies.ensures.told _ _ _ _ _ c.run-in-ReadFault.new.self c.in-Err-run-2.stop c.ended_by-in-Err-run-2.result midway
+    stop_at_fault c.held_proofs.ensures.claimed _ _ _ _ _ c.run-in-ReadFault.new.self c.in-Err-run-2.stop c.ended_by-in-Err-run-2.result midway
     c.ended_by-in-Err-run-2.ensures (c.in-Err-run-2.ensures.goes (jobs midway.lines) midway.written midway.at) fault.1 fault.2
 
 pub returns-in-Ok-run-3-clause-ends : goal.returns-in-Ok-run-3-clause-ends
@@ -73,19 +73,19 @@ returns-in-Ok-run-3-clause-ends g c =
     let midway = c.lines.invariant in
     let over = c.in-InputFull.ensures.answer in
     let ran = c.in-Ok-run-3.ensures in
-    full c.held_proofs.ensures.claimed c.replies.ensures.told c.run-in-InputFull.new.self midway (ran.goes (jobs midway.lines) midway.written midway.at) ran.empty ran.flushed over.0 over.1
+    full c.held_proofs.ensures.claimed c.run-in-InputFull.new.self midway (ran.goes (jobs midway.lines) midway.written midway.at) ran.empty ran.flushed over.0 over.1
 
 pub returns-in-Err-run-3-clause-ends : goal.returns-in-Err-run-3-clause-ends
 returns-in-Err-run-3-clause-ends g c =
     let midway = c.lines.invariant in
     let over = c.in-InputFull.ensures.answer in
-    stop_at_full c.held_proofs.ensures.claimed c.replies.ensures.told _ _ _ _ _ c.run-in-InputFull.new.self c.in-Err-run-3.stop c.ended_by-in-Err-run-3.result midway
+    stop_at_full c.held_proofs.ensures.claimed _ _ _ _ _ c.run-in-InputFull.new.self c.in-Err-run-3.stop c.ended_by-in-Err-run-3.result midway
     c.ended_by-in-Err-run-3.ensures (c.in-Err-run-3.ensures.goes (jobs midway.lines) midway.written midway.at) over.0 over.1
 
 pub returns-in-Memory : goal.returns-in-Memory
 returns-in-Memory g c =
     let lacks = c.in-Memory.ensures.answer in
     record {
-      ends = lacking_ends c.held_proofs.ensures.claimed c.replies.ensures.told c.lines.invariant lacks.0 lacks.1.taken lacks.1.from (few_lacking lacks.1);
+      ends = lacking_ends c.held_proofs.ensures.claimed c.lines.invariant lacks.0 lacks.1.taken lacks.1.from (few_lacking lacks.1);
       pass = c.lines.invariant.at.gathered.holds.pass;
     }

@@ -1,5 +1,5 @@
 -- There is no first cut exactly where there is no cut.
-use Rattle.proof_steps.proofs.CutPlaces.{no_first_cut}
+use Rattle.step_laws.proofs.CutPlaces.{no_first_cut}
 use Rattle.proof_steps.proofs.step_list.first_cut.Goals as goal
 
 pub returns-clause-none : goal.returns-clause-none

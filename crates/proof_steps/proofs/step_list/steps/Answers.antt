@@ -1,10 +1,10 @@
 -- The steps stand for the distinct subtrees, and the last for the tree.
 use Rattle.std.proofs.Common.{◌≡◌}
-use Rattle.proof_steps.specs.Subtrees.{distinct_subtrees}
-use Rattle.proof_steps.specs.Places.{steps_of}
-use Rattle.lk_check.specs.StepTrees.{trees_of_steps, IsTreeOf}
+use Rattle.step_laws.specs.Subtrees.{distinct_subtrees}
+use Rattle.step_laws.specs.Places.{steps_of}
+use Rattle.step_laws.specs.StepTrees.{trees_of_steps, IsTreeOf}
 use Rattle.proof_steps.proofs.RoundTrip.{trees_back, tree_back, by_items}
-use Rattle.lk_check.specs.Checking.{IsProof}
+use Rattle.step_laws.specs.Checking.{IsProof}
 use Rattle.proof_steps.proofs.ProofAgain.{proof_again}
 use Rattle.std.specs.List.{All}
 use Rattle.lk_rules.specs.Rules.{IsFormedRule}

@@ -1,8 +1,8 @@
 -- The trees get smaller, and those so far are listed.
 use Rattle.std.proofs.Common.{◌≡◌, ◌+◌, ◌*◌, take}
-use Rattle.proof_graph.specs.Shown.{nodes, nodes_all}
+use Rattle.proof_trees.specs.TreeLists.{nodes, nodes_all}
 use Rattle.proof_graph.specs.References.{trees_of}
-use Rattle.proof_steps.specs.Subtrees.{subtrees_all, appended_each}
+use Rattle.step_laws.specs.Subtrees.{subtrees_all, appended_each}
 use Rattle.proof_steps.specs.Listed.{ArePlaces}
 use Rattle.proof_steps.proofs.visiting.+visit.Given as goal
 

@@ -1,6 +1,6 @@
 use Rattle.std.proofs.Common.{take, ap, ◌∙◌}
 use Rattle.prop_search.specs.Formulas.{sequent_of}
-use Rattle.refutations.specs.Refutations.{without}
+use Rattle.proof_trees.specs.FormulaSets.{without}
 use Rattle.prop_search.proofs.LeastFormulas.{left_side}
 use Rattle.prop_search.proofs.sides.left_atoms.Goals as goal
 

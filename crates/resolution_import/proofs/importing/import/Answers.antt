@@ -2,7 +2,7 @@
 use Rattle.std.proofs.Common.{sym, subst}
 use Rattle.lk_rules.specs.declared.sequent.Sequent.{Sequent}
 use Rattle.proof_trees.specs.Conclusions.{IsFormedSequent}
-use Rattle.resolution_import.proofs.Closings.{closures_formed}
+use Rattle.arena_refutations.proofs.Closings.{closures_formed}
 use Rattle.resolution_import.proofs.importing.import.Goals as goal
 
 pub proof_at-requires-clause-formed : goal.proof_at-requires-clause-formed

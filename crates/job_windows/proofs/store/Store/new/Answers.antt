@@ -1,7 +1,7 @@
 -- A new store stands behind no job.
 use Rattle.std.proofs.Common.{map, length, sym, ap, arith, subst}
 use Rattle.std.specs.List.{All}
-use Rattle.operations.specs.Means.{sense}
+use Rattle.held_values.specs.Means.{sense}
 use Rattle.job_windows.specs.Running.{FitsDesk}
 use Rattle.job_windows.proofs.store.Store.new.Goals as goal
 

@@ -8,6 +8,6 @@ returns g c = record {
   waiting = [];
   each = refl;
   bytes = refl;
-  answered = record { lawful = tt; number = refl; counts = c.new-4.ensures; good_is = refl; lacked_is = refl };
+  answered = record { allowed = tt; number = refl; counts = c.new-4.ensures; good_is = refl; lacked_is = refl };
   gathered = empty_gathered c.in_ok-store.store c.new-2.result [] [] (nothing_due c.in_ok-store.store [] c.in_ok-store.ensures) refl c.new-2.ensures.0 c.new-2.ensures.1;
 }

@@ -2,7 +2,7 @@ use Rattle.std.proofs.Common.{ℕ, List, ◌∷◌, ◌<◌, length, take, refl,
 use Rattle.std.specs.Io.KnownBytes.{Appends}
 use Rattle.std.proofs.KnownBytes.{Appends-nil}
 use Rattle.proof_server.specs.Turn.{AreInPart}
-use Rattle.proof_server.proofs.Turns.{writing_in_part, writes_none, stopped_behind, stopped_within, written_whole}
+use Rattle.proof_server.proofs.Turns.{writing_in_part, writes_none, stopped_within, written_whole}
 use Rattle.proof_server.proofs.session.Session.write.Goals as goal
 
 pub returns-in-Err-clause-writes : goal.returns-in-Err-clause-writes
@@ -22,12 +22,6 @@ returns-in-Err-write_whole-clause-writes g c = λ asked written dues w.
 pub returns-clause-writes : goal.returns-clause-writes
 returns-clause-writes g c = λ asked written dues w.
     let told = c.in-Ok.ensures in
-    stopped_behind c.args.self.now asked written c.args.due dues w c.in-Ok.reply told.named told.held told.reply _ _
-    (subst (λ (x : List ℕ). Appends (g.K.Sink.written c.args.sink.now) (g.K.Sink.written c.write_whole.new.sink) x) c.deref.ensures.value c.in-Ok-write_whole.ensures.ok)
-
-pub returns-in-Ok-keep-clause-writes : goal.returns-in-Ok-keep-clause-writes
-returns-in-Ok-keep-clause-writes g c = λ asked written dues w.
-    let told = c.in-Ok.ensures in
     written_whole c.args.self.now asked written c.args.due dues w c.in-Ok.reply told.named told.held told.reply _ refl refl refl c.add.ensures
-    c.in-Ok-keep.ensures.kept c.in-Ok-keep.ensures.same.0 c.in-Ok-keep.ensures.same.1 c.in-Ok-keep.ensures.same.2 _ _
+    c.keep.ensures.kept c.keep.ensures.room c.keep.ensures.same.0 c.keep.ensures.same.1 c.keep.ensures.same.2 _ _
     (subst (λ (x : List ℕ). Appends (g.K.Sink.written c.args.sink.now) (g.K.Sink.written c.write_whole.new.sink) x) c.deref.ensures.value c.in-Ok-write_whole.ensures.ok)

@@ -19,6 +19,7 @@ loop-due-init g c =
       refl,
       omega arith,
       c.requires.writing.2.pending.holds.pass,
+      λ some. let many = ap length gives in let room = c.requires.writing.2.pending.room (omega (arith, some, many)) in omega (arith, room, many),
     )
 
 pub loop-due-preserved : goal.loop-due-preserved
@@ -37,7 +38,14 @@ loop-due-preserved g c =
       wrote.window ∙ before.4,
       omega (arith, before.5, wrote.faults),
       wrote.pass,
+      λ some. let many = ap length taken in let room = before.7 (omega (arith, many)) in omega (arith, room, many, wrote.spare.0, wrote.spare.1),
     )
+
+pub write-requires-clause-spare : goal.write-requires-clause-spare
+write-requires-clause-spare g c =
+    let many = ap length c.in-Some.ensures.steps.0 in
+    let room = c.loop-due.invariant.7 (omega (arith, many)) in
+    omega (arith, room, many)
 
 pub returns-in-Err-clause-writes : goal.returns-in-Err-clause-writes
 returns-in-Err-clause-writes g c = λ asked written w.

@@ -1,5 +1,5 @@
 -- The replies to the first jobs are written, and those of the others are due.
-use Rattle.std.proofs.Common.{◌≡◌, ℕ, ◌+◌, ◌≤◌, List, length}
+use Rattle.std.proofs.Common.{◌≡◌, ℕ, ◌+◌, ◌<◌, ◌≤◌, List, length, vec_capacity}
 use Rattle.std.specs.Vec.Iter.{into_iter_items}
 use Rattle.job_windows.specs.Means.{HasPass}
 use Rattle.proof_server.specs.Turn.{IsWriting, WritesMore}
@@ -15,3 +15,4 @@ invariant-loop-due g l =
     × (l.self.window ≡ l.fn.self.window)
     × (g.K.Sink.faults l.fn.sink ≤ g.K.Sink.faults l.sink)
     × HasPass l.self.store
+    × (0 < length (into_iter_items l.due-iterator) → length l.self.store.held.items + length (into_iter_items l.due-iterator) ≤ vec_capacity l.self.store.held)

@@ -1,7 +1,7 @@
 -- The entries are steps of the trees.
 use Rattle.std.proofs.Common.{◌≡◌, map, subst}
 use Rattle.std.specs.List.{position}
-use Rattle.proof_steps.specs.Places.{step_in, is_cut_step}
+use Rattle.step_laws.specs.Places.{step_in, is_cut_step}
 use Rattle.proof_steps.specs.Listed.{Listed}
 use Rattle.proof_steps.specs.Kept.{trees_in}
 use Rattle.proof_steps.proofs.StepLists.{first_cut_place}

@@ -1,7 +1,7 @@
 -- A tree that is listed is so with its subtrees.
 use Rattle.std.proofs.Common.{◌≡◌, sym, ap, ◌∙◌, subst, arith}
 use Rattle.std.specs.Prelude.{Some, slice_get}
-use Rattle.proof_steps.specs.Subtrees.{subtrees, appended_each}
+use Rattle.step_laws.specs.Subtrees.{subtrees, appended_each}
 use Rattle.proof_steps.specs.Listed.{Listed}
 use Rattle.proof_steps.proofs.Listings.{known_at, seen_within, seen_entry}
 use Rattle.proof_steps.proofs.listing.Listing.seen_at.Goals as goal

@@ -1,6 +1,6 @@
 -- The entries are steps of the trees.
 use Rattle.std.proofs.Common.{◌≡◌, map, ap, ◌∙◌, subst}
-use Rattle.proof_steps.specs.Places.{step_in}
+use Rattle.step_laws.specs.Places.{step_in}
 use Rattle.proof_steps.specs.Listed.{Listed}
 use Rattle.proof_steps.specs.Kept.{entry_step}
 use Rattle.proof_steps.proofs.listing.Listing.to_steps.Goals as goal

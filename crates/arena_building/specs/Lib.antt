@@ -1,0 +1,12 @@
+pub mod Codes
+pub mod Numbered
+pub mod Shown
+pub mod Leaves
+pub mod Sides
+pub mod Choosing
+pub mod Putting
+pub mod Dividing
+pub mod Instances
+pub mod Taking
+pub mod Begun
+pub mod Building

@@ -1,2 +1,0 @@
-pub mod AuxiliaryLaws
-pub mod Renamed

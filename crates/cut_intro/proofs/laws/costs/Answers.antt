@@ -1,6 +1,0 @@
--- The law is a lemma.
-use Rattle.cut_intro.proofs.Shorter.{by_best}
-use Rattle.cut_intro.proofs.laws.costs.Goals as goal
-
-pub returns : goal.returns
-returns c width t u n valid formed is = by_best width t n u valid formed is

@@ -1,6 +1,0 @@
--- The law is a lemma.
-use Rattle.cut_intro.proofs.Shorter.{with_cut}
-use Rattle.cut_intro.proofs.laws.introductions.Goals as goal
-
-pub returns : goal.returns
-returns c width t u n valid formed is = with_cut width t n u valid formed is

@@ -1,6 +1,0 @@
-use Rattle.std.proofs.Common.{◌≡◌, ◌++◌, drop}
-use Rattle.exp_to_lk.specs.Leaves.{leaf_numbers}
-use Rattle.exp_to_lk.proofs.leaves.leaves_on.Given as goal
-
-abbrev pub invariant-loop-placed : goal.invariant-loop-placed
-invariant-loop-placed l = l.numbers.items ++ leaf_numbers l.side (drop l.placed-index l.list) ≡ leaf_numbers l.side l.list

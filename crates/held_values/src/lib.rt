@@ -1,0 +1,8 @@
+//! What jobs hold for later ones, and the names of jobs in an operation.
+#![tactic(auto)]
+
+mod held;
+mod names;
+
+pub use held::Held;
+pub use names::{base_name, first_name, name_at, pair_name, second_name};

@@ -1,0 +1,3 @@
+pub mod Prenexes
+pub mod Faultless
+pub mod Shorter

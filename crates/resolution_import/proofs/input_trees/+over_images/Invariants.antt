@@ -1,6 +1,0 @@
--- There are fewer variables.
-use Rattle.std.proofs.Common.{length}
-use Rattle.resolution_import.proofs.input_trees.+over_images.Given as goal
-
-abbrev pub decreases-over_images : goal.decreases-over_images
-decreases-over_images l = length l.vars.now

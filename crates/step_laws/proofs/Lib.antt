@@ -1,0 +1,10 @@
+pub mod Checks
+pub mod RightSteps
+pub mod Picked
+pub mod StepEnds
+pub mod Admitted
+pub mod ValidTrees
+pub mod Admissions
+pub mod SameTrees
+pub mod CutPlaces
+pub mod Found
