@@ -1,0 +1,5 @@
+pub mod Flat
+pub mod Instances
+pub mod Unfolded
+pub mod Steps
+pub mod Definitions
