@@ -1,0 +1,12 @@
+pub mod Subsumption
+pub mod Unifiers
+pub mod Apart
+pub mod Resolvents
+pub mod Rounds
+pub mod Searching
+pub mod Choices
+pub mod Keeping
+pub mod Normal
+pub mod Saturation
+pub mod Steps
+pub mod Features
