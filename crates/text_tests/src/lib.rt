@@ -1,5 +1,5 @@
-//! Tests of lines, sets, substitutions, definitions and command lines, against answers that were worked out by hand. What a session can
-//! show of texts is in the files of jobs in `examples/`.
+//! Tests of lines, sets, substitutions, definitions, texts that are written and command lines, against answers that were worked out by
+//! hand. What a session can show of texts is in the files of jobs in `examples/`.
 #![tactic(auto)]
 
 #[cfg(test)]
@@ -8,6 +8,8 @@ mod commands;
 mod definitions;
 #[cfg(test)]
 mod lines;
+#[cfg(test)]
+mod printing;
 #[cfg(test)]
 mod samples;
 #[cfg(test)]
