@@ -1,0 +1,89 @@
+//! How the clauses of a search were derived.
+
+use crate::literal::Literal;
+use crate::tables::{at, put};
+use std::alloc::{AllocError, Global};
+
+/// Resolution with a clause: the literal goes from the clause so far, and its negation from this one.
+#[derive(Clone, Copy)]
+pub(crate) struct Link {
+    pub literal: Literal,
+    pub clause: u32,
+}
+
+/// The first clause of a derivation, and where its links end.
+#[derive(Clone, Copy)]
+struct Chain {
+    first: u32,
+    end: usize,
+}
+
+/// The derivations of the clauses that aren't input clauses, in the order of their numbers.
+#[derive(Drop)]
+pub(crate) struct Derivations {
+    chains: Vec<Chain>,
+    links: Vec<Link>,
+}
+
+impl Derivations {
+    /// No derivations.
+    pub fn new(alloc: Global) -> Derivations {
+        Derivations {
+            chains: Vec::new(alloc),
+            links: Vec::new(alloc),
+        }
+    }
+
+    /// One more resolution of the derivation that is being made.
+    pub fn link(&mut self, literal: Literal, clause: u32) -> Result<(), AllocError> {
+        self.links.push(Link { literal, clause })?;
+        Ok(())
+    }
+
+    /// Ends a derivation, which begins with this clause.
+    pub fn end(&mut self, first: u32) -> Result<(), AllocError> {
+        self.chains.push(Chain {
+            first,
+            end: self.links.len(),
+        })?;
+        Ok(())
+    }
+
+    /// A derivation: its first clause and its links.
+    pub fn get(&self, number: usize) -> Option<(u32, &[Link])> {
+        if number >= self.chains.len() {
+            return None;
+        }
+        let start = if number == 0 {
+            0
+        } else {
+            self.chains[number - 1].end
+        };
+        let chain = self.chains[number];
+        let links = self.links.get(start..chain.end)?;
+        Some((chain.first, links))
+    }
+
+    /// Which clauses the last derivation needs, where there are so many input clauses: one entry for each clause.
+    pub fn needed(&self, alloc: Global, inputs: usize) -> Result<Vec<bool>, AllocError> {
+        let count = inputs.saturating_add(self.chains.len());
+        let mut needed = vec![in alloc; false; count]?;
+        put(&mut needed, count.saturating_sub(1), true);
+        for number in (0..self.chains.len()).rev() {
+            if at(&needed, inputs.saturating_add(number), false) {
+                self.mark(number, &mut needed);
+            }
+        }
+        Ok(needed)
+    }
+
+    // Marks the clauses that a derivation names.
+    fn mark(&self, number: usize, needed: &mut [bool]) {
+        if let Some((first, links)) = self.get(number) {
+            put(needed, first as usize, true);
+            for link in links {
+                put(needed, link.clause as usize, true);
+            }
+        }
+    }
+}

@@ -1,0 +1,22 @@
+//! Search for a model or a refutation of ground clauses, by conflicts.
+#![tactic(auto)]
+
+mod analysis;
+mod answer;
+mod clauses;
+mod derivations;
+mod ground;
+mod literal;
+mod models;
+mod numbering;
+mod order;
+mod refuting;
+mod solver;
+mod solving;
+mod tables;
+mod trail;
+mod watches;
+
+pub use answer::{SatAnswer, SatSteps};
+pub use ground::Ground;
+pub use solving::solve;

@@ -1,0 +1,231 @@
+//! Refutations of clauses. The derivations of a search are a plan: each step that the last one needs is made once more, with the clauses
+//! themselves, and looked at.
+ghost use Rattle.std.specs.Prelude.{◌≡◌, ◌<◌, List, length, Ok, IfOk, OnOk};
+ghost use Rattle.lk_rules.specs.declared.sequent.Sequent.{Sequent as Disjunction};
+ghost use Rattle.ground_laws.specs.declared.step.SatStep.{SatStep as Inference};
+ghost use Rattle.ground_laws.specs.Steps.{derives, IsRefutation};
+ghost use Rattle.sat_search.specs.Grounds.{clauses_of};
+ghost use Rattle.sat_search.specs.Derived.{conclusions, IsSound, IsDerived, AreDerived, Derives};
+
+use crate::answer::SatSteps;
+use crate::derivations::{Derivations, Link};
+use crate::ground::Ground;
+use crate::numbering::Numbering;
+use fol::Formula;
+use ground_laws::SatStep;
+use lk_rules::Sequent;
+use refutations::resolvent;
+use std::alloc::{AllocError, Global};
+
+/// A clause with the number of the step that derives it.
+pub(crate) struct Derived {
+    step: u64,
+    clause: Sequent,
+}
+
+impl Drop for Derived {
+    fn drop(self) {
+        let Derived { step: _, clause } = self;
+        drop(clause);
+    }
+}
+
+// One more step, which derives this clause.
+fn push(
+    clauses: &[Ground],
+    steps: &mut Vec<SatStep>,
+    step: SatStep,
+    clause: Sequent,
+) -> Result<Derived, AllocError>
+    requires sound { IsSound (clauses_of clauses.now) steps.old.items }
+    requires derives { derives (clauses_of clauses.now) (conclusions (clauses_of clauses.now) steps.old.items) step ≡ Ok clause }
+    ensures { IfOk result (Derives (clauses_of clauses.now) steps.old.items steps.new.items) }
+{
+    let _clauses = clauses;
+    let number = steps.len() as u64;
+    steps.push(step)?;
+    Ok(Derived {
+        step: number,
+        clause,
+    })
+}
+
+// The input clause of this number.
+fn input(clauses: &[Ground], steps: &mut Vec<SatStep>, number: usize) -> Result<Derived, AllocError>
+    requires sound { IsSound (clauses_of clauses.now) steps.old.items }
+    requires within { number < length clauses.now }
+    ensures { IfOk result (Derives (clauses_of clauses.now) steps.old.items steps.new.items) }
+{
+    let clause = Sequent {
+        left: clauses[number].negative.copy()?,
+        right: clauses[number].positive.copy()?,
+    };
+    push(clauses, steps, SatStep::Input(number as u64), clause)
+}
+
+// The resolvent of two clauses, where they have one on this atom.
+fn resolve(
+    alloc: Global,
+    clauses: &[Ground],
+    steps: &mut Vec<SatStep>,
+    positive: &Derived,
+    negative: &Derived,
+    atom: &Formula,
+) -> Result<Derived, AllocError>
+    requires sound { IsSound (clauses_of clauses.now) steps.old.items }
+    requires positive { IsDerived (clauses_of clauses.now) steps.old.items positive.now }
+    requires negative { IsDerived (clauses_of clauses.now) steps.old.items negative.now }
+    ensures { IfOk result (Derives (clauses_of clauses.now) steps.old.items steps.new.items) }
+{
+    if !positive.clause.right.has(atom) || !negative.clause.left.has(atom) {
+        return Err(AllocError);
+    }
+    let clause = resolvent(alloc, &positive.clause, &negative.clause, atom)?;
+    let step = SatStep::Resolve {
+        positive: positive.step,
+        negative: negative.step,
+        atom: atom.copy()?,
+    };
+    push(clauses, steps, step, clause)
+}
+
+// The clause that was derived with a number of the search.
+fn earlier(table: &[Option<Derived>], clause: u32) -> Result<&Derived, AllocError>
+    ensures { (cs : List Disjunction) (steps : List Inference) → AreDerived cs steps table.now → IfOk result (λ d. IsDerived cs steps d.now) }
+{
+    match table.get(clause as usize) {
+        Some(Some(earlier)) => Ok(earlier),
+        _ => Err(AllocError),
+    }
+}
+
+// The clause of a derivation, from those of smaller numbers.
+fn derive(
+    alloc: Global,
+    clauses: &[Ground],
+    numbering: &Numbering,
+    table: &[Option<Derived>],
+    steps: &mut Vec<SatStep>,
+    derivation: (u32, &[Link]),
+) -> Result<Derived, AllocError>
+    requires sound { IsSound (clauses_of clauses.now) steps.old.items }
+    requires derived { AreDerived (clauses_of clauses.now) steps.old.items table.now }
+    ensures { IfOk result (Derives (clauses_of clauses.now) steps.old.items steps.new.items) }
+{
+    let (first, links) = derivation;
+    let first = earlier(table, first)?;
+    let mut current = Derived {
+        step: first.step,
+        clause: first.clause.copy()?,
+    };
+    for link in links {
+        let other = earlier(table, link.clause)?;
+        let Some(atom) = numbering.atom(link.literal.atom()) else {
+            return Err(AllocError);
+        };
+        current = if link.literal.is_negative() {
+            resolve(alloc, clauses, steps, other, &current, atom)?
+        } else {
+            resolve(alloc, clauses, steps, &current, other, atom)?
+        };
+    }
+    Ok(current)
+}
+
+// The next clause after those of a table, by its number in the search.
+fn next(
+    alloc: Global,
+    clauses: &[Ground],
+    numbering: &Numbering,
+    derivations: &Derivations,
+    table: &[Option<Derived>],
+    steps: &mut Vec<SatStep>,
+) -> Result<Derived, AllocError>
+    requires sound { IsSound (clauses_of clauses.now) steps.old.items }
+    requires derived { AreDerived (clauses_of clauses.now) steps.old.items table.now }
+    ensures { IfOk result (Derives (clauses_of clauses.now) steps.old.items steps.new.items) }
+{
+    let number = table.len();
+    if number < clauses.len() {
+        return input(clauses, steps, number);
+    }
+    match derivations.get(number - clauses.len()) {
+        Some(derivation) => derive(alloc, clauses, numbering, table, steps, derivation),
+        None => Err(AllocError),
+    }
+}
+
+// Adds the next clause to a table, or that it isn't needed.
+fn push_next(
+    alloc: Global,
+    clauses: &[Ground],
+    numbering: &Numbering,
+    derivations: &Derivations,
+    table: &mut Vec<Option<Derived>>,
+    steps: &mut Vec<SatStep>,
+    is_needed: bool,
+) -> Result<(), AllocError>
+    requires sound { IsSound (clauses_of clauses.now) steps.old.items }
+    requires derived { AreDerived (clauses_of clauses.now) steps.old.items table.old.items }
+    ensures sound { OnOk result (IsSound (clauses_of clauses.now) steps.new.items) }
+    ensures derived { OnOk result (AreDerived (clauses_of clauses.now) steps.new.items table.new.items) }
+{
+    if !is_needed {
+        table.push(None)?;
+        return Ok(());
+    }
+    let next = next(alloc, clauses, numbering, derivations, table, steps)?;
+    table.push(Some(next))?;
+    Ok(())
+}
+
+// The steps up to the one whose clause is empty.
+fn ended(
+    alloc: Global,
+    clauses: &[Ground],
+    steps: Vec<SatStep>,
+    last: &Derived,
+) -> Result<SatSteps, AllocError>
+    requires sound { IsSound (clauses_of clauses.now) steps.items }
+    requires derived { IsDerived (clauses_of clauses.now) steps.items last.now }
+    ensures { IfOk result (IsRefutation (clauses_of clauses.now)) }
+{
+    let _clauses = clauses;
+    let number = last.step as usize;
+    let is_empty = last.clause == Sequent::empty(alloc);
+    if number >= steps.len() || !is_empty {
+        return Err(AllocError);
+    }
+    let mut steps = steps;
+    steps.truncate(number + 1);
+    Ok(SatSteps::from_vec(steps))
+}
+
+/// The refutation that a search found, without the steps that it doesn't need. Where what it found is none, that is refused as want of memory.
+pub(crate) fn refutation(
+    alloc: Global,
+    clauses: &[Ground],
+    numbering: &Numbering,
+    derivations: &Derivations,
+) -> Result<SatSteps, AllocError>
+    ensures { IfOk result (IsRefutation (clauses_of clauses.now)) }
+{
+    let needed = derivations.needed(alloc, clauses.len())?;
+    let mut steps = Vec::new(alloc);
+    let mut table = Vec::new(alloc);
+    for is_needed in &needed {
+        push_next(
+            alloc,
+            clauses,
+            numbering,
+            derivations,
+            &mut table,
+            &mut steps,
+            *is_needed,
+        )?;
+    }
+    match table.pop() {
+        Some(Some(last)) => ended(alloc, clauses, steps, &last),
+        _ => Err(AllocError),
+    }
+}
