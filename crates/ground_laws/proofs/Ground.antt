@@ -19,13 +19,13 @@ use Rattle.ground_laws.proofs.Literals.{each_literal}
 
 -- tests that each member of a set passes
 
-one_passes : (p : Formula → Bool) (fs : List Formula) (f : Formula) → list_all p fs ≡ true → among fs f ≡ true → p f ≡ true
+pub one_passes : (p : Formula → Bool) (fs : List Formula) (f : Formula) → list_all p fs ≡ true → among fs f ≡ true → p f ≡ true
 one_passes p [] f each m = cc
 one_passes p (g ∷ gs) f each m =
     let parts = and_parts (p g) (list_all p gs) each in
     either (eq_by_cmp formula_cmp f g) (among gs f) (λ e. ap p (equal f g e) ∙ parts.0) (one_passes p gs f parts.1) m
 
-all_pass : (p : Formula → Bool) (fs : List Formula) → ((f : Formula) → among fs f ≡ true → p f ≡ true) → list_all p fs ≡ true
+pub all_pass : (p : Formula → Bool) (fs : List Formula) → ((f : Formula) → among fs f ≡ true → p f ≡ true) → list_all p fs ≡ true
 all_pass p [] each = refl
 all_pass p (f ∷ fs) each =
     and_from (p f) (list_all p fs) (each f (or_first (eq_by_cmp formula_cmp f f) (among fs f) (tied f f refl)))

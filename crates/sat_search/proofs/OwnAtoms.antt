@@ -1,9 +1,7 @@
 -- The atoms of a model stand in the clauses.
-use Rattle.std.proofs.Common.{◌≡◌, ℕ, Bool, true, ◌||◌, List, [], ◌∷◌, refl, sym, ap, ◌∙◌}
+use Rattle.std.proofs.Common.{◌≡◌, ℕ, true, ◌||◌, List, sym, ap, ◌∙◌}
 use Rattle.std.specs.Prelude.{Some, option_map, slice_get}
-use Rattle.std.specs.List.{list_all, list_any}
-use Rattle.std.specs.Ordering.{eq_by_cmp}
-use Rattle.std.proofs.lemmas.Bool.{and_parts, and_from}
+use Rattle.std.specs.List.{list_all}
 use Rattle.std.proofs.lemmas.Option.{slice_get-map}
 use Rattle.std.proofs.lemmas.Map.Keys.{any_passes_from_place}
 use Rattle.fol.specs.Syntax.{Formula}
@@ -12,27 +10,12 @@ use Rattle.fol.specs.OrderLaws.{formula_total}
 use Rattle.finite.specs.Finite as set
 use Rattle.finite.proofs.Finite.{has-listing, has-empty, has-adds_each}
 use Rattle.lk_rules.specs.declared.sequent.Sequent.{Sequent}
-use Rattle.proof_trees.proofs.Booleans.{or_first, or_second, either}
-use Rattle.proof_trees.proofs.FormulaSets.{equal, tied}
+use Rattle.proof_trees.proofs.Booleans.{or_second}
 use Rattle.ground_laws.specs.Models.{occurs}
+use Rattle.ground_laws.proofs.Clauses.{among}
+use Rattle.ground_laws.proofs.Ground.{one_passes, all_pass}
 use Rattle.sat_search.specs.declared.ground.Ground.{Ground}
 use Rattle.sat_search.specs.Grounds.{clause_of, clauses_of}
-
-abbrev among : List Formula → Formula → Bool
-among fs f = list_any (eq_by_cmp formula_cmp f) fs
-
--- what is in a list whose formulas all pass a test passes it
-one_passes : (p : Formula → Bool) (fs : List Formula) (f : Formula) → list_all p fs ≡ true → among fs f ≡ true → p f ≡ true
-one_passes p [] f all m = cc
-one_passes p (g ∷ gs) f all m =
-    let parts = and_parts (p g) (list_all p gs) all in
-    either (eq_by_cmp formula_cmp f g) (among gs f) (λ e. ap p (equal f g e) ∙ parts.0) (one_passes p gs f parts.1) m
-
-all_pass : (p : Formula → Bool) (fs : List Formula) → ((f : Formula) → among fs f ≡ true → p f ≡ true) → list_all p fs ≡ true
-all_pass p [] each = refl
-all_pass p (f ∷ fs) each =
-    and_from (p f) (list_all p fs) (each f (or_first (eq_by_cmp formula_cmp f f) (among fs f) (tied f f refl)))
-    (all_pass p fs (λ g m. each g (or_second (eq_by_cmp formula_cmp g f) (among fs g) m)))
 
 -- the positive atoms of a clause of the list stand in the clauses
 pub own_positive : (gs : List Ground) (i : ℕ) (g : Ground) → slice_get gs i ≡ Some g → list_all (occurs (clauses_of gs)) (set.listing g.positive) ≡ true
