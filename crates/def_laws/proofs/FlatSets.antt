@@ -59,7 +59,7 @@ member_passes p (g ∷ gs) f h m =
 
 -- members
 
-has-relisted : (fs : List Formula) (q : Formula) → set.has (set.adds_each (set.empty {R = formula_cmp}) fs) q ≡ list_any (eq_by_cmp formula_cmp q) fs
+pub has-relisted : (fs : List Formula) (q : Formula) → set.has (set.adds_each (set.empty {R = formula_cmp}) fs) q ≡ list_any (eq_by_cmp formula_cmp q) fs
 has-relisted fs q =
     has-adds_each formula_total set.empty fs q ∙ ap (λ b. b || list_any (eq_by_cmp formula_cmp q) fs) (has-empty formula_cmp q)
 

@@ -17,4 +17,8 @@ pub mod UnfoldedTrees
 pub mod StepByStep
 pub mod Closures
 pub mod Definitions
+pub mod NodeLaws
+pub mod MarkedFormulas
+pub mod MarkedSequents
+pub mod Faults
 pub mod Examples

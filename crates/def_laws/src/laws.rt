@@ -1,8 +1,9 @@
 //! The laws of unfolding all defined symbols. Each function does nothing: its contract is the law.
-ghost use Rattle.std.specs.Prelude.{◌≡◌, ◌↔◌, ℕ, ◌+◌, ◌^◌, ◌<◌, ◌≤◌, true, false, not, ◌&&◌, List, length, map, Option, Some, IfSome, option_map};
+ghost use Rattle.std.specs.Prelude.{◌≡◌, ◌↔◌, ℕ, ◌+◌, ◌^◌, ◌<◌, ◌≤◌, true, false, not, ◌&&◌, List, [], length, map, Option, Some, IfSome, option_map, Ok, Err};
+ghost use Rattle.std.specs.List.{All};
 ghost use Rattle.fol.specs.declared.symbols.Sym.{Sym as Symbol};
 ghost use Rattle.fol.specs.declared.symbols.Var.{Var as Variable};
-ghost use Rattle.fol.specs.Syntax.{Term, Terms, Formula, free, pred, defined, atom, all, ex};
+ghost use Rattle.fol.specs.Syntax.{Term, Terms, Pred, Formula, free, pred, defined, atom, all, ex};
 ghost use Rattle.fol.specs.Facts.{formula_size, formula_dangling, is_open, has_body};
 ghost use Rattle.fol.specs.Formed.{count_terms, leading_all, is_name, is_formed_at, IsFormed, IsFormedPred};
 ghost use Rattle.finite.specs.Finite as set;
@@ -23,7 +24,11 @@ ghost use Rattle.lk_rules.specs.Sequents.{side_of, is_free_in_sequent};
 ghost use Rattle.proof_trees.specs.Trees.{Tree as Proof, Trees as Premises, concl, IsInference, IsValid, cut_free as is_cut_free, size as size_of, cuts as cuts_of, quants as quants_of};
 ghost use Rattle.proof_trees.specs.Shapes.{height};
 ghost use Rattle.proof_trees.specs.Conclusions.{EachNode, IsFormedSequent, HasFormedEnd};
+ghost use Rattle.def_laws.specs.declared.fault.DefFault.TheVariants.{Free, Large};
 ghost use Rattle.def_laws.specs.Definitions.{definition, given};
+ghost use Rattle.def_laws.specs.Nodes.{nodes_of};
+ghost use Rattle.def_laws.specs.Marking.{marked, marked_sequent, marked_rule};
+ghost use Rattle.def_laws.specs.Defining.{max_nodes, defining, IsFreeWithin, IsLeastFree};
 ghost use Rattle.def_laws.specs.Flat.{lifted_terms, lifted_put, flat, flat_sequent};
 ghost use Rattle.def_laws.specs.Instances.{instances};
 ghost use Rattle.def_laws.specs.Steps.{UnfoldsAll};
@@ -132,4 +137,31 @@ pub fn definitions()
     ensures formed { (name : List ℕ) (vs : List Variable) (f : Formula) → is_name name ≡ true → length vs + nesting f < 2 ^ 32 → IsFormed f → ((w : Variable) → is_free_in w f ≡ true → is_among w vs ≡ true) → IsFormedPred (definition name vs f) }
     ensures unfolding { (name : List ℕ) (vs : List Variable) (f : Formula) (ts : Terms) → is_closed_at 0 f ≡ true → count_terms ts ≡ length vs → unf (atom (definition name vs f) ts) ≡ Some (image (given vs ts) f) }
     ensures unfolded { (name : List ℕ) (vs : List Variable) (f : Formula) (ts : Terms) → IsFormed f → IsFormed (atom (definition name vs f) ts) → flat (atom (definition name vs f) ts) ≡ image (given vs ts) (flat f) }
+{}
+
+/// Marking by well-formed symbols keeps what is well formed. It keeps the free variables, does nothing where no symbol is given, and nothing
+/// more the second time.
+pub fn marking()
+    ensures formed { (ds : List Pred) (k : ℕ) (f : Formula) → All IsFormedPred ds → is_formed_at k f ≡ true → is_formed_at k (marked ds f) ≡ true }
+    ensures sequent { (ds : List Pred) (s : Conclusion) → All IsFormedPred ds → IsFormedSequent s → IsFormedSequent (marked_sequent ds s) }
+    ensures rule { (ds : List Pred) (r : Inference) → All IsFormedPred ds → IsFormedRule r → IsFormedRule (marked_rule ds r) }
+    ensures free_variables { (ds : List Pred) (v : Variable) (f : Formula) → is_free_in v (marked ds f) ≡ is_free_in v f }
+    ensures none { (f : Formula) → marked [] f ≡ f }
+    ensures twice { (ds : List Pred) (f : Formula) → marked ds (marked ds f) ≡ marked ds f }
+{}
+
+/// A formula has more nodes than quantifiers inside one another, and with all unfolded it has no fewer quantifiers inside one another.
+pub fn nodes()
+    ensures quantifiers { (f : Formula) → nesting f < nodes_of f }
+    ensures unfolded { (f : Formula) → nesting f ≤ nesting (flat f) }
+{}
+
+/// There is a definition exactly where no variable is free outside the list and the formula with all unfolded has few enough nodes. A fault
+/// names the least variable that is free outside the list, or there is none and the formula has too many nodes.
+pub fn answers_to_definitions()
+    ensures defined { (name : List ℕ) (vs : List Variable) (f : Formula) (p : Pred) → (defining name vs f ≡ Ok p) ↔ (IsFreeWithin vs f × (nodes_of (flat f) ≤ max_nodes) × (p ≡ definition name vs f)) }
+    ensures free { (name : List ℕ) (vs : List Variable) (f : Formula) (v : Variable) → (defining name vs f ≡ Err (Free v)) ↔ IsLeastFree vs f v }
+    ensures large { (name : List ℕ) (vs : List Variable) (f : Formula) → (defining name vs f ≡ Err Large) ↔ (IsFreeWithin vs f × (max_nodes < nodes_of (flat f))) }
+    ensures quantifiers { (name : List ℕ) (vs : List Variable) (f : Formula) (p : Pred) → defining name vs f ≡ Ok p → nesting f < 10000 }
+    ensures formed { (name : List ℕ) (vs : List Variable) (f : Formula) (p : Pred) → is_name name ≡ true → IsFormed f → length vs + 10000 < 2 ^ 32 → defining name vs f ≡ Ok p → IsFormedPred p }
 {}

@@ -1,0 +1,9 @@
+pub mod WeightLaws
+pub mod Cuts
+pub mod Bodies
+pub mod Places
+pub mod Marks
+pub mod Flattenings
+pub mod DefinitionLists
+pub mod Searches
+pub mod DefinedSymbols
