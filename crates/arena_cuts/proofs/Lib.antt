@@ -7,3 +7,7 @@ pub mod PairWork
 pub mod CutSteps
 pub mod Known
 pub mod Rooted
+pub mod Validity
+pub mod WholeKnown
+pub mod WholeSteps
+pub mod WholeWork

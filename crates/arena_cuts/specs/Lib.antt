@@ -2,3 +2,4 @@ pub mod CutNumbers
 pub mod Reductions
 pub mod Tables
 pub mod Pairs
+pub mod Whole

@@ -1,3 +1,4 @@
 pub mod BothPremises
 pub mod CutCounts
 pub mod Crossing
+pub mod WholeEliminations

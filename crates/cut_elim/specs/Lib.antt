@@ -2,3 +2,4 @@ pub mod Eliminations
 pub mod Desks
 pub mod Lending
 pub mod Branches
+pub mod Whole

@@ -7,8 +7,10 @@ mod eliminating;
 mod forking;
 mod known;
 mod weighing;
+mod whole;
 
 pub use arena_cuts::ElimFault;
 pub use desk::{Desk, DeskPass};
 pub use eliminating::eliminate;
 pub use known::{Elimination, Eliminations, Reduced};
+pub use whole::eliminate_all;
