@@ -1,0 +1,16 @@
+mod Lists
+mod Walks
+mod Decomposed
+mod Joined
+mod Counted
+mod Started
+mod Alike
+mod Solved
+mod Numbered
+mod Marks
+mod ValueLaws
+mod Growing
+mod Parts
+mod Bindings
+mod Solution
+mod Relevant
