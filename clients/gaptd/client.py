@@ -21,21 +21,22 @@ import shlex
 import subprocess
 import sys
 import threading
+from contextlib import contextmanager
 from dataclasses import dataclass
 from pathlib import Path
 from types import TracebackType
 from typing import Any, Callable, Deque, Dict, IO, Iterable, Iterator, List, Mapping, Optional, Sequence, Set, Tuple, Type, Union
 
-from .errors import GaptdError, ProgramEnded, ProtocolError, refusal
+from .errors import GaptdError, ProgramEnded, ProgramMissing, ProtocolError, refusal
+from .files import faults_in, read_text
+from .operations import HELD, NOTHING, without_suffix
+from .progress import Progress
 
 Job = Mapping[str, Any]
 Program = Union[str, Sequence[str]]
 
 NAME_LENGTH = 64
 NAMING_FIELDS = ("proof", "problem", "expansion", "of")
-SUFFIXES = (".first", ".second")
-# Operations whose jobs hold nothing, which a new program needn't be told again.
-HOLD_NOTHING = ("proves", "measure", "show", "herbrand")
 
 
 def default_program() -> List[str]:
@@ -79,6 +80,28 @@ class Names:
         self.taken: Set[str] = set()
         self.attempts: Dict[str, int] = {}
         self.standing: Dict[str, str] = {}
+        # While names are provisional: what each name that was changed stood for before.
+        self.before: Optional[Dict[str, Optional[str]]] = None
+
+    def stand(self, wanted: str, name: str) -> None:
+        """From now on a name stands for the job `name`."""
+        if self.before is not None:
+            self.before.setdefault(wanted, self.standing.get(wanted))
+        self.standing[wanted] = name
+
+    @contextmanager
+    def provisional(self) -> Iterator[None]:
+        """Afterwards each name stands for the job again that it stood for before; that costs no more than what was changed."""
+        self.before = {}
+        try:
+            yield
+        finally:
+            changed, self.before = self.before, None
+            for wanted, name in changed.items():
+                if name is None:
+                    del self.standing[wanted]
+                else:
+                    self.standing[wanted] = name
 
     def fresh(self, wanted: str) -> str:
         """The wanted name, or where it is taken the name with a number."""
@@ -94,10 +117,8 @@ class Names:
         """The name under which the job stands that is called so."""
         if not isinstance(name, str):
             return name
-        for suffix in SUFFIXES:
-            if name.endswith(suffix):
-                return self.resolve(name[:-len(suffix)]) + suffix
-        return self.standing.get(name, name)
+        job = without_suffix(name)
+        return self.standing.get(job, job) + name[len(job):]
 
     def prepare(self, job: Job) -> Dict[str, Any]:
         """The job as it is sent, by a fresh name and with the names in its fields resolved."""
@@ -125,7 +146,10 @@ class Session:
         self.count = 0
         self.notes: Deque[str] = collections.deque(maxlen=20)
         self.lines: "queue.SimpleQueue[Optional[bytes]]" = queue.SimpleQueue()
-        self.process = subprocess.Popen(self.program, stdin=subprocess.PIPE, stdout=subprocess.PIPE, stderr=subprocess.PIPE)
+        try:
+            self.process = subprocess.Popen(self.program, stdin=subprocess.PIPE, stdout=subprocess.PIPE, stderr=subprocess.PIPE)
+        except OSError as error:
+            raise ProgramMissing(self.program, error) from error
         assert self.process.stdin and self.process.stdout and self.process.stderr
         self.input: IO[bytes] = self.process.stdin
         self.readers = [threading.Thread(target=self.take_lines, args=(self.process.stdout, self.lines), daemon=True),
@@ -148,8 +172,9 @@ class Session:
                 notes.append(text)
                 print(text, file=sys.stderr)
 
-    def exchange(self, lines: Iterable[bytes]) -> List[Reply]:
-        """Sends lines as they are, none of them empty, and gives their replies. Raises ProgramEnded if the program ends before."""
+    def exchange(self, lines: Iterable[bytes], replied: Callable[[], None] = lambda: None) -> List[Reply]:
+        """Sends lines as they are, none of them empty, and gives their replies; `replied` is called at each. Raises ProgramEnded if the
+        program ends before."""
         due, is_broken = list(lines), False
         try:
             for line in due:
@@ -165,6 +190,7 @@ class Session:
                 raise ProgramEnded(self.end(), list(self.notes), replies)
             self.count += 1
             replies.append(Reply.read(line, self.count))
+            replied()
         return replies
 
     def next_line(self) -> Optional[bytes]:
@@ -173,10 +199,10 @@ class Session:
         except queue.Empty:
             raise TimeoutError(f"no reply in {self.timeout} seconds") from None
 
-    def send_all(self, jobs: Iterable[Any]) -> List[Tuple[Any, Reply]]:
+    def send_all(self, jobs: Iterable[Any], replied: Callable[[], None] = lambda: None) -> List[Tuple[Any, Reply]]:
         """Sends jobs by their own names, and gives each with its reply. Their names are then taken."""
         given = list(jobs)
-        replies = self.exchange(encoded(job) for job in given)
+        replies = self.exchange((encoded(job) for job in given), replied)
         for job, reply in zip(given, replies):
             if reply.job is not None and reply.job not in self.names.taken:
                 self.names.taken.add(reply.job)
@@ -185,14 +211,8 @@ class Session:
 
     def batch(self, jobs: Iterable[Job]) -> List[Reply]:
         """Sends jobs by fresh names, and gives their replies, refusals too. A job may name another one of the batch before it."""
-        standing = dict(self.names.standing)
-        sent: List[Tuple[str, Dict[str, Any]]] = []
-        for job in jobs:
-            prepared = self.names.prepare(job)
-            wanted = str(job.get("job") or prepared["job"])
-            self.names.standing[wanted] = prepared["job"]
-            sent.append((wanted, prepared))
-        self.names.standing = standing
+        with self.names.provisional():
+            sent = [self.prepared(job) for job in jobs]
         replies = self.exchange(encoded(job) for _, job in sent)
         for (wanted, job), reply in zip(sent, replies):
             if reply.job not in (job["job"], None):
@@ -200,11 +220,18 @@ class Session:
             self.note(wanted, job, reply)
         return replies
 
+    def prepared(self, job: Job) -> Tuple[str, Dict[str, Any]]:
+        """The name that a job wants, which stands for it from now on, and the job as it is sent."""
+        prepared = self.names.prepare(job)
+        wanted = str(job.get("job") or prepared["job"])
+        self.names.stand(wanted, prepared["job"])
+        return wanted, prepared
+
     def note(self, wanted: str, job: Dict[str, Any], reply: Reply) -> None:
-        """Remembers an accepted job."""
+        """Remembers an accepted job; one that holds nothing isn't sent again by `restart`."""
         if reply.error is None:
-            self.names.standing[wanted] = job["job"]
-            if job.get("op") not in HOLD_NOTHING:
+            self.names.stand(wanted, job["job"])
+            if HELD.get(str(job.get("op"))) != NOTHING:
                 self.accepted.append((wanted, job))
 
     def run(self, op: str, name: Optional[str] = None, **fields: Any) -> Reply:
@@ -260,15 +287,23 @@ def encoded(job: Any) -> bytes:
 
 def reading_jobs(path: str) -> Iterator[Any]:
     """The JSON values of a file one after the other, in any layout; of the standard input where the path is -."""
-    text = sys.stdin.read() if path == "-" else Path(path).read_text(encoding="utf-8")
+    text = read_text(path)
     decoder, at = json.JSONDecoder(), 0
     while True:
         while at < len(text) and text[at] in " \t\r\n":
             at += 1
         if at == len(text):
             return
-        job, at = decoder.raw_decode(text, at)
+        with faults_in(path):
+            job, at = decoder.raw_decode(text, at)
         yield job
+
+
+def send_file(session: Session, path: str) -> List[Tuple[Any, Reply]]:
+    """Sends the jobs of a file by their own names, and gives each with its reply. A terminal is told how far that is."""
+    jobs = list(reading_jobs(path))
+    with Progress(len(jobs)) as progress:
+        return session.send_all(jobs, progress.step)
 
 
 def add_program(parser: argparse.ArgumentParser) -> None:
@@ -276,9 +311,12 @@ def add_program(parser: argparse.ArgumentParser) -> None:
 
 
 def guarded(main: Callable[[], int]) -> int:
-    """Runs a script. What goes wrong with its files or with the program is one line on standard error, and status 1."""
+    """Runs a script. What goes wrong with its files or with the program is said on standard error, with status 1; broken off it ends with
+    130."""
     try:
         return main()
+    except KeyboardInterrupt:
+        return 130
     except (GaptdError, ValueError, OSError) as error:
         print(f"{Path(sys.argv[0]).stem}: {error}", file=sys.stderr)
         return 1
@@ -290,7 +328,7 @@ def main() -> int:
     parser.add_argument("file", nargs="?", default="-", help="a file of jobs in JSON of any layout; the standard input without it")
     words = parser.parse_args()
     session = Session(words.program)
-    for _, reply in session.send_all(reading_jobs(words.file)):
+    for _, reply in send_file(session, words.file):
         answer = {"ok": reply.ok} if reply.error is None else {"error": reply.error}
         print(json.dumps({**answer, "job": reply.job, "n": reply.n}, separators=(",", ":"), sort_keys=True, ensure_ascii=False))
     return session.close()

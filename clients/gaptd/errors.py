@@ -1,7 +1,7 @@
 """Errors of a session: one class for each kind of refusal, and two for a program that ends or talks nonsense."""
 from __future__ import annotations
 
-from typing import Any, Dict, List, Mapping, Optional, Type
+from typing import Any, Dict, List, Mapping, Optional, Sequence, Type
 
 STATUSES: Dict[int, str] = {
     0: "all jobs were answered Ok",
@@ -20,6 +20,15 @@ class GaptdError(Exception):
 
 class ProtocolError(GaptdError):
     """A reply isn't the one that is due: no JSON, another number, another name."""
+
+
+class ProgramMissing(GaptdError):
+    """The command that should start the program can't be run."""
+
+    def __init__(self, program: Sequence[str], error: OSError) -> None:
+        super().__init__(f"the program can't be started by {' '.join(program)}: {error.strerror or error}. Its command is what --program "
+                         f"says, or else the environment variable GAPTD, or else gaptd.sh of the repository")
+        self.program = list(program)
 
 
 class ProgramEnded(GaptdError):
@@ -151,7 +160,7 @@ class NoPartition(JobRefused):
 
 
 class NotPrenex(JobRefused):
-    """The formula `formula` on the side `side` isn't quantifiers of one kind over a formula without any."""
+    """The formula `formula` on the side `side` isn't weak quantifiers alone (! on the left, ? on the right) over a formula without any."""
 
     kind = "not_prenex"
 

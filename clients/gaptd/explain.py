@@ -9,12 +9,12 @@ from __future__ import annotations
 
 import argparse
 import difflib
-import re
 import sys
-from typing import Any, Callable, Dict, Iterable, Iterator, List, Mapping, Optional, Tuple
+from typing import Any, Callable, Dict, Iterable, Iterator, List, Mapping, Optional, Set, Tuple
 
 from . import clauses, formulas, tptp
-from .client import Reply, Session, add_program, guarded, reading_jobs
+from .client import NAME_LENGTH, Reply, Session, add_program, guarded, send_file
+from .operations import ASKED, HELD, PAIR, near, without_suffix
 from .rules import RULES, Definition, Definitions, Sequent, auxiliary, main_sequent
 
 Job = Mapping[str, Any]
@@ -30,6 +30,20 @@ class History:
     def add(self, job: Any, reply: Reply) -> None:
         if reply.job is not None:
             self.jobs.setdefault(reply.job, (job, reply))
+
+    def using(self, name: str) -> List[str]:
+        """The definitions that a job uses, or that the jobs use from whose proofs its own is made."""
+        found: Dict[str, None] = {}
+        seen: Set[int] = set()
+        waiting = [name]
+        while waiting:
+            job, _ = self.jobs.get(without_suffix(waiting.pop()), ({}, None))
+            if not isinstance(job, dict) or id(job) in seen:
+                continue
+            seen.add(id(job))
+            found.update(dict.fromkeys(one for one in job.get("using", ()) if isinstance(one, str)))
+            waiting.extend(job[field] for field in ("proof", "expansion") if isinstance(job.get(field), str))
+        return list(found)
 
     def definitions(self, job: Job) -> Definitions:
         """The definitions that a job uses."""
@@ -213,7 +227,8 @@ def pointed(text: str, at: int) -> Iterator[str]:
 
 def text_fault(job: Job, error: Error, history: History) -> Iterator[str]:
     path = error.get("field", "text")
-    yield f"the text {path} has a fault at byte {error['at']}: {TEXT_FAULTS.get(error['what'], error['what'])}"
+    whole = f"the text of {path}" if "field" in error else "the problem text"
+    yield f"{whole} has a fault at byte {error['at']}: {TEXT_FAULTS.get(error['what'], error['what'])}"
     text = at_field(job, path)
     if isinstance(text, str):
         yield from pointed(text, error["at"])
@@ -237,26 +252,61 @@ TEXT_FAULTS: Dict[str, str] = {
 
 
 def bad_field(job: Job, error: Error, history: History) -> Iterator[str]:
-    found = at_field(job, error["field"])
-    yield f"the field {error['field']} " + ("is missing" if found is None else f"can't be {found!r}")
+    path = error["field"]
+    found = at_field(job, path)
+    yield f"the field {path} " + ("is missing" if found is None else f"can't be {found!r}")
+    if path.endswith("/rule") and isinstance(found, str):
+        yield from listed("rules", found, RULES)
+    elif path == "job":
+        yield f"  a job's name is 1 to {NAME_LENGTH} letters, digits, _ and -"
+
+
+def bad_operation(job: Job, error: Error, history: History) -> Iterator[str]:
+    yield f"there is no operation {job.get('op')}"
+    yield from listed("operations", str(job.get("op")), HELD)
+
+
+def listed(what: str, word: str, known: Iterable[str]) -> Iterator[str]:
+    """The known words that a wrong one is like, or where there are none all of them."""
+    like = near(word, known)
+    yield f"  {what} like it: {', '.join(like)}" if like else f"  the {what} are {', '.join(known)}"
 
 
 def unknown_name(job: Job, error: Error, history: History) -> Iterator[str]:
     yield f"no earlier job has the name {error['name']}"
-    near = difflib.get_close_matches(error["name"], history.jobs, 3)
-    if near:
-        yield f"  names like it: {', '.join(near)}"
+    name, _, suffix = error["name"].rpartition(".")
+    if name in history.jobs:
+        yield f"  there is a job {name}, and .{suffix} is no suffix: the two proofs of a pair end in .first and .second"
+        return
+    like = near(error["name"], history.jobs)
+    if like:
+        yield f"  names like it: {', '.join(like)}"
 
 
 def wrong_kind(job: Job, error: Error, history: History) -> Iterator[str]:
-    name = re.sub(r"\.(first|second)\Z", "", error["name"])
+    name = without_suffix(error["name"])
     given, reply = history.jobs.get(name, ({}, None))
     if reply is None or reply.error is None:
-        yield f"{error['name']} is a job by {given.get('op', 'another operation')}, which holds no value of the kind that is asked for"
+        yield from holds_another(job, error["name"], given)
         return
     yield f"{error['name']} was refused itself (and keeps its name all the same):"
     for line in explain(given, reply.error, history).splitlines():
         yield "  " + line
+
+
+def holds_another(job: Job, name: str, given: Job) -> Iterator[str]:
+    """What an accepted job holds, and what the field asks for that names it."""
+    base, operation = without_suffix(name), str(given.get("op", "another operation"))
+    found = operation in ("sat", "prove")
+    held = "a proof only where it found a refutation" if found else HELD.get(operation, "another value")
+    yield f"{base} is a job by {operation}, which holds {held}"
+    if base != name and held != PAIR:
+        yield "  only a pair of proofs is named with a suffix"
+        return
+    for field, kinds in ASKED.items():
+        if (name == job.get(field) or (field == "using" and name in (job.get(field) or ()))) and held not in kinds:
+            yield f"  the field {field} asks for {' or '.join(kinds)}" + (f": say {name}.first or {name}.second" if held == PAIR else "")
+            return
 
 
 def falsified(job: Job, error: Error, history: History) -> Iterator[str]:
@@ -266,7 +316,6 @@ def falsified(job: Job, error: Error, history: History) -> Iterator[str]:
 SENTENCES: Dict[str, str] = {
     "line_too_long": "the line has more than 16,777,216 bytes",
     "json": "the line isn't JSON as gaptd reads it: UTF-8, at most 127 levels, no lone surrogate",
-    "op": "there is no operation {op}",
     "name_taken": "an earlier line has the name {job}, which it keeps even if it was refused: take another one",
     "empty": "the list of steps is empty",
     "budget": "the budget doesn't suffice: set the field budget, at most 1000000000",
@@ -274,7 +323,7 @@ SENTENCES: Dict[str, str] = {
     "cut": "the proof has a cut, at step {step} of what show gives: eliminate the cuts first",
     "quantified": "on the {side} there is a quantifier in {formula}",
     "partition": "on the {side}, {formula} is not in just the sequents that it should be in",
-    "not_prenex": "on the {side}, {formula} is not quantifiers of one kind over a formula without any",
+    "not_prenex": "on the {side}, {formula} is not weak quantifiers alone (! on the left, ? on the right) over a formula without any",
     "defined": "on the {side}, {formula} has a defined symbol: unfold it first",
     "node": "node {node} of the expansion is wrong: {cause}",
     "root": "root {root} of the expansion is wrong: {cause}",
@@ -303,7 +352,7 @@ def other(job: Job, error: Error, history: History) -> Iterator[str]:
 Explainer = Callable[[Job, Error, History], Iterable[str]]
 EXPLAINERS: Dict[str, Explainer] = {
     "step": step, "refutation": refutation, "formula": text_fault, "tptp": text_fault, "field": bad_field, "unknown_name": unknown_name,
-    "kind": wrong_kind, "falsified": falsified,
+    "kind": wrong_kind, "falsified": falsified, "op": bad_operation,
 }
 
 
@@ -314,7 +363,7 @@ def main() -> int:
     words = parser.parse_args()
     history = History()
     with Session(words.program) as session:
-        exchanged = session.send_all(reading_jobs(words.file))
+        exchanged = send_file(session, words.file)
     refused = 0
     for job, reply in exchanged:
         if reply.error is not None:

@@ -11,22 +11,29 @@ import sys
 from typing import Callable, Dict, Iterable, Iterator, List, Sequence, Set, Tuple, Type, Union
 
 from .syntax import (KIND_NAMES, NUMBERED, All, And, App, Atom, Binary, Bound, Ex, Falsity, Formula, Imp, Not, Or, Quantified, Term, Truth,
-                     Var, formula_key, free_variables, instance, is_equation, members, substitute, substitute_term, term_variables)
+                     Var, atoms_of, closure, formula_key, free_variables, instance, is_equation, map_terms, members, substitute,
+                     substitute_term, subterms, symbols_of, term_variables, terms_of)
 
 __all__ = [
     "KIND_NAMES", "NUMBERED", "All", "And", "App", "Atom", "Binary", "Bound", "Ex", "Falsity", "Formula", "Imp", "Not", "Or", "Quantified",
-    "Term", "Truth", "Var", "formula_key", "free_variables", "instance", "is_equation", "members", "substitute",
-    "substitute_term", "term_variables", "TextError", "Printer", "canonical", "formula", "formula_text", "name_text", "rising", "term",
-    "term_text", "unquoted", "variable", "variables_of",
+    "Term", "Truth", "Var", "atoms_of", "closure", "formula_key", "free_variables", "instance", "is_equation", "map_terms", "members",
+    "substitute", "substitute_term", "subterms", "symbols_of", "term_variables", "terms_of", "TextError", "Printer", "applied", "canonical",
+    "formula", "formula_text", "name_text", "rising", "term", "term_text", "unquoted", "variable", "variables_of",
 ]
 
 
 class TextError(ValueError):
     """A text is no formula (term, problem); `at` is the place of the faulty token."""
 
-    def __init__(self, text: str, at: int, what: str) -> None:
-        super().__init__(f"{what} at {at} in {text!r}" if len(text) < 200 else f"{what} at {at}")
-        self.text, self.at, self.what = text, at, what
+    def __init__(self, text: str, at: int, what: str, file: str = "") -> None:
+        line, column = text.count("\n", 0, at) + 1, at - text.rfind("\n", 0, at)
+        plain = f"{what} at {at} in {text!r}" if len(text) < 200 else f"{what} at {at}"
+        super().__init__(f"{file}, line {line}, column {column}: {what}" if file else plain)
+        self.text, self.at, self.what, self.file = text, at, what, file
+
+    def in_file(self, file: str) -> "TextError":
+        """The same fault with the name of the file whose text it is, if that isn't said yet."""
+        return self if self.file else TextError(self.text, self.at, self.what, file)
 
 
 # Reading

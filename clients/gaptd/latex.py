@@ -9,7 +9,7 @@ from .formulas import All, And, Atom, Bound, Ex, Falsity, Formula, Imp, Not, Pri
 from .proofs import Proof, subproofs
 from .rules import Sequent
 
-Shown = Union[Proof, Expansion]
+Shown = Union[Proof, Expansion, Sequent]
 
 # Each drawing is a page of its own, as large as it has to be.
 PREAMBLE = r"""\documentclass{article}
@@ -201,8 +201,21 @@ def by_text(by: str) -> str:
     return term(formulas.term(by))
 
 
+def sequent_drawings(title: str, end: Sequent) -> Iterator[str]:
+    """A page for a sequent by itself, with its formulas below each other."""
+    left, right = ([formula(text) for text in formulas.rising(side)] for side in (end.left, end.right))
+    rows = r" \\ ".join([*left, r"\vdash", *right])
+    yield f"\\drawn{{{escaped(title)}}}{{$\\begin{{array}}{{l}} {rows} \\end{{array}}$}}\n"
+
+
+def drawings(title: str, shown: Shown) -> Iterator[str]:
+    """The pages of what is shown."""
+    if isinstance(shown, Sequent):
+        return sequent_drawings(title, shown)
+    return proof_drawings(title, shown) if isinstance(shown, Proof) else expansion_drawings(title, shown)
+
+
 def document(shown: Sequence[Tuple[str, Shown]]) -> str:
     """A LaTeX document with a page for each drawing."""
-    pages = [one for title, what in shown
-             for one in (proof_drawings(title, what) if isinstance(what, Proof) else expansion_drawings(title, what))]
+    pages = [one for title, what in shown for one in drawings(title, what)]
     return PREAMBLE + "".join(pages) + "\\end{document}\n"

@@ -22,7 +22,7 @@ from dataclasses import dataclass, replace
 from typing import Any, Callable, Dict, Iterable, List, Mapping, Optional, Sequence, Tuple
 
 from . import formulas
-from .client import Session, add_program, guarded, reading_jobs
+from .client import Session, add_program, guarded, send_file
 from .formulas import Formula
 from .rules import RULES, Definition, Definitions, RuleError, Sequent, auxiliary, main_sequent
 
@@ -280,22 +280,23 @@ def ending(proof: Proof, end: Sequent) -> Proof:
     return replace(proof, end=end)
 
 
-def pruned(proof: Proof) -> Proof:
+def pruned(proof: Proof, definitions: Optional[Definitions] = None) -> Proof:
     """The proof without formulas and inferences that it doesn't need: from the leaves down each conclusion has what is left of its premises
     without their auxiliary formulas, and the main formula. A premise that has none of its auxiliary formulas takes the inference's place.
+    Without their definitions inferences by `defL` and `defR` stay as they are.
     """
     kept: Dict[int, Proof] = {}
     for part in subproofs(proof):
-        kept[id(part)] = pruned_inference(part, tuple(kept[id(premise)] for premise in part.premises))
+        kept[id(part)] = pruned_inference(part, tuple(kept[id(premise)] for premise in part.premises), definitions)
     return ending(kept[id(proof)], proof.end)
 
 
-def pruned_inference(part: Proof, premises: Tuple[Proof, ...]) -> Proof:
+def pruned_inference(part: Proof, premises: Tuple[Proof, ...], definitions: Optional[Definitions] = None) -> Proof:
     """The last inference of a proof over premises with smaller end sequents, as small as can be."""
-    if part.rule in ("defL", "defR"):
+    if part.rule in ("defL", "defR") and definitions is None:
         return replace(part, premises=premises)
     end = main_sequent(part.rule, part.main)
-    for premise, aux in zip(premises, auxiliary(part.rule, part.main, part.term or part.var or "")):
+    for premise, aux in zip(premises, auxiliary(part.rule, part.main, part.term or part.var or "", definitions)):
         if premise.end - aux == premise.end:
             return premise
         end = end | (premise.end - aux)
@@ -307,7 +308,10 @@ def shorten(session: Session, name: str, as_name: Optional[str] = None, by: Call
     """The name of a job by which gaptd has checked a shorter proof of the same sequent, and that proof.
 
     It is shortened `by` a function on proofs. `fields` are further ones of the job `lk`, as `using`."""
-    shown = from_steps(session.run("show", of=name).ok["steps"])
+    ok = session.run("show", of=name).ok
+    if "steps" not in ok:
+        raise ProofError(f"{name} holds expansion trees, and no proof that could be shortened")
+    shown = from_steps(ok["steps"])
     shorter = by(shown)
     reply = session.run("lk", as_name or f"{name.replace('.', '-')}-short", steps=steps(shorter), **fields)
     if Sequent.of(reply.ok["left"], reply.ok["right"]) != shown.end:
@@ -323,7 +327,7 @@ def main() -> int:
     parser.add_argument("name", help="the job whose proof is taken")
     words = parser.parse_args()
     with Session(words.program) as session:
-        session.send_all(reading_jobs(words.file))
+        send_file(session, words.file)
         name, proof = shorten(session, words.name, by=pruned if words.prune else without_weak)
     print(json.dumps(lk_job(proof, name), separators=(",", ":")))
     return 0

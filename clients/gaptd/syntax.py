@@ -129,6 +129,20 @@ def map_terms(change: Callable[[Term, int], Term], whole: Formula, depth: int = 
     return whole
 
 
+def closure(whole: Formula) -> Formula:
+    """The formula with a universal quantifier for each free variable, the one that occurs first outermost."""
+    for name in reversed(free_variables(whole)):
+        whole = All(map_terms(lambda part, depth: bound(part, name, depth), whole))
+    return whole
+
+
+def bound(part: Term, name: str, index: int) -> Term:
+    """The term with a bound variable in place of a free one."""
+    if isinstance(part, Var):
+        return Bound(index) if part.name == name else part
+    return App(part.name, tuple(bound(arg, name, index) for arg in part.args)) if isinstance(part, App) else part
+
+
 def instance(quantified: Union[All, Ex], by: Term) -> Formula:
     """The body of a quantified formula with a term for its variable."""
 
@@ -154,15 +168,36 @@ def substitute(whole: Formula, images: Mapping[str, Term]) -> Formula:
 
 def terms_of(whole: Formula) -> Iterator[Term]:
     """The arguments of the formula's atoms, from the left."""
+    for atom in atoms_of(whole):
+        yield from atom.args
+
+
+def subterms(part: Term) -> Iterator[Term]:
+    """The term and the terms in it."""
+    yield part
+    if isinstance(part, App):
+        for arg in part.args:
+            yield from subterms(arg)
+
+
+def atoms_of(whole: Formula) -> Iterator[Atom]:
+    """The atoms of a formula, from the left."""
     if isinstance(whole, Atom):
-        yield from whole.args
+        yield whole
     elif isinstance(whole, Not):
-        yield from terms_of(whole.part)
+        yield from atoms_of(whole.part)
     elif isinstance(whole, Binary):
-        yield from terms_of(whole.left)
-        yield from terms_of(whole.right)
+        yield from atoms_of(whole.left)
+        yield from atoms_of(whole.right)
     elif isinstance(whole, Quantified):
-        yield from terms_of(whole.body)
+        yield from atoms_of(whole.body)
+
+
+def symbols_of(whole: Formula) -> Iterator[str]:
+    """The names of the predicates and of the functions of a formula."""
+    for atom in atoms_of(whole):
+        yield atom.name
+        yield from (part.name for arg in atom.args for part in subterms(arg) if isinstance(part, App))
 
 
 def term_variables(part: Term) -> List[str]:
@@ -188,24 +223,45 @@ def free_variables(whole: Formula) -> List[str]:
 KINDS: Tuple[type, ...] = (Atom, Truth, Falsity, Not, And, Or, Imp, All, Ex)
 
 
-def term_key(part: Term) -> tuple:
+# A key is one flat tuple, each symbol before its parts: a symbol says how many parts come, so such keys rise as nested ones would, and two
+# of them are compared in time linear in their length.
+
+def add_term_key(part: Term, key: List[object]) -> None:
     if isinstance(part, Var):
         number = NUMBERED.match(part.name)
-        return (0, 1, int(number.group(1))) if number else (0, 0, part.name)
-    if isinstance(part, Bound):
-        return (1, part.index)
-    return (2, part.name, len(part.args), *map(term_key, part.args))
+        key += (0, 1, int(number.group(1))) if number else (0, 0, part.name)
+    elif isinstance(part, Bound):
+        key += (1, part.index)
+    else:
+        key += (2, part.name, len(part.args))
+        for arg in part.args:
+            add_term_key(arg, key)
+
+
+def add_formula_key(whole: Formula, key: List[object]) -> None:
+    key.append(KINDS.index(type(whole)))
+    if isinstance(whole, Atom):
+        key += (whole.name, len(whole.args))
+        for arg in whole.args:
+            add_term_key(arg, key)
+    elif isinstance(whole, Not):
+        add_formula_key(whole.part, key)
+    elif isinstance(whole, Binary):
+        add_formula_key(whole.left, key)
+        add_formula_key(whole.right, key)
+    elif isinstance(whole, Quantified):
+        add_formula_key(whole.body, key)
+
+
+def term_key(part: Term) -> tuple:
+    """A key by which terms rise as gaptd's replies list them."""
+    key: List[object] = []
+    add_term_key(part, key)
+    return tuple(key)
 
 
 def formula_key(whole: Formula) -> tuple:
     """A key by which formulas rise as gaptd's replies list them."""
-    kind = KINDS.index(type(whole))
-    if isinstance(whole, Atom):
-        return (kind, whole.name, len(whole.args), *map(term_key, whole.args))
-    if isinstance(whole, Not):
-        return (kind, formula_key(whole.part))
-    if isinstance(whole, Binary):
-        return (kind, formula_key(whole.left), formula_key(whole.right))
-    if isinstance(whole, Quantified):
-        return (kind, formula_key(whole.body))
-    return (kind,)
+    key: List[object] = []
+    add_formula_key(whole, key)
+    return tuple(key)

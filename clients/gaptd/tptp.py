@@ -20,6 +20,7 @@ from typing import Any, Dict, Iterator, List, Optional, Sequence, Tuple
 from . import formulas
 from .clauses import Clause
 from .client import guarded
+from .files import faults_in, read_text
 from .formulas import TextError
 
 # What an entry consists of, as far as its end is looked for: quoted texts and comments hide brackets and points.
@@ -80,14 +81,14 @@ def entries(text: str) -> Iterator[Entry]:
             yield entry_of(found, text)
             found = []
     if found:
-        raise TextError(text, found[0][2], "an entry without end")
+        raise TextError(text, found[0][2], "an entry without its point at the end")
 
 
 def entry_of(found: Sequence[Piece], text: str) -> Entry:
     signs = [piece[1] for piece in found]
     at = found[0][2]
     if len(found) < 5 or signs[1] != "(" or signs[-2] != ")":
-        raise TextError(text, at, "no entry")
+        raise TextError(text, at, "no entry of TPTP, which is language(name,role,formula).")
     return Entry(formulas.unquoted(signs[0]), tuple(split_fields(found[2:-2], text)), text[at:found[-1][2] + 1], at)
 
 
@@ -107,14 +108,17 @@ def text_of(some: Sequence[Piece], text: str) -> str:
     return text[some[0][2]:some[-1][2] + len(some[-1][1])] if some else ""
 
 
-def resolved(path: Path, around: Sequence[Path] = ()) -> Iterator[Entry]:
-    """The entries of a file, those of included files in place of each `include`."""
+def resolved(path: Path, text: str, around: Sequence[Path] = ()) -> Iterator[Entry]:
+    """The entries of a file with this text, those of included files in place of each `include`."""
     if path.resolve() in around:
-        raise TextError(str(path), 0, "a file that includes itself")
-    for entry in entries(path.read_text(encoding="utf-8")):
+        raise TextError("", 0, "it includes itself", str(path))
+    with faults_in(path):
+        found = list(entries(text))
+    for entry in found:
         if entry.language == "include":
             wanted = chosen(entry)
-            for inside in resolved(included(entry.name, path), [*around, path.resolve()]):
+            there = included(entry.name, path)
+            for inside in resolved(there, read_text(there), [*around, path.resolve()]):
                 if wanted is None or inside.name in wanted:
                     yield inside
         else:
@@ -163,10 +167,11 @@ def dimacs(text: str) -> Iterator[str]:
 
 def problem_text(path: Path) -> str:
     """The text of a problem file, without includes and in TPTP's syntax."""
-    text = path.read_text(encoding="utf-8")
+    text = read_text(path)
     if path.suffix in (".cnf", ".dimacs") or re.match(r"(c\b[^\n]*\n|\s)*p\s+cnf\s", text):
-        return "".join(f"{line}\n" for line in dimacs(text))
-    return "".join(f"{entry.text}\n" for entry in resolved(path))
+        with faults_in(path):
+            return "".join(f"{line}\n" for line in dimacs(text))
+    return "".join(f"{entry.text}\n" for entry in resolved(path, text))
 
 
 def problem_job(path: Path, name: str) -> Dict[str, Any]:
@@ -175,18 +180,25 @@ def problem_job(path: Path, name: str) -> Dict[str, Any]:
 
 
 def clauses_of(text: str) -> List[Clause]:
-    """The clauses of a problem's `cnf` entries, in order."""
-    return [Clause.read(entry.body) for entry in entries(text) if entry.language == "cnf"]
+    """The clauses of a problem's `cnf` entries, in order. Raises TextError."""
+    return [clause_of(entry) for entry in entries(text) if entry.language == "cnf"]
+
+
+def clause_of(entry: Entry) -> Clause:
+    try:
+        return Clause.read(entry.body)
+    except TextError as error:
+        raise TextError(error.text, error.at, f"the entry {entry.name}: {error.what}") from error
 
 
 def job_name(path: Path) -> str:
     """A name for a file's job: its own, with - for what a name of a job can't have."""
-    return re.sub(r"[^A-Za-z0-9_-]", "-", path.stem)[:64] or "problem"
+    return "problem" if str(path) == "-" else re.sub(r"[^A-Za-z0-9_-]", "-", path.stem)[:64] or "problem"
 
 
 def main() -> int:
     parser = argparse.ArgumentParser(prog="python3 -m gaptd.tptp", description="A problem file as a job of gaptd.")
-    parser.add_argument("file", type=Path, help="a file in TPTP or DIMACS")
+    parser.add_argument("file", type=Path, help="a file in TPTP or DIMACS; - is the standard input")
     parser.add_argument("--job", help="the name of the job; the file's without it")
     words = parser.parse_args()
     print(json.dumps(problem_job(words.file, words.job or job_name(words.file)), separators=(",", ":")))

@@ -18,12 +18,14 @@ import re
 import sys
 from dataclasses import dataclass, field
 from pathlib import Path
-from typing import Any, Dict, Iterator, List, NamedTuple, Optional, Sequence, Tuple
+from typing import Any, Callable, Dict, Iterator, List, NamedTuple, Optional, Sequence, Tuple
 
 from . import clauses, formulas, tptp
 from .clauses import Clause, Literal, Refutation, RefutationError
 from .client import guarded
+from .files import file_name, read_text
 from .formulas import App, Atom, Term, Var
+from .progress import Progress
 
 
 class Inference(NamedTuple):
@@ -97,8 +99,8 @@ def read_spass(text: str) -> List[Inference]:
 
 
 def spass_atoms(text: str) -> Iterator[Atom]:
-    """The atoms of one side of a clause, each with marks like `*`, `*l` and `+` behind it."""
-    tokens = SPASS_TOKEN.findall(re.sub(r"[*+][*+l]*(?=\s|\Z)", " ", text))
+    """The atoms of one side of a clause, each with marks like `*`, `*l`, `*r` and `+` behind it."""
+    tokens = SPASS_TOKEN.findall(re.sub(r"[*+][*+lr]*(?=\s|\Z)", " ", text))
     while tokens:
         part = spass_term(tokens, False)
         assert isinstance(part, App)
@@ -254,12 +256,14 @@ class Replay:
 
 # A whole refutation
 
-def refutation(inferences: Sequence[Inference], inputs: Sequence[Clause]) -> List[Dict[str, Any]]:
-    """The steps of the operation `resolution` for a prover's refutation of these clauses. Raises RefutationError."""
+def refutation(inferences: Sequence[Inference], inputs: Sequence[Clause], done: Callable[[], None] = lambda: None) -> List[Dict[str, Any]]:
+    """The steps of the operation `resolution` for a prover's refutation of these clauses; `done` is called at each inference. Raises
+    RefutationError."""
     made = Refutation(inputs)
     numbers: Dict[str, int] = {}
     for inference in inferences:
         numbers[inference.name] = input_step(made, inference) if not inference.parents else derived_step(made, inference, numbers)
+        done()
     last = numbers[inferences[-1].name]
     if made.clauses[last].literals:
         raise RefutationError("the last clause isn't empty")
@@ -272,8 +276,8 @@ def input_step(made: Refutation, inference: Inference) -> int:
         found = Replay(made, [made.add({"input": number})], inference.clause).run(0)
         if found is not None:
             return found
-    raise RefutationError(f"{inference.name}, {inference.clause}, is no clause of the problem. Of a problem with fof entries leave the "
-                          f"file away, so that the prover's clauses are the problem")
+    raise RefutationError(f"{inference.name}, {inference.clause}, is no clause of the problem. A problem with fof entries is proved by "
+                          f"python3 -m gaptd.fof; or leave it away here, so that the prover's clauses are the problem")
 
 
 def derived_step(made: Refutation, inference: Inference, numbers: Dict[str, int]) -> int:
@@ -299,8 +303,10 @@ def jobs(proof: str, problem: Optional[str], problem_name: str = "clauses", name
     """The jobs for a prover's text: its problem, if need be made of the prover's own clauses, and the refutation."""
     inferences = read_inferences(proof)
     text = problem if problem is not None else problem_of(inferences)
+    with Progress(len(inferences)) as progress:
+        steps = refutation(inferences, tptp.clauses_of(text), progress.step)
     return [{"job": problem_name, "op": "problem", "text": text},
-            {"job": name, "op": "resolution", "problem": problem_name, "steps": refutation(inferences, tptp.clauses_of(text))}]
+            {"job": name, "op": "resolution", "problem": problem_name, "steps": steps}]
 
 
 def main() -> int:
@@ -309,7 +315,11 @@ def main() -> int:
     parser.add_argument("--problem", type=Path, help="the problem, a file in TPTP or DIMACS; without it the prover's own clauses")
     words = parser.parse_args()
     problem = tptp.problem_text(words.problem) if words.problem else None
-    for job in jobs(words.proof.read_text(encoding="utf-8"), problem):
+    try:
+        made = jobs(read_text(words.proof), problem)
+    except (RefutationError, formulas.TextError) as error:
+        raise RefutationError(f"{file_name(words.proof)}: {error}") from error
+    for job in made:
         print(json.dumps(job, separators=(",", ":")))
     return 0
 

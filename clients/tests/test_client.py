@@ -1,13 +1,18 @@
 from __future__ import annotations
 
+import io
 import os
 import signal
+import subprocess
+import sys
+import time
 import unittest
 from typing import Any, Dict
+from unittest import mock
 
 from gaptd import errors
-from gaptd.client import Reply, Session, default_program
-from tests.support import EXAMPLES, command, session
+from gaptd.client import Names, Reply, Session, default_program
+from tests.support import CLIENTS, EXAMPLES, command, session
 
 AXIOM = {"rule": "ax", "main": "p", "premises": [], "left": ["p"], "right": ["p"]}
 AXIOM_SUMMARY = {"cuts": 0, "left": ["p"], "quants": 0, "right": ["p"]}
@@ -85,6 +90,30 @@ class Naming(unittest.TestCase):
             self.assertEqual([reply.job for reply in replies], ["a", "measure", "a-2", "a-3"])
             self.assertEqual(one.run("measure", proof="a").ok["size"], 1)
 
+    def test_names_that_are_provisional(self) -> None:
+        names = Names()
+        names.stand("a", "a-1")
+        with names.provisional():
+            names.stand("a", "a-2")
+            names.stand("a", "a-3")
+            names.stand("b", "b-1")
+            self.assertEqual([names.resolve(name) for name in ("a", "b", "b.first", "c.second")], ["a-3", "b-1", "b-1.first", "c.second"])
+        self.assertEqual([names.resolve(name) for name in ("a", "b")], ["a-1", "b"])
+        with self.assertRaises(KeyError), names.provisional():
+            names.stand("a", "a-4")
+            raise KeyError
+        self.assertEqual(names.resolve("a"), "a-1")
+
+    def test_many_names_do_not_slow_a_job_down(self) -> None:
+        """A job costs what it does without the names of a hundred thousand earlier ones, which once were copied at each."""
+        with session() as one:
+            for number in range(100_000):
+                one.names.stand(f"n{number}", f"n{number}")
+            began = time.process_time()
+            for _ in range(100):
+                one.run("lk", "a", steps=[AXIOM])
+            self.assertLess(time.process_time() - began, 0.2)
+
     def test_a_long_name_stays_within_its_limit(self) -> None:
         name = "n" * 64
         with session() as one:
@@ -120,10 +149,12 @@ class Crashes(unittest.TestCase):
         self.assertEqual(one.close(), 0)
 
     def test_a_program_that_refuses_its_words(self) -> None:
-        one = Session([*default_program(), "--workers", "0"], timeout=30)
-        with self.assertRaises(errors.ProgramEnded) as caught:
-            one.run("lk", steps=[AXIOM])
+        with mock.patch("sys.stderr", io.StringIO()) as said:
+            one = Session([*default_program(), "--workers", "0"], timeout=30)
+            with self.assertRaises(errors.ProgramEnded) as caught:
+                one.run("lk", steps=[AXIOM])
         self.assertEqual(caught.exception.status, 2)
+        self.assertIn("usage: gaptd", said.getvalue())
 
     def test_a_program_that_is_something_else(self) -> None:
         one = Session(["cat"], timeout=30)
@@ -141,6 +172,18 @@ class Command(unittest.TestCase):
         done = command("gaptd.client", given='{"job": "a",\n "op": "lk", "steps": [\n]}\n{"job":"b","op":"measure",\n"proof":"a"}')
         self.assertEqual(done.stdout, '{"error":{"kind":"empty"},"job":"a","n":1}\n{"error":{"kind":"kind","name":"a"},"job":"b","n":2}\n')
         self.assertEqual(done.returncode, 1)
+
+    def test_what_is_no_json(self) -> None:
+        done = command("gaptd.client", given='{"job":"a"}\n{"job" 3}\n')
+        self.assertEqual((done.returncode, done.stderr),
+                         (1, "client: the standard input, line 2, column 8: no JSON: Expecting ':' delimiter\n"))
+
+    def test_a_command_that_is_not_there(self) -> None:
+        done = subprocess.run([sys.executable, "-m", "gaptd.client"], cwd=CLIENTS, input="", capture_output=True, text=True, check=False,
+                              env={**os.environ, "GAPTD": "/nonexistent"})
+        self.assertEqual(done.returncode, 1)
+        self.assertIn("client: the program can't be started by /nonexistent: No such file or directory. Its command is", done.stderr)
+        self.assertIn("the environment variable GAPTD", done.stderr)
 
     def test_an_example(self) -> None:
         done = command("gaptd.client", str(EXAMPLES / "socrates.jobs"))

@@ -7,7 +7,7 @@ from typing import Any, Dict, List
 from gaptd.client import Reply
 from gaptd.explain import STEP_CAUSES, History, explain, wanted_of
 from gaptd.rules import Sequent
-from tests.support import CLIENTS, EXAMPLES, command, exchanges, session, steps_of
+from tests.support import CLIENTS, EXAMPLES, command, exchanges, needs, session, steps_of
 
 
 def explained(steps: List[Dict[str, Any]], **fields: Any) -> str:
@@ -86,6 +86,50 @@ class Others(unittest.TestCase):
     def test_a_fault_of_a_text_is_pointed_at(self) -> None:
         lines = explained([step("ax", ["p & q | r"], ["p"], main="p")]).splitlines()
         self.assertEqual(lines[-2:], ["  p & q | r", "        ^"])
+
+    def refusals(self, *jobs: Dict[str, Any]) -> List[str]:
+        """What is said of each job that is refused."""
+        history, found = History(), []
+        with session() as one:
+            for job, reply in one.send_all(jobs):
+                if reply.error is not None:
+                    found.append(explain(job, reply.error, history))
+                history.add(job, reply)
+        return found
+
+    def test_what_is_like_a_wrong_word(self) -> None:
+        rule, other, operation, unlike = self.refusals(
+            {"job": "a", "op": "lk", "steps": [{"rule": "andr"}]}, {"job": "b", "op": "lk", "steps": [{"rule": "zzz"}]},
+            {"job": "c", "op": "Cutelim"}, {"job": "d", "op": "help"})
+        self.assertEqual(rule.splitlines(), ["the field steps/0/rule can't be 'andr'", "  rules like it: andR, andL"])
+        self.assertIn("  the rules are ax, topR, botL,", other)
+        self.assertEqual(operation.splitlines(), ["there is no operation Cutelim", "  operations like it: cutelim"])
+        self.assertIn("  the operations are lk, problem,", unlike)
+
+    @needs("interpolate")
+    def test_the_kind_that_is_asked_for(self) -> None:
+        proof = {"job": "a", "op": "lk", "steps": [step("ax", ["p"], ["p"], main="p")]}
+        pair = {"job": "i", "op": "interpolate", "proof": "a", "first": {"left": ["p"], "right": []}, "second": {"left": [], "right": ["p"]}}
+        problem, whole, third, first = self.refusals(
+            proof, pair, {"job": "b", "op": "proves", "proof": "a", "problem": "a"}, {"job": "c", "op": "show", "of": "i"},
+            {"job": "d", "op": "measure", "proof": "i.third"}, {"job": "e", "op": "measure", "proof": "a.first"})
+        self.assertEqual(problem.splitlines(), ["a is a job by lk, which holds a proof", "  the field problem asks for a problem"])
+        self.assertEqual(whole.splitlines(), ["i is a job by interpolate, which holds a pair of proofs",
+                                              "  the field of asks for a proof or expansion trees: say i.first or i.second"])
+        self.assertIn("there is a job i, and .third is no suffix: the two proofs of a pair end in .first and .second", third)
+        self.assertIn("only a pair of proofs is named with a suffix", first)
+
+    @needs("herbrand")
+    def test_strong_quantifiers(self) -> None:
+        main = "![X]: ![Y]: ~r(X,Y)"
+        said, = self.refusals({"job": "a", "op": "lk", "steps": [step("ax", [main], [main], main=main)]},
+                              {"job": "b", "op": "herbrand", "proof": "a"})
+        self.assertEqual(said, "on the right, ![V0]: ![V1]: ~r(V0,V1) is not weak quantifiers alone (! on the left, ? on the right) over a "
+                               "formula without any")
+
+    def test_the_problem_s_text(self) -> None:
+        said, = self.refusals({"job": "a", "op": "problem", "text": "fof(a,axiom,p &)."})
+        self.assertTrue(said.startswith("the problem text has a fault at byte 15: "))
 
     def test_a_refused_job_that_is_named(self) -> None:
         history = History()

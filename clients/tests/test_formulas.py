@@ -54,6 +54,13 @@ class Texts(unittest.TestCase):
                     self.assertEqual(formulas.rising({canonical(text) for text in job["steps"][-1][side]}), reply["ok"][side])
         self.assertGreater(count, 100)
 
+    def test_keys_of_deep_terms(self) -> None:
+        """Deep formulas that differ inside are compared in time linear in their depth, by keys that aren't nested."""
+        texts = ["p(" + "f(" * 150 + end + ")" * 151 for end in ("c", "b", "a", "X", "V7")]
+        self.assertEqual(formulas.rising(texts * 100)[::100], [texts[k] for k in (3, 4, 2, 1, 0)])
+        key = formulas.formula_key(formulas.formula(texts[0]))
+        self.assertFalse([one for one in key if isinstance(one, tuple)])
+
     def test_a_chain_of_a_thousand_members(self) -> None:
         text = " & ".join(["p"] * 1_000)
         self.assertEqual(canonical(text), text)

@@ -146,3 +146,8 @@ class Weakening(unittest.TestCase):
         self.assertEqual(done.returncode, 0, done.stderr)
         self.assertEqual(json.loads(done.stdout), {"job": "b-short", "op": "lk", "steps": [
             {"rule": "ax", "main": "p", "premises": [], "left": ["p", "q"], "right": ["p"]}]})
+
+    def test_what_is_no_proof_can_not_be_shortened(self) -> None:
+        done = command("gaptd.proofs", str(EXAMPLES / "expansion.jobs"), "drinker")
+        self.assertEqual((done.returncode, done.stdout), (1, ""))
+        self.assertEqual(done.stderr, "proofs: drinker holds expansion trees, and no proof that could be shortened\n")

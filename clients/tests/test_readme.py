@@ -59,7 +59,24 @@ class Pages(unittest.TestCase):
             "{'job': 'b', 'n': 2, 'ok': {'cuts': 0, 'nodes': 1, 'quants': 0, 'size': 1}}",
         ])
 
-    def test_a_session(self) -> None:
-        program, = ["\n".join(block) for block in blocks(CLIENTS / "README.md") if block[0].startswith("from gaptd")]
-        wanted, = ["\n".join(block).rstrip() for block in blocks(CLIENTS / "README.md") if block[0].startswith("['man")]
-        self.assertEqual(run([sys.executable, "-c", program], TOP).rstrip(), wanted)
+    def test_programs_of_clients(self) -> None:
+        """Each block that is a program prints the block behind it."""
+        found = list(blocks(CLIENTS / "README.md"))
+        count = 0
+        for program, wanted in zip(found, found[1:]):
+            if program[0].startswith("from gaptd"):
+                with self.subTest(program[0]):
+                    self.assertEqual(run([sys.executable, "-c", "\n".join(program)], TOP).rstrip(), "\n".join(wanted).rstrip())
+                    count += 1
+        self.assertGreaterEqual(count, 2)
+
+    def test_a_dialogue(self) -> None:
+        prompt = "gaptd> "
+        dialogue, = [block for block in blocks(CLIENTS / "README.md") if block[0].startswith(prompt)]
+        given = "".join(f"{line[len(prompt):]}\n" for line in dialogue if line.startswith(prompt))
+        said = run([sys.executable, "-m", "gaptd.tactics"], CLIENTS, given).splitlines()[1:]
+        self.assertEqual(said, [line for line in dialogue if line and not line.startswith(prompt)])
+
+    def test_the_beginning_of_the_textbook(self) -> None:
+        block, = ["\n".join(block).rstrip() for block in blocks(CLIENTS / "README.md") if block[0].startswith("theorem ")]
+        self.assertIn(block, (TOP / "examples" / "textbook.tactics").read_text())

@@ -8,14 +8,15 @@ import subprocess
 import tempfile
 import unittest
 from pathlib import Path
-from typing import List, Tuple
+from typing import Any, List, Tuple
 
-from gaptd import latex, page, show
+from gaptd import formulas, latex, page, show
 from gaptd.client import reading_jobs
 from gaptd.expansions import Expansion
 from gaptd.proofs import Proof, allL, allR, andL, andR, ax, cut, from_steps, infer, steps, without_weak
+from gaptd.rules import Sequent
 from gaptd.show import Section
-from tests.support import EXAMPLES, SECONDS, command, needs, session, steps_of
+from tests.support import CLIENTS, EXAMPLES, SECONDS, command, needs, session, steps_of
 
 CHAIN = {
     "nodes": [
@@ -89,6 +90,75 @@ class Text(unittest.TestCase):
         self.assertIn(" weak over 0 ", done.stdout)
         self.assertNotIn("weak", command("gaptd.show", "--short", str(EXAMPLES / "cuts.jobs"), "a", "b").stdout)
 
+    def test_readable_texts(self) -> None:
+        jobs = """{"job":"a","op":"lk","steps":[{"rule":"ax","main":"![X,Y]: (p(X) <=> p(Y))","premises":[],
+            "left":["![X,Y]: (p(X) <=> p(Y))"],"right":["![X,Y]: (p(X) <=> p(Y))"]}]}"""
+        wanted = "![X,Y]: (p(X) <=> p(Y))"
+        self.assertIn(f"0  ax  {wanted} |- {wanted}\n", command("gaptd.show", "--readable", "-", "a", given=jobs).stdout)
+        self.assertIn(wanted.replace("<", "\\u003c"), command("gaptd.show", "--readable", "--html", "-", "a", given=jobs).stdout)
+        self.assertIn("![V0]: ![V1]:", command("gaptd.show", "-", "a", given=jobs).stdout)
+
+    def test_sequents_of_replies(self) -> None:
+        path = str(EXAMPLES / "each_operation.jobs")
+        done = command("gaptd.show", path, "h", "k", "i")
+        self.assertEqual(done.returncode, 0, done.stderr)
+        self.assertEqual(done.stdout.splitlines()[:13], [
+            "h: the Herbrand sequent, of 1 tuple", "", "left:", "  p(X)", "right:", "  p(X)", "",
+            "k: the problem's sequent", "", "left:", "  ~p(a)", "  ![V0]: p(V0)", "right:"])
+        self.assertIn("i: the interpolant ![V0]: p(V0), second proof", done.stdout)
+        self.assertIn('"kind":"sequent"', command("gaptd.show", "--html", path, "h").stdout)
+        self.assertIn(r"\mathrm{p}(\mathit{X}) \\ \vdash \\ \mathrm{p}(\mathit{X})", command("gaptd.show", "--latex", path, "h").stdout)
+
+    @needs("sat")
+    def test_models_and_closed_sets(self) -> None:
+        jobs = """{"job":"c","op":"problem","text":"cnf(a,axiom,p | q). cnf(b,axiom,~p). cnf(c,axiom,r | ~q)."} {"job":"s","op":"sat","problem":"c"}
+            {"job":"d","op":"problem","text":"cnf(a,axiom,p(a)). cnf(b,axiom,~q(X) | p(X))."} {"job":"t","op":"prove","problem":"d","rounds":1}
+            {"job":"e","op":"problem","text":"cnf(a,axiom,p(a)). cnf(b,axiom,~p(X))."} {"job":"u","op":"prove","problem":"e"}"""
+        done = command("gaptd.show", "-", "s", "t", "u", given=jobs)
+        self.assertEqual(done.returncode, 0, done.stderr)
+        model, closed, refutation = done.stdout.split("\n\n")[1::2]
+        self.assertIn("s: a model, in which just these atoms are true", done.stdout)
+        self.assertEqual(model.splitlines(), ["left:", "  q", "  r", "right:"])
+        self.assertEqual(sorted(closed.splitlines()[1:-1]), ["  p(a)", "  ~q(V0) | p(V0)"])
+        self.assertIn("cut p(a) over", refutation)
+
+    @needs("define")
+    def test_definitions(self) -> None:
+        jobs = """{"job":"d","op":"define","symbol":"e","vars":[],"body":"p"}
+            {"job":"a","op":"lk","using":["d"],"steps":[{"rule":"ax","main":"p","premises":[],"left":["p"],"right":["p"]},
+            {"rule":"weak","premises":[0],"left":["p","q"],"right":["p"]},
+            {"rule":"defR","main":"e","premises":[1],"left":["p","q"],"right":["e"]}]} {"job":"b","op":"cutelim","proof":"a"}
+            {"job":"u","op":"unfold","proof":"a"} {"job":"f","op":"eliminate","proof":"u"}"""
+        done = command("gaptd.show", "--short", "-", "a", "b", "u", "f", given=jobs)
+        self.assertEqual(done.returncode, 0, done.stderr)
+        self.assertEqual(done.stdout.count("1  defR over 0  p, q |- e"), 2)
+        self.assertEqual(done.stdout.count("0  ax  p, q |- p"), 2)
+
+    @needs("herbrand")
+    def test_a_theorem_for_a_variable(self) -> None:
+        """A theorem has a Herbrand sequent where its eigenvariable stands for the strong quantifier."""
+        half = allL(ax("p(X)"), "X", "![Y]: p(Y)")
+        with session() as one:
+            one.run("lk", "whole", steps=steps(allR(half, "X", "![Y]: p(Y)")))
+            one.run("lk", "half", steps=steps(half))
+            replies = one.batch([{"op": "herbrand", "proof": "whole"}, {"op": "herbrand", "proof": "half"}])
+        self.assertEqual([(reply.error or {}).get("kind") for reply in replies], ["not_prenex", None])
+
+    def test_names_that_can_not_be_shown(self) -> None:
+        wrong = {
+            "m": "show: m is a job by measure, which holds nothing that could be shown",
+            "zz": "show: there is no job zz in the file",
+            "t.first": "show: t is a job by lk, and only an interpolation's proofs are named with a suffix",
+        }
+        for name, what in wrong.items():
+            with self.subTest(name):
+                done = command("gaptd.show", str(EXAMPLES / "each_operation.jobs"), name)
+                self.assertEqual((done.returncode, done.stdout), (1, ""))
+                self.assertIn(what, done.stderr)
+        jobs = '{"job":"first","op":"lk","steps":[]}'
+        self.assertIn("first is refused as empty: the list of steps is empty", command("gaptd.show", "-", "first", given=jobs).stderr)
+        self.assertIn("there is no job frist in the file; names like it are first", command("gaptd.show", "-", "frist", given=jobs).stderr)
+
     @needs("expand")
     def test_expansions_of_the_program(self) -> None:
         with session() as one:
@@ -145,6 +215,36 @@ class Latex(unittest.TestCase):
             self.assertIn("Output written on a.pdf", done.stdout)
 
 
+def wide() -> Proof:
+    """A proof from many axioms, whose two premises stand more than a screen apart."""
+    axioms = [f"axiom_{number}(some_constant)" for number in range(26)]
+    leaf = ax(f"q({','.join(axioms)})")
+    premise = Proof("weak", Sequent.of([*axioms, "p"], ["r(a)"]), (leaf,))
+    return Proof("orL", Sequent.of(axioms, ["r(a)"]), (premise, premise), "p | p")
+
+
+# What a user does with a page, and what is seen then.
+LOOKING = """
+const [frame] = page.frames();
+const seen = {brief: page.byId.brief.checked, root: page.words(frame)[0], below: page.words(frame)[1], first: [frame.scrollLeft, frame.scrollTop]};
+frame.scrollLeft = 6000;
+frame.fire("scroll");
+seen.text = page.nodes(frame)[0].children[0].attributes.x;
+seen.rule = page.nodes(frame)[0].named("rule")[0].attributes.x;
+page.byId.brief.checked = false;
+page.byId.brief.fire("change");
+seen.full = page.words(frame)[1];
+seen.again = [frame.scrollLeft > 0, frame.scrollTop > 0, frame.scrollTop === frame.scrollHeight];
+page.nodes(frame)[0].named("context")[0].fire("click");
+seen.opened = page.words(frame)[0];
+const inner = page.nodes(frame)[1];
+const before = inner.children[0].attributes.x - frame.scrollLeft;
+inner.fire("click");
+seen.moved = Math.round(page.nodes(frame)[1].children[0].attributes.x - frame.scrollLeft - before);
+seen.folded = page.nodes(frame)[1].className;
+console.log(JSON.stringify(seen));
+"""
+
 BROWSERS = ("chromium", "chromium-browser", "google-chrome", "chrome")
 
 # Clicks on the root of each drawing, and then on the two buttons, and writes how many nodes are drawn after each.
@@ -158,7 +258,6 @@ counts.push(count());
 document.getElementById("fold").click();
 counts.push(count());
 document.getElementById("unfold").click();
-document.getElementById("brief").click();
 document.body.setAttribute("data-counts", counts.join(" "));
 </script>"""
 
@@ -192,6 +291,39 @@ class Page(unittest.TestCase):
         self.assertRegex(drawn, r'<tspan class="eigenvariable">X</tspan>')
         self.assertRegex(drawn, r"<tspan>\.\.</tspan><tspan> ⊢ </tspan>")
         self.assertEqual(drawn.count("NaN"), 0)
+
+    def looked_at(self, written: str, trial: str) -> Any:
+        """What a trial writes of a page, run by node with the elements that the page needs."""
+        node = shutil.which("node")
+        if node is None:
+            self.skipTest("there is no node")
+        with tempfile.TemporaryDirectory() as folder:
+            for name, text in (("page.html", written), ("trial.js", trial)):
+                (Path(folder) / name).write_text(text)
+            done = subprocess.run([node, str(CLIENTS / "tests" / "dom.js"), f"{folder}/page.html", f"{folder}/trial.js"],
+                                  capture_output=True, text=True, timeout=SECONDS, check=False)
+        self.assertEqual(done.returncode, 0, done.stderr)
+        return json.loads(done.stdout)
+
+    def test_a_root_with_many_axioms(self) -> None:
+        seen = self.looked_at(page.page("wide", [("w", wide())]), LOOKING)
+        self.assertTrue(seen["brief"])
+        self.assertEqual((seen["root"], seen["below"]), ("26 formulas ⊢ r(a)", "p, .. ⊢ .."))
+        self.assertGreater(seen["first"][0], 1_000)
+        self.assertTrue(6_000 < seen["text"] < 7_000, seen["text"])  # it is moved into the thousand points that are seen
+        self.assertTrue(6_000 < seen["rule"] < 7_000, seen["rule"])
+        self.assertTrue(seen["full"].startswith("axiom_0(some_constant), "))
+        self.assertEqual(seen["again"], [True, True, True])
+        self.assertTrue(seen["opened"].endswith("axiom_9(some_constant) ⊢ r(a)"))
+        self.assertEqual(seen["moved"], 0)
+        self.assertIn("folded", seen["folded"])
+
+    def test_all_samples_are_drawn(self) -> None:
+        samples = [*SAMPLES[:2], *SAMPLES[3:], ("a sequent", Sequent.of(["p"], ["q", "r"]))]
+        words = self.looked_at(page.page("samples", samples), "console.log(JSON.stringify(page.frames().map((one) => one.textContent)));")
+        self.assertEqual(words[4], "p⊢qr")
+        self.assertIn(".. ⊢ ", words[0])
+        self.assertFalse([one for one in words if "undefined" in one or "NaN" in one])
 
     def test_a_large_proof_is_drawn_in_part(self) -> None:
         drawn = self.browse(page.page("large", [("d", doubled(60))]))

@@ -59,6 +59,14 @@ class Files(unittest.TestCase):
             with self.subTest(text), self.assertRaises(TextError):
                 tptp.problem_text(self.write("a.cnf", text))
 
+    def test_faults_name_the_file(self) -> None:
+        self.write("a.ax", "fof(a,axiom,p).\nfof(b axiom,p.\n")
+        for name, text in (("a.p", "include('a.ax')."), ("a.cnf", "p cnf 1 1\n1 x 0\n")):
+            with self.subTest(name):
+                done = command("gaptd.tptp", str(self.write(name, text)))
+                self.assertEqual((done.returncode, done.stdout), (1, ""))
+                self.assertRegex(done.stderr, r"^tptp: \S*/a\.(ax|cnf), line 2, column [13]: ")
+
     def test_the_command(self) -> None:
         done = command("gaptd.tptp", str(self.write("two words.p", "fof(a,axiom,p).")))
         self.assertEqual(json.loads(done.stdout), {"job": "two-words", "op": "problem", "text": "fof(a,axiom,p).\n"})

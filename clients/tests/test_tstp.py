@@ -105,6 +105,11 @@ class Replays(unittest.TestCase):
         self.assertIn("![V0]: (V0 != 'Man' | ~q(V0))", left)
         self.assertEqual(len(left), 5)
 
+    def test_marks_of_spass(self) -> None:
+        proof = "1[0:Inp] ||  -> r(u,s(u))*r.\n2[0:Inp] || r(a,u)*l+ -> .\n3[0:Res:1.0,2.0] ||  -> .\n"
+        self.assertEqual(str(tstp.read_spass(proof)[0].clause), "r(U,s(U))")
+        self.assertEqual(self.imported(proof), ["![V0]: r(V0,s(V0))", "![V0]: ~r(a,V0)"])
+
     def test_clauses_of_spass(self) -> None:
         clause = tstp.read_spass("12[0:Res:1.0,2.1,2.0] man(u) || equal(f(u,x12),skc1)**+ -> p(y,w__dfg)* .")[0]
         self.assertEqual(str(clause.clause), "f(U,X12) != skc1 | ~man(U) | p(Y,w)")

@@ -1,0 +1,46 @@
+"""One line on a terminal that tells how far work is, once that has taken two seconds; where standard error is no terminal, nothing."""
+from __future__ import annotations
+
+import shutil
+import sys
+import time
+from typing import Optional, Type
+from types import TracebackType
+
+PATIENCE, PAUSE = 2.0, 0.2  # seconds before the line is shown, and between its changes
+BAR = 30
+
+
+class Progress:
+    """A line that is overwritten, and wiped at the end: a text, or with `total` a bar."""
+
+    def __init__(self, total: int = 0) -> None:
+        self.total, self.count = total, 0
+        self.is_shown = sys.stderr.isatty()
+        self.next = time.monotonic() + PATIENCE
+        self.width = 0
+
+    def tell(self, text: str) -> None:
+        """Shows a text, unless the last one is too fresh."""
+        if self.is_shown and time.monotonic() >= self.next:
+            self.next = time.monotonic() + PAUSE
+            self.write(text[:shutil.get_terminal_size().columns - 1])
+
+    def step(self, text: str = "") -> None:
+        """One more of `total` is done."""
+        self.count += 1
+        done = BAR * self.count // max(1, self.total)
+        self.tell(f"[{'#' * done}{'.' * (BAR - done)}] {self.count} of {self.total} {text}")
+
+    def write(self, text: str) -> None:
+        sys.stderr.write("\r" + text.ljust(self.width))
+        sys.stderr.flush()
+        self.width = len(text)
+
+    def __enter__(self) -> "Progress":
+        return self
+
+    def __exit__(self, kind: Optional[Type[BaseException]], error: Optional[BaseException], trace: Optional[TracebackType]) -> None:
+        if self.width:
+            self.write("")
+            sys.stderr.write("\r")

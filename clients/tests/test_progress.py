@@ -1,0 +1,32 @@
+from __future__ import annotations
+
+import io
+import unittest
+from unittest import mock
+
+from gaptd import progress
+
+
+class Terminal(io.StringIO):
+    def isatty(self) -> bool:
+        return True
+
+
+class Lines(unittest.TestCase):
+    def written(self, terminal: io.StringIO, seconds: float) -> str:
+        """What is written of three steps that take so many seconds each."""
+        now = [0.0]
+        with mock.patch("sys.stderr", terminal), mock.patch("time.monotonic", lambda: now[0]):
+            with progress.Progress(3) as one:
+                for name in "abc":
+                    now[0] += seconds
+                    one.step(name)
+        return terminal.getvalue()
+
+    def test_work_that_takes_long(self) -> None:
+        self.assertEqual(self.written(Terminal(), 1.5).split("\r"), [
+            "", "[####################..........] 2 of 3 b", "[##############################] 3 of 3 c", " " * 41, ""])
+
+    def test_work_that_is_soon_done_and_no_terminal(self) -> None:
+        self.assertEqual(self.written(Terminal(), 0.5), "")
+        self.assertEqual(self.written(io.StringIO(), 5), "")
