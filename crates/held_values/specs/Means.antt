@@ -1,8 +1,9 @@
 -- What the values that jobs hold, and the answers to jobs, stand for, over the graph that the proofs share.
 --     sense      what a value means, and nothing for a name that no job has
 --     Fits      the value may be given to an operation over this graph
---     IsAnswerOf      an outcome and a value are what is answered
+--     IsAnswered, IsAnsweredTo      an outcome and what a value means are what is answered, and what may be answered to what is asked for
 use Rattle.std.specs.Prelude.{◌≡◌, ◌⊎◌, Option, Some, None}
+use Rattle.fol.specs.Formed.{IsFormedPred}
 use Rattle.proof_graph.specs.declared.graph.Graph.{Graph}
 use Rattle.proof_graph.specs.Graphs.{IsOf}
 use Rattle.exp_tree.specs.Reads.{expansion_of}
@@ -13,8 +14,8 @@ use Rattle.operation_laws.specs.declared.refusals.Refusal.{Refusal}
 use Rattle.operation_laws.specs.declared.refusals.Refusal.TheVariants.{UnknownName, Kind, Empty, Step}
 use Rattle.held_values.specs.declared.held.Held.{Held}
 use Rattle.held_values.specs.declared.held.Held.TheVariants as held
-use Rattle.operation_laws.specs.Values.{Value, nothing, refused, lacking, proof, pair, problem, expansion}
-use Rattle.operation_laws.specs.Answers.{Answer, shown_refusal, shown_failure, shown_product, held_product}
+use Rattle.operation_laws.specs.Values.{Value, nothing, refused, lacking, proof, pair, problem, expansion, definition}
+use Rattle.operation_laws.specs.Answers.{Answer, shown_refusal, shown_failure, shown_product, held_product, Asked, one, elimination, May}
 use Rattle.operation_laws.specs.Answers as answers
 
 abbrev pub sense : Held → Option Value
@@ -26,8 +27,9 @@ sense (held.Proof r) = Some (proof r.tree)
 sense (held.Pair r s) = Some (pair r.tree s.tree)
 sense (held.Problem p) = Some (problem p)
 sense (held.Expansion e) = Some (expansion (expansion_of e))
+sense (held.Definition p) = Some (definition p)
 
--- references are of the graph, and a problem is such as is read
+-- references are of the graph, a problem is such as is read, and a symbol is well formed
 abbrev pub Fits : Graph → Held → Type 0
 Fits g held.Nothing = Unit {0}
 Fits g held.Refused = Unit {0}
@@ -37,6 +39,7 @@ Fits g (held.Proof r) = IsOf g r
 Fits g (held.Pair r s) = IsOf g r × IsOf g s
 Fits g (held.Problem p) = IsReadProblem p
 Fits g (held.Expansion e) = Unit {0}
+Fits g (held.Definition p) = IsFormedPred p
 
 -- the refusal shows a name
 abbrev pub ShowsName : Refusal → Type 0
@@ -45,15 +48,19 @@ ShowsName (Kind text) = Unit {0}
 ShowsName Empty = ⊥
 ShowsName (Step i cause) = ⊥
 
--- these two are the outcome and the value that are answered
-abbrev pub Is : Outcome × Held → Outcome → Held → Type 0
-Is answer outcome h = (answer.0 ≡ outcome) × (answer.1 ≡ h)
+-- an outcome and what the value of the job means
+abbrev pub Is : Outcome → Option Value → Outcome → Value → Type 0
+Is outcome meant wanted value = (outcome ≡ wanted) × (meant ≡ Some value)
 
--- An outcome with what the job holds. Where a refusal shows a name and there is no memory for that, want of memory is answered with the
--- value of a refusal, which no other answer has. Where memory ran out in the operation, want of it is answered with the value that later
--- jobs find of it.
-abbrev pub IsAnswerOf : Outcome × Held → Answer → Type 0
-IsAnswerOf answer (answers.refused r) = Is answer (shown_refusal r) held.Refused ⊎ (ShowsName r × Is answer Memory held.Refused)
-IsAnswerOf answer (answers.failed f) = Is answer (shown_failure f) held.Refused ⊎ Is answer Memory held.Unheld
-IsAnswerOf answer answers.lacking = Is answer Memory held.Unheld
-IsAnswerOf answer (answers.product p) = ((answer.0 ≡ shown_product p) × (sense answer.1 ≡ Some (held_product p))) ⊎ Is answer Memory held.Unheld
+-- They are what is answered. Where a refusal shows a name and there is no memory for that, want of memory is answered with the value of a
+-- refusal, which no other answer has. Where memory ran out in the operation, want of it is answered with the value that later jobs find of it.
+abbrev pub IsAnswered : Outcome → Option Value → Answer → Type 0
+IsAnswered outcome meant (answers.refused r) = Is outcome meant (shown_refusal r) refused ⊎ (ShowsName r × Is outcome meant Memory refused)
+IsAnswered outcome meant (answers.failed f) = Is outcome meant (shown_failure f) refused ⊎ Is outcome meant Memory lacking
+IsAnswered outcome meant answers.lacking = Is outcome meant Memory lacking
+IsAnswered outcome meant (answers.product p) = Is outcome meant (shown_product p) (held_product p) ⊎ Is outcome meant Memory lacking
+
+-- they are what may be answered to what an operation asks for
+abbrev pub IsAnsweredTo : Outcome → Option Value → Asked → Type 0
+IsAnsweredTo outcome meant (one a) = IsAnswered outcome meant a
+IsAnsweredTo outcome meant (elimination t) = (a : Answer) × May (elimination t) a × IsAnswered outcome meant a

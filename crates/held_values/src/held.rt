@@ -2,6 +2,7 @@
 ghost use Rattle.std.specs.Prelude.{◌≡◌, IfOk};
 
 use exp_tree::CheckedExp;
+use fol::Predicate;
 use proof_graph::ProofRef;
 use std::alloc::{AllocError, Global};
 use tptp_problem::Problem;
@@ -24,6 +25,8 @@ pub enum Held {
     Problem(Problem),
     /// Expansion trees that are an expansion proof of the sequent of their formulas.
     Expansion(CheckedExp),
+    /// A predicate symbol that stands for a formula.
+    Definition(Predicate),
 }
 
 impl Drop for Held {
@@ -36,13 +39,14 @@ impl Drop for Held {
             }
             Held::Problem(problem) => drop(problem),
             Held::Expansion(trees) => drop(trees),
+            Held::Definition(symbol) => drop(symbol),
             Held::Nothing | Held::Refused | Held::Unheld | Held::Unknown => {}
         }
     }
 }
 
 impl Held {
-    /// The same value, whose proofs, problem or trees are shared.
+    /// The same value, whose proofs, problem, trees or formula are shared.
     pub fn copy(&self, alloc: Global) -> Result<Held, AllocError>
         ensures { IfOk result (λ copy. copy ≡ self.now) }
     {
@@ -55,6 +59,7 @@ impl Held {
             Held::Pair(first, second) => Ok(Held::Pair(first.keep()?, second.keep()?)),
             Held::Problem(problem) => Ok(Held::Problem(problem.copy()?)),
             Held::Expansion(trees) => Ok(Held::Expansion(trees.copy(alloc)?)),
+            Held::Definition(symbol) => Ok(Held::Definition(symbol.copy()?)),
         }
     }
 }

@@ -3,13 +3,17 @@ ghost use Rattle.std.specs.Prelude.{◌≡◌, option_map, slice_get};
 ghost use Rattle.operation_laws.specs.Given.{names_in, without as without_suffix, first_name as first_of, second_name as second_of, pair_name as pair_of, base_name as base_of};
 
 use job_lang::Op;
+use job_words::Utf8Text;
 
 /// The name of a job that is written in an operation, by its place among them, in the order in which the fields are read.
 pub fn name_at(op: &Op, place: usize) -> Option<&str>
     ensures { option_map (λ name. name.now) result ≡ slice_get (names_in op.now) place }
 {
     match op {
-        Op::Lk { .. } | Op::Problem { .. } | Op::Tautology { .. } | Op::Expansion { .. } => None,
+        Op::Problem { .. } | Op::Tautology { .. } | Op::Expansion { .. } => None,
+        Op::Lk { using, .. } | Op::Define { using, .. } => {
+            using.as_slice().get(place).map(Utf8Text::as_str)
+        }
         Op::Proves { proof, problem } => match place {
             0 => Some(proof.as_str()),
             1 => Some(problem.as_str()),
@@ -19,6 +23,8 @@ pub fn name_at(op: &Op, place: usize) -> Option<&str>
         | Op::Measure { proof: text }
         | Op::Subst { proof: text, .. }
         | Op::Cutelim { proof: text, .. }
+        | Op::Eliminate { proof: text }
+        | Op::Unfold { proof: text }
         | Op::Expand { proof: text, .. }
         | Op::Fromexp {
             expansion: text,

@@ -1,5 +1,5 @@
 -- What the reading of a line gives is well formed.
-use Rattle.std.proofs.Common.{◌≡◌, ℕ, List, length, codes, Some, None, is_some, option_and_then, Result, Ok, Err, refl, ap, subst}
+use Rattle.std.proofs.Common.{◌≡◌, ℕ, List, length, codes, Some, None, is_some, option_and_then, Result, Ok, Err, refl, ap, subst, [], ◌∷◌, ◌++◌}
 use Rattle.std.specs.List.{All}
 use Rattle.fol.specs.declared.symbols.Var.{Var}
 use Rattle.fol.specs.Syntax.{Term, Formula}
@@ -28,11 +28,11 @@ use Rattle.serde_json.specs.Data.{Data, Members, no_members, member}
 use Rattle.serde_json.specs.Find.{get, as_str, as_object}
 use Rattle.job_lang.specs.declared.places.Place.{Place}
 use Rattle.job_lang.specs.declared.places.Place.TheVariants as places
-use Rattle.job_words.specs.declared.causes.JobCause.TheVariants.{Field, Op as UnknownOp}
+use Rattle.job_words.specs.declared.causes.JobCause.TheVariants.{Field}
 use Rattle.job_words.specs.declared.kinds.RuleKind.{RuleKind}
 use Rattle.job_words.specs.declared.kinds.RuleKind.TheVariants as kinds
 use Rattle.job_lang.specs.declared.jobs.Op.{Op}
-use Rattle.job_lang.specs.declared.jobs.Op.TheVariants.{Lk, Problem, Proves, Show, Measure, Subst, Cutelim, Resolution, Tautology, Expansion, Expand, Fromexp, Interpolate, Herbrand, Cutintro}
+use Rattle.job_lang.specs.declared.jobs.Op.TheVariants.{Lk, Problem, Proves, Show, Measure, Subst, Cutelim, Eliminate, Define, Unfold, Resolution, Tautology, Expansion, Expand, Fromexp, Interpolate, Herbrand, Cutintro}
 use Rattle.job_lang.specs.Places.{path}
 use Rattle.job_lang.specs.Fields.{Reading, ◌>>=◌, or_fault, text_at, list_at}
 use Rattle.job_lang.specs.Formulas.{in_field, formula_at, term_at, variable_at, side_at}
@@ -51,7 +51,9 @@ use Rattle.job_lang.specs.Resolutions.{input_step, subst_step, resolve_step, wro
 use Rattle.job_lang.specs.Problems as problems
 use Rattle.job_lang.proofs.FormedFields.{both_read, same_value, in_text, both_true, formula_formed, term_formed, variable_formed, each_formed, chosen, side_formed}
 use Rattle.job_lang.proofs.FormedExpansions.{flat_formed}
-use Rattle.job_lang.specs.Jobs.{value_of, name_of, proves_of, subst_of, cutelim_of, resolution_of, tautology_of, expansion_of, expand_of, fromexp_of, interpolate_of, herbrand_of, cutintro_of, budgeted_op_named, op_named, op_of, reads_named, reads_value, reads_job}
+use Rattle.job_lang.proofs.FormedDefinitions.{name_formed, variables_formed}
+use Rattle.job_lang.specs.Definitions.{name_at, variables_at, using_at}
+use Rattle.job_lang.specs.Jobs.{value_of, name_of, lk_of, define_of, eliminate_of, unfold_of, proves_of, subst_of, cutelim_of, resolution_of, tautology_of, expansion_of, expand_of, fromexp_of, interpolate_of, herbrand_of, cutintro_of, Reader, unbudgeted, budgeted, op_among, op_named, op_of, reads_named, reads_value, reads_job}
 
 module _ (place : Place) (d : Data) where
   -- a rule that names its main formula alone, and one that names a term or a variable too
@@ -207,10 +209,30 @@ part_formed place key d s is =
     sequent_formed place member.0 s object.1.1
 
 module _ (d : Data) (op : Op) where
-  in_lk : (steps_at d >>= λ read. Ok (Lk read)) ≡ Ok op → IsFormedOp op
+  in_lk : lk_of d ≡ Ok op → IsFormedOp op
   in_lk is =
-      let read = both_read (steps_at d) (λ x. Ok (Lk x)) op is in
-      subst IsFormedOp (same_value (Lk read.0) op read.1.1) (steps_formed d read.0 read.1.0)
+      let steps = both_read (steps_at d) _ op is in
+      let using = both_read (using_at d) (λ x. Ok (Lk steps.0 x)) op steps.1.1 in
+      subst IsFormedOp (same_value (Lk steps.0 using.0) op using.1.1) (steps_formed d steps.0 steps.1.0)
+
+  in_define : define_of d ≡ Ok op → IsFormedOp op
+  in_define is =
+      let symbol = both_read (name_at d) _ op is in
+      let vars = both_read (variables_at d) _ op symbol.1.1 in
+      let body = both_read (formula_at places.Top (codes "body") d) _ op vars.1.1 in
+      let using = both_read (using_at d) (λ x. Ok (Define symbol.0 vars.0 body.0 x)) op body.1.1 in
+      subst IsFormedOp (same_value (Define symbol.0 vars.0 body.0 using.0) op using.1.1)
+      (name_formed d symbol.0 symbol.1.0, (variables_formed d vars.0 vars.1.0, formula_formed places.Top d (codes "body") body.0 body.1.0))
+
+  in_eliminate : eliminate_of d ≡ Ok op → IsFormedOp op
+  in_eliminate is =
+      let read = both_read (text_at places.Top (codes "proof") d) (λ x. Ok (Eliminate x)) op is in
+      subst IsFormedOp (same_value (Eliminate read.0) op read.1.1) tt
+
+  in_unfold : unfold_of d ≡ Ok op → IsFormedOp op
+  in_unfold is =
+      let read = both_read (text_at places.Top (codes "proof") d) (λ x. Ok (Unfold x)) op is in
+      subst IsFormedOp (same_value (Unfold read.0) op read.1.1) tt
 
   in_problem : (problem_at d >>= λ problem. Ok (Problem problem)) ≡ Ok op → IsFormedOp op
   in_problem is =
@@ -297,29 +319,50 @@ module _ (d : Data) (op : Op) where
       let budget = both_read (budget_at d) (λ x. Ok (Cutintro proof.0 width.0 x)) op width.1.1 in
       subst IsFormedOp (same_value (Cutintro proof.0 width.0 budget.0) op budget.1.1) tt
 
-  in_none : ◌≡◌ {A = Reading Op} (Err UnknownOp) (Ok op) → IsFormedOp op
-  in_none is = cc
+  -- each operation of a list is read with what is well formed
+  abbrev AreReadFormed : List Reader → Type 0
+  AreReadFormed [] = Unit {0}
+  AreReadFormed (r ∷ rs) = (r.1 d ≡ Ok op → IsFormedOp op) × AreReadFormed rs
 
-  budgeted_formed : (name : List ℕ) → budgeted_op_named name d ≡ Ok op → IsFormedOp op
-  budgeted_formed name is =
-      chosen (is_text name (codes "cutelim")) _ _ (Ok op) in_cutelim
-      (chosen (is_text name (codes "tautology")) _ _ (Ok op) in_tautology
-      (chosen (is_text name (codes "expansion")) _ _ (Ok op) in_expansion
-      (chosen (is_text name (codes "expand")) _ _ (Ok op) in_expand
-      (chosen (is_text name (codes "fromexp")) _ _ (Ok op) in_fromexp
-      (chosen (is_text name (codes "interpolate")) _ _ (Ok op) in_interpolate
-      (chosen (is_text name (codes "herbrand")) _ _ (Ok op) in_herbrand
-      (chosen (is_text name (codes "cutintro")) _ _ (Ok op) in_cutintro in_none))))))) is
+  among_formed : (rs : List Reader) (name : List ℕ) → AreReadFormed rs → op_among rs name d ≡ Ok op → IsFormedOp op
+  among_formed [] name formed is = cc
+  among_formed (r ∷ rs) name formed is = chosen (is_text name r.0) _ _ (Ok op) formed.0 (among_formed rs name formed.1) is
+
+  all_formed : AreReadFormed (unbudgeted ++ budgeted)
+  all_formed = (
+    in_lk,
+    (
+      in_problem,
+      (
+        in_proves,
+        (
+          in_show,
+          (
+            in_measure,
+            (
+              in_subst,
+              (
+                in_resolution,
+                (
+                  in_eliminate,
+                  (
+                    in_define,
+                    (
+                      in_unfold,
+                      (in_cutelim, (in_tautology, (in_expansion, (in_expand, (in_fromexp, (in_interpolate, (in_herbrand, (in_cutintro, tt)))))))),
+                    ),
+                  ),
+                ),
+              ),
+            ),
+          ),
+        ),
+      ),
+    ),
+  )
 
   named_formed : (name : List ℕ) → op_named name d ≡ Ok op → IsFormedOp op
-  named_formed name is =
-      chosen (is_text name (codes "lk")) _ _ (Ok op) in_lk
-      (chosen (is_text name (codes "problem")) _ _ (Ok op) in_problem
-      (chosen (is_text name (codes "proves")) _ _ (Ok op) in_proves
-      (chosen (is_text name (codes "show")) _ _ (Ok op) in_show
-      (chosen (is_text name (codes "measure")) _ _ (Ok op) in_measure
-      (chosen (is_text name (codes "subst")) _ _ (Ok op) in_subst
-      (chosen (is_text name (codes "resolution")) _ _ (Ok op) in_resolution (budgeted_formed name))))))) is
+  named_formed name is = among_formed (unbudgeted ++ budgeted) name all_formed is
 
   op_formed : op_of d ≡ Ok op → IsFormedOp op
   op_formed is =

@@ -4,5 +4,7 @@ pub mod LineValues
 pub mod JobReadings
 pub mod FormedFields
 pub mod FormedExpansions
+pub mod Variables
+pub mod FormedDefinitions
 pub mod FormedReadings
 pub mod Crossing

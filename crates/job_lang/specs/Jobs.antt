@@ -1,5 +1,5 @@
 -- Which job a line is, and which fault of a line is the first.
-use Rattle.std.specs.Prelude.{◌≡◌, ℕ, List, codes, Option, Some, None, Ok, Err, Result, if◌then◌else◌}
+use Rattle.std.specs.Prelude.{◌≡◌, ℕ, List, [], ◌∷◌, ◌++◌, codes, Option, Some, None, Ok, Err, Result, if◌then◌else◌}
 use Rattle.std.specs.Str.{is_utf8}
 use Rattle.serde_json.specs.Data.{Data}
 use Rattle.serde_json.specs.Read.{read}
@@ -8,13 +8,14 @@ use Rattle.job_words.specs.declared.causes.JobCause.TheVariants.{Json, Field, Op
 use Rattle.job_lang.specs.declared.reading.ReadError.{ReadError}
 use Rattle.job_lang.specs.declared.reading.ReadError.TheVariants.{Fault as ReadFault, Memory as ReadMemory}
 use Rattle.job_lang.specs.declared.jobs.Op.{Op}
-use Rattle.job_lang.specs.declared.jobs.Op.TheVariants.{Lk, Problem, Proves, Show, Measure, Subst, Cutelim, Resolution, Tautology, Expansion, Expand, Fromexp, Interpolate, Herbrand, Cutintro}
+use Rattle.job_lang.specs.declared.jobs.Op.TheVariants.{Lk, Problem, Proves, Show, Measure, Subst, Cutelim, Eliminate, Define, Unfold, Resolution, Tautology, Expansion, Expand, Fromexp, Interpolate, Herbrand, Cutintro}
 use Rattle.job_lang.specs.declared.jobs.Job.{Job}
 use Rattle.job_lang.specs.declared.jobs.JobError.{JobError}
 use Rattle.job_lang.specs.declared.jobs.JobError.TheVariants.{Memory, Fault}
 use Rattle.job_words.specs.Names.{is_job_name}
 use Rattle.job_lang.specs.Places.{path}
 use Rattle.job_lang.specs.Fields.{Reading, ◌>>=◌, or_fault, text_at}
+use Rattle.job_lang.specs.Formulas.{formula_at}
 use Rattle.job_lang.specs.Sequents.{sequent_at, part_at}
 use Rattle.job_lang.specs.Maps.{map_at}
 use Rattle.job_lang.specs.Budgets.{budget_at}
@@ -24,6 +25,7 @@ use Rattle.job_words.specs.RuleKinds.{is_text}
 use Rattle.job_lang.specs.Steps.{steps_at}
 use Rattle.job_lang.specs.Resolutions.{res_steps_at}
 use Rattle.job_lang.specs.Expansions.{flat_at}
+use Rattle.job_lang.specs.Definitions.{name_at, variables_at, using_at}
 
 -- the JSON value of a line, where it has one: a line that isn't UTF-8 has none
 abbrev pub value_of : List ℕ → Reading Data
@@ -34,6 +36,39 @@ abbrev pub name_of : Data → Reading (List ℕ)
 name_of d = do
   name ← text_at Top (codes "job") d
   (if is_job_name name then Ok name else Err (Field (path Top (codes "job") None)))
+
+-- the steps of a proof, and the definitions that are used, by the names of their jobs
+abbrev pub lk_of : Data → Reading Op
+lk_of d = do
+  steps ← steps_at d
+  using ← using_at d
+  Ok (Lk steps using)
+
+-- a problem
+abbrev pub problem_of : Data → Reading Op
+problem_of d = problem_at d >>= λ problem. Ok (Problem problem)
+
+-- what is shown, and a proof, by the name of its job
+abbrev pub show_of : Data → Reading Op
+show_of d = text_at Top (codes "of") d >>= λ of. Ok (Show of)
+
+abbrev pub measure_of : Data → Reading Op
+measure_of d = text_at Top (codes "proof") d >>= λ proof. Ok (Measure proof)
+
+abbrev pub eliminate_of : Data → Reading Op
+eliminate_of d = text_at Top (codes "proof") d >>= λ proof. Ok (Eliminate proof)
+
+abbrev pub unfold_of : Data → Reading Op
+unfold_of d = text_at Top (codes "proof") d >>= λ proof. Ok (Unfold proof)
+
+-- a symbol, the variables for its arguments, the formula that it stands for, and the definitions that are used in that
+abbrev pub define_of : Data → Reading Op
+define_of d = do
+  symbol ← name_at d
+  vars ← variables_at d
+  body ← formula_at Top (codes "body") d
+  using ← using_at d
+  Ok (Define symbol vars body using)
 
 -- a proof and a problem, by the names of their jobs
 abbrev pub proves_of : Data → Reading Op
@@ -115,30 +150,30 @@ cutintro_of d = do
   budget ← budget_at d
   Ok (Cutintro proof width budget)
 
--- the operation of this name with its fields, where it has a budget
-abbrev pub budgeted_op_named : List ℕ → Data → Reading Op
-budgeted_op_named name d =
-    if is_text name (codes "cutelim") then cutelim_of d
-    else (if is_text name (codes "tautology") then tautology_of d
-    else (if is_text name (codes "expansion") then expansion_of d
-    else (if is_text name (codes "expand") then expand_of d
-    else (if is_text name (codes "fromexp") then fromexp_of d
-    else (if is_text name (codes "interpolate") then interpolate_of d
-    else (if is_text name (codes "herbrand") then herbrand_of d
-    else (if is_text name (codes "cutintro") then cutintro_of d
-    else Err UnknownOp)))))))
+-- an operation: its name, and how its fields are read
+abbrev pub Reader : Type 0
+Reader = List ℕ × (Data → Reading Op)
+
+-- the operations without a budget, and those with one
+abbrev pub unbudgeted : List Reader
+unbudgeted =
+    (codes "lk", lk_of) ∷ (codes "problem", problem_of) ∷ (codes "proves", proves_of) ∷ (codes "show", show_of) ∷ (codes "measure", measure_of)
+    ∷ (codes "subst", subst_of) ∷ (codes "resolution", resolution_of) ∷ (codes "eliminate", eliminate_of) ∷ (codes "define", define_of)
+    ∷ (codes "unfold", unfold_of) ∷ []
+
+abbrev pub budgeted : List Reader
+budgeted =
+    (codes "cutelim", cutelim_of) ∷ (codes "tautology", tautology_of) ∷ (codes "expansion", expansion_of) ∷ (codes "expand", expand_of)
+    ∷ (codes "fromexp", fromexp_of) ∷ (codes "interpolate", interpolate_of) ∷ (codes "herbrand", herbrand_of) ∷ (codes "cutintro", cutintro_of) ∷ []
+
+-- the fields of the first operation of a list that has this name
+abbrev pub op_among : List Reader → List ℕ → Data → Reading Op
+op_among [] name d = Err UnknownOp
+op_among (r ∷ rs) name d = if is_text name r.0 then r.1 d else op_among rs name d
 
 -- the operation of this name with its fields
 abbrev pub op_named : List ℕ → Data → Reading Op
-op_named name d =
-    if is_text name (codes "lk") then steps_at d >>= (λ steps. Ok (Lk steps))
-    else (if is_text name (codes "problem") then problem_at d >>= (λ problem. Ok (Problem problem))
-    else (if is_text name (codes "proves") then proves_of d
-    else (if is_text name (codes "show") then text_at Top (codes "of") d >>= (λ of. Ok (Show of))
-    else (if is_text name (codes "measure") then text_at Top (codes "proof") d >>= (λ proof. Ok (Measure proof))
-    else (if is_text name (codes "subst") then subst_of d
-    else (if is_text name (codes "resolution") then resolution_of d
-    else budgeted_op_named name d))))))
+op_named = op_among (unbudgeted ++ budgeted)
 
 abbrev pub op_of : Data → Reading Op
 op_of d = text_at Top (codes "op") d >>= λ name. op_named name d

@@ -11,5 +11,6 @@ pub mod Rules
 pub mod Steps
 pub mod Resolutions
 pub mod Expansions
+pub mod Definitions
 pub mod Jobs
 pub mod FormedOps

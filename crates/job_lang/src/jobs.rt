@@ -2,10 +2,12 @@
 ghost use Rattle.std.specs.Prelude.{◌≡◌, IfOk};
 ghost use Rattle.line_values.specs.View.{view};
 ghost use Rattle.job_lang.specs.Fields.{Gives};
-ghost use Rattle.job_lang.specs.Jobs.{error_with, value_of as line_value, name_of as name_data, subst_of as subst_data, cutelim_of as cutelim_data, resolution_of as resolution_data, tautology_of as tautology_data, expansion_of as expansion_data, expand_of as expand_data, fromexp_of as fromexp_data, interpolate_of as interpolate_data, herbrand_of as herbrand_data, cutintro_of as cutintro_data, budgeted_op_named as named_budgeted_op, op_named as named_op, op_of as op_data, reads_job, GivesJob};
+ghost use Rattle.job_lang.specs.Jobs.{error_with, value_of as line_value, name_of as name_data, lk_of as lk_data, define_of as define_data, subst_of as subst_data, cutelim_of as cutelim_data, resolution_of as resolution_data, tautology_of as tautology_data, expansion_of as expansion_data, expand_of as expand_data, fromexp_of as fromexp_data, interpolate_of as interpolate_data, herbrand_of as herbrand_data, cutintro_of as cutintro_data, op_among, budgeted, op_named as named_op, op_of as op_data, reads_job, GivesJob};
 
 use crate::budgets::{Budget, budget_at};
+use crate::definitions::{name_at, using_at, variables_at};
 use crate::expansions::flat_at;
+use crate::formulas::formula_at;
 use crate::maps::{FormedMap, map_at};
 use crate::places::Place;
 use crate::problems::problem_at;
@@ -15,7 +17,9 @@ use crate::sequents::{part_at, sequent_at};
 use crate::steps::steps_at;
 use crate::widths::{Width, width_at};
 use exp_tree::FlatExp;
-use job_words::{JobCause, Name, Steps, Utf8Text, is_name};
+use job_words::{
+    FormedFormula, FormedVars, JobCause, Name, Steps, SymbolName, Utf8Text, Utf8Texts, is_name,
+};
 use json::Scratch;
 use line_values::{Value, ValueError, read_value};
 use lk_rules::Sequent;
@@ -28,9 +32,10 @@ const LONGEST_KEPT: usize = 1 << 20;
 
 /// What a job asks for.
 pub enum Op {
-    /// The steps of a proof, to be checked.
+    /// The steps of a proof, to be checked. The symbols in them stand for formulas as the definitions say that these jobs hold.
     Lk {
         steps: Steps,
+        using: Utf8Texts,
     },
     /// A problem, read from its text.
     Problem {
@@ -58,6 +63,22 @@ pub enum Op {
     Cutelim {
         proof: Utf8Text,
         budget: Budget,
+    },
+    /// A proof made free of cuts, however many reductions that takes.
+    Eliminate {
+        proof: Utf8Text,
+    },
+    /// A predicate symbol that stands for a formula, with variables for its arguments. The symbols in the formula stand for formulas
+    /// themselves as the definitions say that these jobs hold.
+    Define {
+        symbol: SymbolName,
+        vars: FormedVars,
+        body: FormedFormula,
+        using: Utf8Texts,
+    },
+    /// A proof in which each symbol that stands for a formula has given way to this formula.
+    Unfold {
+        proof: Utf8Text,
     },
     /// The steps of a refutation of the clauses of a problem, which is named by its job.
     Resolution {
@@ -112,7 +133,21 @@ pub enum Op {
 impl Drop for Op {
     fn drop(self) {
         match self {
-            Op::Lk { steps } => drop(steps),
+            Op::Lk { steps, using } => {
+                drop(steps);
+                drop(using);
+            }
+            Op::Define {
+                symbol,
+                vars,
+                body,
+                using,
+            } => {
+                drop(symbol);
+                drop(vars);
+                drop(body);
+                drop(using);
+            }
             Op::Problem { problem } => drop(problem),
             Op::Proves { proof, problem } => {
                 drop(proof);
@@ -120,6 +155,8 @@ impl Drop for Op {
             }
             Op::Show { of: name }
             | Op::Measure { proof: name }
+            | Op::Eliminate { proof: name }
+            | Op::Unfold { proof: name }
             | Op::Cutelim {
                 proof: name,
                 budget: _,
@@ -189,6 +226,29 @@ fn name_of(alloc: Global, value: &Value<'_>) -> Result<Name, ReadError>
         return Err(field_fault(alloc, Place::Top, "job", None));
     }
     Ok(Name::from_string(String::from_str(alloc, text)?))
+}
+
+fn lk_of(alloc: Global, texts: &mut FormulaTexts, value: &Value<'_>) -> Result<Op, ReadError>
+    ensures { Gives (λ op. op) result (lk_data (view value.now)) }
+{
+    let steps = steps_at(alloc, texts, value)?;
+    let using = using_at(alloc, value)?;
+    Ok(Op::Lk { steps, using })
+}
+
+fn define_of(alloc: Global, texts: &mut FormulaTexts, value: &Value<'_>) -> Result<Op, ReadError>
+    ensures { Gives (λ op. op) result (define_data (view value.now)) }
+{
+    let symbol = name_at(alloc, value)?;
+    let vars = variables_at(alloc, value)?;
+    let body = FormedFormula::new(formula_at(alloc, texts, value, Place::Top, "body")?);
+    let using = using_at(alloc, value)?;
+    Ok(Op::Define {
+        symbol,
+        vars,
+        body,
+        using,
+    })
 }
 
 fn subst_of(alloc: Global, value: &Value<'_>) -> Result<Op, ReadError>
@@ -298,7 +358,7 @@ fn budgeted_op_named(
     name: &str,
     value: &Value<'_>,
 ) -> Result<Op, ReadError>
-    ensures { Gives (λ op. op) result (named_budgeted_op name.now (view value.now)) }
+    ensures { Gives (λ op. op) result (op_among budgeted name.now (view value.now)) }
 {
     if name == "cutelim" {
         return cutelim_of(alloc, value);
@@ -336,8 +396,7 @@ fn op_named(
     ensures { Gives (λ op. op) result (named_op name.now (view value.now)) }
 {
     if name == "lk" {
-        let steps = steps_at(alloc, texts, value)?;
-        return Ok(Op::Lk { steps });
+        return lk_of(alloc, texts, value);
     }
     if name == "problem" {
         let problem = problem_at(alloc, value)?;
@@ -361,6 +420,17 @@ fn op_named(
     }
     if name == "resolution" {
         return resolution_of(alloc, texts, value);
+    }
+    if name == "eliminate" {
+        let proof = written_at(alloc, value, Place::Top, "proof")?;
+        return Ok(Op::Eliminate { proof });
+    }
+    if name == "define" {
+        return define_of(alloc, texts, value);
+    }
+    if name == "unfold" {
+        let proof = written_at(alloc, value, Place::Top, "proof")?;
+        return Ok(Op::Unfold { proof });
     }
     budgeted_op_named(alloc, texts, name, value)
 }

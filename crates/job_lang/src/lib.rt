@@ -2,6 +2,7 @@
 #![tactic(auto)]
 
 mod budgets;
+mod definitions;
 mod expansions;
 mod formulas;
 mod jobs;

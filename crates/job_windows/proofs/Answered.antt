@@ -1,25 +1,16 @@
 -- What is answered to an operation, said of what its value means.
-use Rattle.std.proofs.Common.{◌≡◌, ◌⊎◌, refl, ap, inl, inr}
+use Rattle.std.proofs.Common.{◌≡◌, ◌⊎◌, refl, sym, subst, inl, inr}
 use Rattle.std.specs.Prelude.{Some}
+use Rattle.proof_trees.specs.Trees.{Tree}
 use Rattle.reply_lines.specs.declared.replies.Outcome.{Outcome}
 use Rattle.operation_laws.specs.Values.{refused}
-use Rattle.operation_laws.specs.Answers.{Answer}
+use Rattle.operation_laws.specs.Answers.{Answer, OrLacking, Asked, one, elimination, May}
 use Rattle.operation_laws.specs.Answers as answers
 use Rattle.held_values.specs.declared.held.Held.{Held}
 use Rattle.held_values.specs.declared.held.Held.TheVariants as held
-use Rattle.held_values.specs.Means.{sense, IsAnswerOf}
-use Rattle.session_laws.specs.Answers.{Came, answered}
-use Rattle.job_windows.specs.Running.{IsAnswered, IsConclusion, IsUnnamed}
-
--- what the value means is what is answered of it
-pub answered_by_sense : (outcome : Outcome) (h : Held) (a : Answer) → IsAnswerOf (outcome, h) a → IsAnswered outcome (sense h) a
-answered_by_sense outcome h (answers.refused r) (inl is) = inl (is.0, ap sense is.1)
-answered_by_sense outcome h (answers.refused r) (inr is) = inr (is.0, (is.1.0, ap sense is.1.1))
-answered_by_sense outcome h (answers.failed f) (inl is) = inl (is.0, ap sense is.1)
-answered_by_sense outcome h (answers.failed f) (inr is) = inr (is.0, ap sense is.1)
-answered_by_sense outcome h answers.lacking is = (is.0, ap sense is.1)
-answered_by_sense outcome h (answers.product p) (inl is) = inl is
-answered_by_sense outcome h (answers.product p) (inr is) = inr (is.0, ap sense is.1)
+use Rattle.held_values.specs.Means.{sense, IsAnswered, IsAnsweredTo}
+use Rattle.session_laws.specs.Answers.{Request, an_operation, Came, answered, IsAllowed}
+use Rattle.job_windows.specs.Running.{IsConclusion, IsUnnamed}
 
 -- which values mean a refusal
 refused_is : (h : Held) → sense h ≡ Some refused → h ≡ held.Refused
@@ -31,14 +22,33 @@ refused_is (held.Proof r) is = cc
 refused_is (held.Pair r s) is = cc
 refused_is (held.Problem p) is = cc
 refused_is (held.Expansion e) is = cc
+refused_is (held.Definition p) is = cc
 
--- what is answered is what the operation came to, unless there was no memory for the name that a refusal shows
-pub concluded : (outcome : Outcome) (h : Held) (a : Answer) → IsAnswered outcome (sense h) a
-    → IsUnnamed outcome h ⊎ ((came : Came) × IsConclusion outcome h (answered a) came)
-concluded outcome h (answers.refused r) (inl is) = inr (answered (answers.refused r), record { allowed = refl; outcome_is = is.0; means = is.1 })
-concluded outcome h (answers.refused r) (inr is) = inl (is.1.0, refused_is h is.1.1)
-concluded outcome h (answers.failed f) (inl is) = inr (answered (answers.failed f), record { allowed = inl refl; outcome_is = is.0; means = is.1 })
-concluded outcome h (answers.failed f) (inr is) = inr (answered answers.lacking, record { allowed = inr refl; outcome_is = is.0; means = is.1 })
-concluded outcome h answers.lacking is = inr (answered answers.lacking, record { allowed = refl; outcome_is = is.0; means = is.1 })
-concluded outcome h (answers.product p) (inl is) = inr (answered (answers.product p), record { allowed = inl refl; outcome_is = is.0; means = is.1 })
-concluded outcome h (answers.product p) (inr is) = inr (answered answers.lacking, record { allowed = inr refl; outcome_is = is.0; means = is.1 })
+-- what is answered is what a line came to that may come to it, unless there was no memory for the name that a refusal shows
+module _ (outcome : Outcome) (h : Held) (r : Request) where
+  concluded_as : (a : Answer) → ((b : Answer) → OrLacking a b → IsAllowed r (answered b)) → IsAnswered outcome (sense h) a
+      → IsUnnamed outcome h ⊎ ((came : Came) × IsConclusion outcome h r came)
+  concluded_as (answers.refused f) may (inl is) = inr (answered (answers.refused f), record { allowed = may (answers.refused f) refl; outcome_is = is.0; means = is.1 })
+  concluded_as (answers.refused f) may (inr is) = inl (is.1.0, refused_is h is.1.1)
+  concluded_as (answers.failed f) may (inl is) = inr (answered (answers.failed f), record { allowed = may (answers.failed f) (inl refl); outcome_is = is.0; means = is.1 })
+  concluded_as (answers.failed f) may (inr is) = inr (answered answers.lacking, record { allowed = may answers.lacking (inr refl); outcome_is = is.0; means = is.1 })
+  concluded_as answers.lacking may is = inr (answered answers.lacking, record { allowed = may answers.lacking refl; outcome_is = is.0; means = is.1 })
+  concluded_as (answers.product p) may (inl is) = inr (answered (answers.product p), record { allowed = may (answers.product p) (inl refl); outcome_is = is.0; means = is.1 })
+  concluded_as (answers.product p) may (inr is) = inr (answered answers.lacking, record { allowed = may answers.lacking (inr refl); outcome_is = is.0; means = is.1 })
+
+-- what may be answered in place of an answer is that or want of memory
+or_lacking : (a b : Answer) → OrLacking a b → (b ≡ a) ⊎ (b ≡ answers.lacking)
+or_lacking (answers.refused r) b is = inl is
+or_lacking (answers.failed f) b is = is
+or_lacking answers.lacking b is = inr is
+or_lacking (answers.product p) b is = is
+
+reached_or_lacking : (t : Tree) (a b : Answer) → May (elimination t) a → (b ≡ a) ⊎ (b ≡ answers.lacking) → May (elimination t) b
+reached_or_lacking t a b may (inl is) = subst (May (elimination t)) (sym is) may
+reached_or_lacking t a b may (inr is) = inr is
+
+pub concluded : (outcome : Outcome) (h : Held) (asked : Asked) → IsAnsweredTo outcome (sense h) asked
+    → IsUnnamed outcome h ⊎ ((came : Came) × IsConclusion outcome h (an_operation asked) came)
+concluded outcome h (one a) is = concluded_as outcome h (an_operation (one a)) a (λ b may. may) is
+concluded outcome h (elimination t) is =
+    concluded_as outcome h (an_operation (elimination t)) is.0 (λ b may. reached_or_lacking t is.0 b is.1 (or_lacking is.0 b may)) is.2

@@ -21,7 +21,7 @@ use Rattle.held_values.specs.declared.held.Held.TheVariants as held
 use Rattle.held_values.specs.Means.{sense}
 use Rattle.reply_lines.specs.declared.replies.Outcome.{Outcome}
 use Rattle.reply_lines.specs.declared.replies.Outcome.TheVariants.{NameTaken}
-use Rattle.session_laws.specs.Answers.{Past, JobFault, name_taken, Came as Ran, faulty, answered, Lookup, shown_fault, values_for, name_of, run_read, run_line, held_of}
+use Rattle.session_laws.specs.Answers.{Past, JobFault, name_taken, Request, no_operation, an_operation, Came as Ran, faulty, Lookup, shown_fault, values_for, name_of, run_read, run_line, held_of}
 use Rattle.job_windows.specs.Names.{Knows}
 use Rattle.job_windows.specs.Running.{Belongs, FitsDesk, IsConclusion, IsUnnamed}
 use Rattle.job_windows.specs.Windows.{need_by, needs_at, need_at, need_named, AreInOrder, due_by, IsAsked}
@@ -39,12 +39,12 @@ use Rattle.job_windows.proofs.Gathering.{window_more}
 use Rattle.job_windows.proofs.Merging.{order_bound}
 
 -- a line that is refused before it is run comes to just that
-refused_is_faulty : (outcome : Outcome) (f : JobFault) (r : Ran) → r ≡ faulty f → outcome ≡ shown_fault f → (came : Ran) × IsConclusion outcome held.Refused r came
+refused_is_faulty : (outcome : Outcome) (f : JobFault) (r : Request) → r ≡ no_operation f → outcome ≡ shown_fault f → (came : Ran) × IsConclusion outcome held.Refused r came
 refused_is_faulty outcome f r is shown =
-    (faulty f, subst (λ (x : Ran). IsConclusion outcome held.Refused x (faulty f)) (sym is) (record { allowed = refl; outcome_is = shown; means = refl }))
+    (faulty f, subst (λ (x : Request). IsConclusion outcome held.Refused x (faulty f)) (sym is) (record { allowed = refl; outcome_is = shown; means = refl }))
 
 pub asked_fault : (names : Names) (hs : List Held) (seats : List Seat) (tasks : List (Task Op Held)) (line : List ℕ) (outcome : Outcome) (f : JobFault)
-    → ((lookup : Lookup) → run_line lookup line ≡ faulty f) → outcome ≡ shown_fault f → IsAsked names hs seats tasks line (Refused outcome)
+    → ((lookup : Lookup) → run_line lookup line ≡ no_operation f) → outcome ≡ shown_fault f → IsAsked names hs seats tasks line (Refused outcome)
 asked_fault names hs seats tasks line outcome f is shown = λ done all dues found.
     ((outcome, held.Refused), refl, λ earlier known. inr (refused_is_faulty outcome f (run_line (held_of earlier) line) (is (held_of earlier)) shown))
 
@@ -56,13 +56,13 @@ taken_is held None (Some w) is = cc
 taken_is held (Some i) None is = cc
 
 run_by : (lookup : Lookup) (name : List ℕ) (op : Op) (b : Bool) → is_some (lookup name) ≡ b
-    → run_read lookup (Some name) (Ok op) ≡ cond b (faulty name_taken) (answered (run op (values_for lookup op)))
-run_by lookup name op b is = ap (λ (taken : Bool). cond taken (faulty name_taken) (answered (run op (values_for lookup op)))) is
+    → run_read lookup (Some name) (Ok op) ≡ cond b (no_operation name_taken) (an_operation (run op (values_for lookup op)))
+run_by lookup name op b is = ap (λ (taken : Bool). cond taken (no_operation name_taken) (an_operation (run op (values_for lookup op)))) is
 
 module _ (names : Names) (hs : List Held) (seats : List Seat) (line name : List ℕ) (op : Op) (named : Some name ≡ name_of line)
     (reads : (lookup : Lookup) → run_line lookup line ≡ run_read lookup (name_of line) (Ok op)) where
   runs : (earlier : List Past) (b : Bool) → is_some (held_of earlier name) ≡ b
-      → run_line (held_of earlier) line ≡ cond b (faulty name_taken) (answered (run op (values_for (held_of earlier) op)))
+      → run_line (held_of earlier) line ≡ cond b (no_operation name_taken) (an_operation (run op (values_for (held_of earlier) op)))
   runs earlier b is = reads (held_of earlier) ∙ ap (λ (n : Option (List ℕ)). run_read (held_of earlier) n (Ok op)) (sym named) ∙ run_by (held_of earlier) name op b is
 
   pub asked_taken : (tasks : List (Task Op Held)) → is_some (get_by_text names.places name) ≡ true → IsAsked names hs seats tasks line (Refused NameTaken)
@@ -92,7 +92,7 @@ module _ (names : Names) (hs : List Held) (seats : List Seat) (line name : List 
           let belongs : Belongs op (values_for (held_of earlier) op) answer.0 (sense answer.1) =
           subst (λ (o : Op). Belongs o (values_for (held_of earlier) op) answer.0 (sense answer.1)) job
           (subst (λ vs. Belongs task.job vs answer.0 (sense answer.1)) given is.belongs) in
-          subst (λ (r : Ran). IsUnnamed answer.0 answer.1 ⊎ ((came : Ran) × IsConclusion answer.0 answer.1 r came)) (sym (runs earlier false free))
+          subst (λ (r : Request). IsUnnamed answer.0 answer.1 ⊎ ((came : Ran) × IsConclusion answer.0 answer.1 r came)) (sym (runs earlier false free))
           (concluded answer.0 answer.1 (run op (values_for (held_of earlier) op)) belongs)
 
   -- the same of tasks behind which it was pushed

@@ -5,7 +5,9 @@ use Rattle.job_words.proofs.causes.JobCause.TheSendSync as cause
 use Rattle.job_words.proofs.formed.FormedVar.TheSendSync as var
 use Rattle.job_words.proofs.formed.FormedVars.TheSendSync as vars
 use Rattle.job_words.proofs.names.Name.TheSendSync as name
+use Rattle.job_words.proofs.formed.SymbolName.TheSendSync as symbol
 use Rattle.job_words.proofs.texts.Utf8Text.TheSendSync as text
+use Rattle.job_words.proofs.texts.Utf8Texts.TheSendSync as texts
 use Rattle.job_words.specs.contracts.formed.FormedFormula as formula
 use Rattle.job_words.specs.contracts.steps.Steps as steps
 use Rattle.lk_rules.proofs.Crossing as rules
@@ -35,6 +37,10 @@ pub ruleset crosses = (
   vars.the_sync,
   name.the_send,
   name.the_sync,
+  symbol.the_send,
+  symbol.the_sync,
   text.the_send,
   text.the_sync,
+  texts.the_send,
+  texts.the_sync,
 )

@@ -52,9 +52,8 @@ kind_name DefR = codes "defR"
 kind_name Cut = codes "cut"
 kind_name Weak = codes "weak"
 
--- the kinds that a job may name. No text has a symbol with a body, so none has a rule that unfolds one
 abbrev pub kinds : List RuleKind
-kinds = Ax ∷ TopR ∷ BotL ∷ NegL ∷ NegR ∷ AndL ∷ AndR ∷ OrL ∷ OrR ∷ ImpL ∷ ImpR ∷ AllL ∷ AllR ∷ ExL ∷ ExR ∷ Cut ∷ Weak ∷ []
+kinds = Ax ∷ TopR ∷ BotL ∷ NegL ∷ NegR ∷ AndL ∷ AndR ∷ OrL ∷ OrR ∷ ImpL ∷ ImpR ∷ AllL ∷ AllR ∷ ExL ∷ ExR ∷ DefL ∷ DefR ∷ Cut ∷ Weak ∷ []
 
 -- the first of some kinds that has this name
 abbrev pub named_among : List ℕ → List RuleKind → Option RuleKind

@@ -1,9 +1,9 @@
-//! Formulas and variables that are known to be well formed.
-ghost use Rattle.std.specs.Prelude.{◌≡◌};
+//! Formulas, variables and names of symbols that are known to be well formed.
+ghost use Rattle.std.specs.Prelude.{◌≡◌, true};
 ghost use Rattle.std.specs.List.{All};
-ghost use Rattle.fol.specs.Formed.{IsFormed, IsFormedVar};
+ghost use Rattle.fol.specs.Formed.{is_name, IsFormed, IsFormedVar};
 
-use fol::{Formula, Var};
+use fol::{Formula, Text, Var};
 use std::marker::Model;
 
 /// A well-formed formula.
@@ -120,5 +120,40 @@ impl FormedVars {
         ensures formed { All IsFormedVar result.now }
     {
         self.items.as_slice()
+    }
+}
+
+/// The name of a symbol: one or more printable bytes.
+#[derive(Drop)]
+pub struct SymbolName {
+    text: Text,
+}
+
+impl Model for SymbolName {
+    ghost use Rattle.std.specs.Prelude.{◌≡◌, ℕ, true, List};
+    ghost use Rattle.fol.specs.Formed.{is_name};
+
+    ghost Value = { List ℕ };
+
+    ghost view = { λ s. s.text };
+
+    ghost invariant = { λ s. is_name s.text ≡ true };
+}
+
+impl SymbolName {
+    /// The name with this text, which has to be one.
+    pub fn new(text: Text) -> SymbolName
+        requires { is_name text ≡ true }
+        ensures { result ≡ text }
+    {
+        SymbolName { text }
+    }
+
+    /// The name's text.
+    pub fn get(&self) -> &Text
+        ensures text { result.now ≡ self.now }
+        ensures is_name { is_name self.now ≡ true }
+    {
+        &self.text
     }
 }

@@ -83,7 +83,7 @@ impl RuleKind {
         }
     }
 
-    /// The kind with this name, of those that a job may name: not one that unfolds an atom, since no text has a symbol with a body.
+    /// The kind with this name.
     pub fn named(name: &str) -> Option<RuleKind>
         ensures { result ≡ named_kind name.now }
     {
@@ -105,6 +105,8 @@ impl RuleKind {
                 RuleKind::AllR,
                 RuleKind::ExL,
                 RuleKind::ExR,
+                RuleKind::DefL,
+                RuleKind::DefR,
                 RuleKind::Cut,
                 RuleKind::Weak,
             ],

@@ -1,5 +1,5 @@
 //! What jobs and replies both speak of: names of jobs, texts, the rules and the nodes of expansion trees by their names, the steps of a
-//! proof, formulas and variables that are well formed, and why a line isn't read.
+//! proof, formulas, variables and names of symbols that are well formed, and why a line isn't read.
 #![tactic(auto)]
 
 mod causes;
@@ -11,9 +11,9 @@ mod steps;
 mod texts;
 
 pub use causes::JobCause;
-pub use formed::{FormedFormula, FormedVar, FormedVars};
+pub use formed::{FormedFormula, FormedVar, FormedVars, SymbolName};
 pub use kinds::RuleKind;
 pub use names::{Name, is_name};
 pub use node_kinds::NodeKind;
 pub use steps::Steps;
-pub use texts::Utf8Text;
+pub use texts::{Utf8Text, Utf8Texts};

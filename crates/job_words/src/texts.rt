@@ -32,3 +32,33 @@ impl Utf8Text {
         &self.text
     }
 }
+
+/// A list of texts.
+#[derive(Drop)]
+pub struct Utf8Texts {
+    items: Vec<Utf8Text>,
+}
+
+impl Model for Utf8Texts {
+    ghost use Rattle.std.specs.Prelude.{ℕ, List};
+
+    ghost Value = { List (List ℕ) };
+
+    ghost view = { λ t. t.items.items };
+}
+
+impl Utf8Texts {
+    /// The list of these texts.
+    pub fn from_vec(items: Vec<Utf8Text>) -> Utf8Texts
+        ensures { result ≡ items.items }
+    {
+        Utf8Texts { items }
+    }
+
+    /// The texts, in order.
+    pub fn as_slice(&self) -> &[Utf8Text]
+        ensures { result.now ≡ self.now }
+    {
+        self.items.as_slice()
+    }
+}

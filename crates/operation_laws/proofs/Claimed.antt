@@ -1,5 +1,5 @@
 -- Each operation makes what it claims.
-use Rattle.std.proofs.Common.{◌≡◌, ℕ, List, [], ◌∷◌, length, Option, sym, subst, arith}
+use Rattle.std.proofs.Common.{◌≡◌, ℕ, List, [], ◌∷◌, length, Option, refl, sym, ap, ◌∙◌, subst, inl, inr, arith}
 use Rattle.std.specs.Prelude.{IfSome}
 use Rattle.std.specs.List.{All}
 use Rattle.proof_trees.specs.Trees.{Tree}
@@ -11,11 +11,13 @@ use Rattle.job_lang.specs.declared.jobs.Op.{Op}
 use Rattle.job_lang.specs.declared.jobs.Op.TheVariants as ops
 use Rattle.job_lang.specs.FormedOps.{IsFormedOp}
 use Rattle.operation_laws.specs.Values.{Value, IsSound}
-use Rattle.operation_laws.specs.Answers.{Product, problem, steps, nodes, product}
-use Rattle.operation_laws.specs.Given.{names_in, Found, found, ToShow, of_proof, of_expansion, shown_given, proof_given, problem_given, expansion_given, first_of, second_of}
+use Rattle.operation_laws.specs.Answers.{Product, problem, steps, nodes, product, Asked, one as answering, elimination as reached_from, May}
+use Rattle.operation_laws.specs.Given.{names_in, Found, found, ToShow, of_proof, of_expansion, shown_given, proof_given, problem_given, expansion_given, definitions_given, first_of, second_of}
 use Rattle.operation_laws.specs.Running.{lists, run}
 use Rattle.operation_laws.specs.Claims.{IsFoundAnd, GivenProof, GivenProblem, GivenExpansion, GivenBoth, IsListOf, Lists, Claims}
-use Rattle.operation_laws.proofs.Making.{over_made, over_both_made, lk_made, subst_made, cutelim_made, resolution_made, tautology_made, expansion_made, first_sound}
+use Rattle.operation_laws.proofs.Making.{found_valid, over_made, over_both_made, subst_made, cutelim_made, resolution_made, tautology_made, expansion_made, first_sound}
+use Rattle.operation_laws.proofs.Defined.{lk_made, define_made, unfold_made}
+use Rattle.operation_laws.proofs.Freed.{of_one, inside, eliminates_unanswered, asks_elimination, freed}
 use Rattle.operation_laws.proofs.Interpolated.{interpolation_made}
 use Rattle.operation_laws.proofs.Trees.{expand_made, fromexp_made}
 use Rattle.operation_laws.proofs.Introduced.{herbrand_made, cutintro_made}
@@ -63,32 +65,52 @@ given_shown of [] s made one is done = absurd (omega arith)
 given_shown of (v ∷ []) s made one is done = found_and (shown_given of v) s (IsListOf made) is (listed s made done)
 given_shown of (v ∷ w ∷ vs) s made one is done = absurd (omega arith)
 
-pub claimed : WorksRightly → (op : Op) (vs : List (Option Value)) (made : Product) → IsFormedOp op → length vs ≡ length (names_in op)
-    → All (λ v. IfSome v IsSound) vs → run op vs ≡ product made → Claims op vs made
-claimed rightly (ops.Lk list) vs made formed count sound is = lk_made list made formed is
-claimed rightly (ops.Problem p) vs made formed count sound is = same (problem p) made is
-claimed rightly (ops.Proves of goal) vs made formed count sound is =
-    let both = over_both_made (proof_given of (first_of vs)) (problem_given goal (second_of vs)) _ made is in
+answer_claimed : WorksRightly → (op : Op) (vs : List (Option Value)) (made : Product) → IsFormedOp op → length vs ≡ length (names_in op)
+    → All (λ v. IfSome v IsSound) vs → run op vs ≡ answering (product made) → Claims op vs made
+answer_claimed rightly (ops.Lk list using) vs made formed count sound is =
+    let it = lk_made rightly.marks list using vs made formed sound (inside _ _ is) in found_and (definitions_given using vs) it.0 _ it.1 it.2
+answer_claimed rightly (ops.Problem p) vs made formed count sound is = same (problem p) made (inside _ _ is)
+answer_claimed rightly (ops.Proves of goal) vs made formed count sound is =
+    let both = over_both_made (proof_given of (first_of vs)) (problem_given goal (second_of vs)) _ made (inside _ _ is) in
     given_both of goal vs both.0 both.1 _ count both.2 both.3 (same _ made both.4)
-claimed rightly (ops.Show of) vs made formed count sound is =
-    let one = over_made (shown_given of (first_of vs)) lists made is in given_shown of vs one.0 made count one.1 one.2
-claimed rightly (ops.Measure of) vs made formed count sound is =
-    let one = over_made (proof_given of (first_of vs)) _ made is in given_proof of vs one.0 _ count one.1 (same _ made one.2)
-claimed rightly (ops.Subst of m) vs made formed count sound is =
-    let one = subst_made of m (first_of vs) made formed (first_sound vs sound) is in given_proof of vs one.0 _ count one.1 one.2
-claimed rightly (ops.Cutelim of n) vs made formed count sound is =
-    let one = cutelim_made of n (first_of vs) made (first_sound vs sound) is in given_proof of vs one.0 _ count one.1 one.2
-claimed rightly (ops.Resolution of list) vs made formed count sound is =
-    let one = resolution_made of list (first_of vs) made formed (first_sound vs sound) is in given_problem of vs one.0 _ count one.1 one.2
-claimed rightly (ops.Tautology s n) vs made formed count sound is = tautology_made s n made formed is
-claimed rightly (ops.Expansion flat n) vs made formed count sound is = expansion_made rightly.reads rightly.checks flat n made is
-claimed rightly (ops.Expand of n) vs made formed count sound is =
-    let one = expand_made rightly.extracts of n (first_of vs) made (first_sound vs sound) is in given_proof of vs one.0 _ count one.1 one.2
-claimed rightly (ops.Fromexp of n) vs made formed count sound is =
-    let one = fromexp_made rightly.builds of n (first_of vs) made (first_sound vs sound) is in given_expansion of vs one.0 _ count one.1 one.2
-claimed rightly (ops.Interpolate of one two n) vs made formed count sound is =
-    let pair = interpolation_made rightly.interpolates of one two n (first_of vs) made formed (first_sound vs sound) is in given_proof of vs pair.0 _ count pair.1 pair.2
-claimed rightly (ops.Herbrand of n) vs made formed count sound is =
-    let one = herbrand_made rightly.instances of n (first_of vs) made (first_sound vs sound) is in given_proof of vs one.0 _ count one.1 one.2
-claimed rightly (ops.Cutintro of width n) vs made formed count sound is =
-    let one = cutintro_made rightly.introduces of width n (first_of vs) made (first_sound vs sound) is in given_proof of vs one.0 _ count one.1 one.2
+answer_claimed rightly (ops.Show of) vs made formed count sound is =
+    let it = over_made (shown_given of (first_of vs)) lists made (inside _ _ is) in given_shown of vs it.0 made count it.1 it.2
+answer_claimed rightly (ops.Measure of) vs made formed count sound is =
+    let it = over_made (proof_given of (first_of vs)) _ made (inside _ _ is) in given_proof of vs it.0 _ count it.1 (same _ made it.2)
+answer_claimed rightly (ops.Subst of m) vs made formed count sound is =
+    let it = subst_made of m (first_of vs) made formed (first_sound vs sound) (inside _ _ is) in given_proof of vs it.0 _ count it.1 it.2
+answer_claimed rightly (ops.Cutelim of n) vs made formed count sound is =
+    let it = cutelim_made of n (first_of vs) made (first_sound vs sound) (inside _ _ is) in given_proof of vs it.0 _ count it.1 it.2
+answer_claimed rightly (ops.Eliminate of) vs made formed count sound is = absurd (eliminates_unanswered (proof_given of (first_of vs)) made is)
+answer_claimed rightly (ops.Define symbol vars body using) vs made formed count sound is =
+    let it = define_made rightly.defines symbol vars body using vs made (inside _ _ is) in found_and (definitions_given using vs) it.0 _ it.1 it.2
+answer_claimed rightly (ops.Unfold of) vs made formed count sound is =
+    let it = unfold_made rightly.unfolds of (first_of vs) made (first_sound vs sound) (inside _ _ is) in given_proof of vs it.0 _ count it.1 it.2
+answer_claimed rightly (ops.Resolution of list) vs made formed count sound is =
+    let it = resolution_made of list (first_of vs) made formed (first_sound vs sound) (inside _ _ is) in given_problem of vs it.0 _ count it.1 it.2
+answer_claimed rightly (ops.Tautology s n) vs made formed count sound is = tautology_made s n made formed (inside _ _ is)
+answer_claimed rightly (ops.Expansion flat n) vs made formed count sound is = expansion_made rightly.reads rightly.checks flat n made (inside _ _ is)
+answer_claimed rightly (ops.Expand of n) vs made formed count sound is =
+    let it = expand_made rightly.extracts of n (first_of vs) made (first_sound vs sound) (inside _ _ is) in given_proof of vs it.0 _ count it.1 it.2
+answer_claimed rightly (ops.Fromexp of n) vs made formed count sound is =
+    let it = fromexp_made rightly.builds of n (first_of vs) made (first_sound vs sound) (inside _ _ is) in given_expansion of vs it.0 _ count it.1 it.2
+answer_claimed rightly (ops.Interpolate of one two n) vs made formed count sound is =
+    let pair = interpolation_made rightly.interpolates of one two n (first_of vs) made formed (first_sound vs sound) (inside _ _ is) in given_proof of vs pair.0 _ count pair.1 pair.2
+answer_claimed rightly (ops.Herbrand of n) vs made formed count sound is =
+    let it = herbrand_made rightly.instances of n (first_of vs) made (first_sound vs sound) (inside _ _ is) in given_proof of vs it.0 _ count it.1 it.2
+answer_claimed rightly (ops.Cutintro of width n) vs made formed count sound is =
+    let it = cutintro_made rightly.introduces of width n (first_of vs) made (first_sound vs sound) (inside _ _ is) in given_proof of vs it.0 _ count it.1 it.2
+
+pub claimed : WorksRightly → (op : Op) (vs : List (Option Value)) (made : Product) → IsFormedOp op → length vs ≡ length (names_in op)
+    → All (λ v. IfSome v IsSound) vs → May (run op vs) (product made) → Claims op vs made
+claimed rightly op vs made formed count sound may = by_asked (run op vs) refl may
+  where
+    by_asked : (asked : Asked) → run op vs ≡ asked → May asked (product made) → Claims op vs made
+    by_asked (answering a) is may = answer_claimed rightly op vs made formed count sound (is ∙ ap answering (of_one a made may))
+    by_asked (reached_from t) is (inl reached) =
+        let asked = asks_elimination op vs t is in
+        let of = asked.0 in
+        let counted : length vs ≡ 1 = count ∙ ap (λ (o : Op). length (names_in o)) asked.1 in
+        subst (λ (o : Op). Claims o vs made) (sym asked.1)
+        (given_proof of vs t _ counted asked.2 (freed t made (found_valid of (first_of vs) t (first_sound vs sound) asked.2) reached))
+    by_asked (reached_from t) is (inr none) = cc

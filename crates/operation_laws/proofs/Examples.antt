@@ -4,25 +4,25 @@ use Rattle.proof_trees.specs.Trees.{Tree}
 use Rattle.job_lang.specs.declared.jobs.Op.TheVariants.{Show, Proves}
 use Rattle.operation_laws.specs.declared.refusals.Refusal.TheVariants.{UnknownName, Kind}
 use Rattle.operation_laws.specs.Values.{nothing, proof, pair, lacking as lacked}
-use Rattle.operation_laws.specs.Answers.{refused, lacking}
+use Rattle.operation_laws.specs.Answers.{refused, lacking, one}
 use Rattle.operation_laws.specs.Given.{base_name, missing, found, of_proof, proof_given, shown_given}
 use Rattle.operation_laws.specs.Running.{run}
 
 -- no earlier job has the name, or the one that has it holds nothing of use
-no_job : run (Show (codes "a")) (None ∷ []) ≡ refused (UnknownName (codes "a"))
+no_job : run (Show (codes "a")) (None ∷ []) ≡ one (refused (UnknownName (codes "a")))
 no_job = refl
 
-no_proof : run (Show (codes "a")) (Some nothing ∷ []) ≡ refused (Kind (codes "a"))
+no_proof : run (Show (codes "a")) (Some nothing ∷ []) ≡ one (refused (Kind (codes "a")))
 no_proof = refl
 
 -- the fault of the first name comes before that of the second, and want of memory comes after both
-first_fault : run (Proves (codes "a") (codes "b")) (Some nothing ∷ None ∷ []) ≡ refused (Kind (codes "a"))
+first_fault : run (Proves (codes "a") (codes "b")) (Some nothing ∷ None ∷ []) ≡ one (refused (Kind (codes "a")))
 first_fault = refl
 
-second_fault : run (Proves (codes "a") (codes "b")) (Some lacked ∷ None ∷ []) ≡ refused (UnknownName (codes "b"))
+second_fault : run (Proves (codes "a") (codes "b")) (Some lacked ∷ None ∷ []) ≡ one (refused (UnknownName (codes "b")))
 second_fault = refl
 
-want : run (Proves (codes "a") (codes "b")) (Some lacked ∷ Some lacked ∷ []) ≡ lacking
+want : run (Proves (codes "a") (codes "b")) (Some lacked ∷ Some lacked ∷ []) ≡ one lacking
 want = refl
 
 -- a name with a suffix is about the pair's job, and only the last suffix counts
@@ -49,5 +49,5 @@ module _ (t u : Tree) where
   first_of_proof : proof_given (codes "a.first") (Some (proof t)) ≡ missing (Kind (codes "a.first"))
   first_of_proof = refl
 
-no_pair : run (Show (codes "a.first")) (Some nothing ∷ []) ≡ refused (Kind (codes "a.first"))
+no_pair : run (Show (codes "a.first")) (Some nothing ∷ []) ≡ one (refused (Kind (codes "a.first")))
 no_pair = refl

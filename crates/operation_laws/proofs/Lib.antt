@@ -7,4 +7,7 @@ pub mod Rightly
 pub mod Sound
 pub mod Claimed
 pub mod Shows
+pub mod OneAnswer
+pub mod Defined
+pub mod Freed
 pub mod Examples

@@ -64,7 +64,7 @@ use Rattle.operation_laws.specs.Claims.{IsProofOf, AProof, AReducedProof, AnExpa
 use Rattle.operation_laws.proofs.Searches.{found_proved}
 
 -- a field that is given something
-whole_is : {A : Type 0} (text : List ℕ) (b : Bool) (a x : A) → cond b (missing (Kind text)) (found a) ≡ found x → a ≡ x
+pub whole_is : {A : Type 0} (text : List ℕ) (b : Bool) (a x : A) → cond b (missing (Kind text)) (found a) ≡ found x → a ≡ x
 whole_is text true a x is = cc
 whole_is text false a x is = cc
 
@@ -83,6 +83,7 @@ found_valid text (Some (values.proof u)) t sound is = subst IsValid (whole_is te
 found_valid text (Some (values.pair u w)) t sound is = one_of_holds IsValid text (is_some (first_name text)) (is_some (second_name text)) u w t is sound.0 sound.1
 found_valid text (Some (values.problem p)) t sound is = cc
 found_valid text (Some (values.expansion x)) t sound is = cc
+found_valid text (Some (values.definition p)) t sound is = cc
 
 -- a problem that a field is given is such as is read
 pub found_read : (text : List ℕ) (v : Option Value) (p : Problem) → IfSome v IsSound → problem_given text v ≡ found p → IsReadProblem p
@@ -94,6 +95,7 @@ found_read text (Some (values.proof t)) p sound is = cc
 found_read text (Some (values.pair t u)) p sound is = cc
 found_read text (Some (values.problem q)) p sound is = subst IsReadProblem (whole_is text (is_some (pair_name text)) q p is) sound
 found_read text (Some (values.expansion x)) p sound is = cc
+found_read text (Some (values.definition d)) p sound is = cc
 
 -- expansion trees that a field is given are an expansion proof
 pub found_expansion : (text : List ℕ) (v : Option Value) (x : Expansion) → IfSome v IsSound → expansion_given text v ≡ found x → IsExpansionProof x (shallow_sequent x)
@@ -106,6 +108,7 @@ found_expansion text (Some (values.pair t u)) x sound is = cc
 found_expansion text (Some (values.problem p)) x sound is = cc
 found_expansion text (Some (values.expansion y)) x sound is =
     subst (λ z. IsExpansionProof z (shallow_sequent z)) (whole_is text (is_some (pair_name text)) y x is) sound
+found_expansion text (Some (values.definition p)) x sound is = cc
 
 -- something is made only of what is found
 pub over_made : {A : Type 0} (f : Found A) (k : A → Answer) (made : Product) → over f k ≡ product made → (a : A) × (f ≡ found a) × (k a ≡ product made)
@@ -126,17 +129,6 @@ first_sound (v ∷ vs) sound = All-head (λ v. IfSome v IsSound) v vs sound
 -- the product is this proof
 pub this_proof : (t : Tree) (made : Product) (P : Tree → Type 0) → product (proof t) ≡ product made → P t → AProof made P
 this_proof t made P is h = let same : proof t ≡ made = cc in subst (λ p. AProof p P) same h
-
--- a list of steps
-lk_by : (list : List Step) (made : Product) (r : Result Tree AdmitFault) → All (λ s. IsFormedRule s.rule) list → admission_of list ≡ r → admits r ≡ product made
-    → AProof made (λ t. IsProofOf t (last_end list))
-lk_by list made (Ok t) formed admitted is = this_proof t made _ is (record { valid = valid_admission list t formed admitted; ends = end_of_admission list t admitted })
-lk_by list made (Err admission.Empty) formed admitted is = cc
-lk_by list made (Err (admission.Step i cause)) formed admitted is = cc
-lk_by list made (Err admission.Memory) formed admitted is = cc
-
-pub lk_made : (list : List Step) (made : Product) → All (λ s. IsFormedRule s.rule) list → admits (admission_of list) ≡ product made → AProof made (λ t. IsProofOf t (last_end list))
-lk_made list made formed is = lk_by list made (admission_of list) formed refl is
 
 -- a proof under a map
 pub subst_made : (of : List ℕ) (m : Map) (v : Option Value) (made : Product) → IsFormedMap (fin.get m) → IfSome v IsSound

@@ -11,6 +11,7 @@ use Rattle.operation_laws.proofs.Making.{ReadsRightly, ChecksRightly}
 use Rattle.operation_laws.proofs.Interpolated.{InterpolatesRightly}
 use Rattle.operation_laws.proofs.Trees.{ExtractsRightly, BuildsRightly}
 use Rattle.operation_laws.proofs.Introduced.{InstancesRightly, IntroducesRightly}
+use Rattle.operation_laws.proofs.Defined.{MarksRightly, DefinesRightly, UnfoldsRightly}
 
 pub record WorksRightly : Type 0 where
   pub reads : ReadsRightly
@@ -20,6 +21,9 @@ pub record WorksRightly : Type 0 where
   pub interpolates : InterpolatesRightly
   pub instances : InstancesRightly
   pub introduces : IntroducesRightly
+  pub marks : MarksRightly
+  pub defines : DefinesRightly
+  pub unfolds : UnfoldsRightly
 
 -- of what is read of flat lists
 abbrev OfRead : (FlatExp → Expansion → Type 0) → Type 0
@@ -31,8 +35,9 @@ OfBuilt P = (x : Expansion) (n : ℕ) (t : Tree) → IsExpansionProof x (shallow
 
 -- from the laws one by one
 pub works_rightly : OfRead (λ flat x. x ≡ expansion_over flat) → OfRead (λ flat x. AreRight x) → ChecksRightly → ExtractsRightly → OfBuilt (λ x t. IsValid t)
-    → OfBuilt (λ x t. concl t ≡ shallow_sequent x) → OfBuilt (λ x t. IsCutFree t) → InterpolatesRightly → InstancesRightly → IntroducesRightly → WorksRightly
-works_rightly roots right checks extracts valid ends cut_free interpolates instances introduces = record {
+    → OfBuilt (λ x t. concl t ≡ shallow_sequent x) → OfBuilt (λ x t. IsCutFree t) → InterpolatesRightly → InstancesRightly → IntroducesRightly → MarksRightly → DefinesRightly → UnfoldsRightly
+    → WorksRightly
+works_rightly roots right checks extracts valid ends cut_free interpolates instances introduces marks defines unfolds = record {
   reads = λ flat n x read. (roots flat n x read, right flat n x read);
   checks = checks;
   extracts = extracts;
@@ -43,4 +48,7 @@ works_rightly roots right checks extracts valid ends cut_free interpolates insta
   interpolates = interpolates;
   instances = instances;
   introduces = introduces;
+  marks = marks;
+  defines = defines;
+  unfolds = unfolds;
 }

@@ -1,9 +1,11 @@
 -- What an operation makes of sound values is sound.
-use Rattle.std.proofs.Common.{◌≡◌, ℕ, Bool, List, [], ◌∷◌, Option, refl, sym, subst}
+use Rattle.std.proofs.Common.{◌≡◌, ℕ, Bool, List, [], ◌∷◌, Option, refl, sym, ap, ◌∙◌, subst, inl, inr}
 use Rattle.std.specs.Prelude.{IfSome}
 use Rattle.std.specs.List.{All}
 use Rattle.std.proofs.lemmas.List.Elements.{All-nil, All-cons}
-use Rattle.fol.specs.Syntax.{Formula}
+use Rattle.fol.specs.declared.symbols.Sym.{Sym}
+use Rattle.fol.specs.Syntax.{pred, defined, Formula}
+use Rattle.fol.specs.Formed.{IsFormedPred}
 use Rattle.lk_rules.specs.declared.sequent.Sequent.{Sequent}
 use Rattle.proof_trees.specs.Trees.{Tree, IsValid}
 use Rattle.expansion_laws.specs.Dependency.{Expansion}
@@ -15,11 +17,13 @@ use Rattle.job_lang.specs.declared.jobs.Op.TheVariants as ops
 use Rattle.job_lang.specs.FormedOps.{IsFormedOp}
 use Rattle.operation_laws.specs.Values.{Value, IsSound}
 use Rattle.operation_laws.specs.Values as values
-use Rattle.operation_laws.specs.Answers.{Product, proof, reduced, problem, proves, steps, sizes, expansion, nodes, interpolant, herbrand, introduced, Answer, refused, failed, lacking, product, held_product, held, proofs_in}
+use Rattle.operation_laws.specs.Answers.{Product, proof, reduced, problem, proves, steps, sizes, expansion, nodes, interpolant, herbrand, introduced, definition, Answer, refused, failed, lacking, product, held_product, held, proofs_in, Asked, one as answering, elimination as reached_from, May}
 use Rattle.operation_laws.specs.Given.{ToShow, of_proof, of_expansion, shown_given, proof_given, problem_given, first_of, second_of}
 use Rattle.operation_laws.specs.Running.{lists, run}
-use Rattle.operation_laws.specs.Claims.{AProof, AReducedProof, AnExpansion, AnInterpolant, AHerbrandSequent, AnIntroduction}
-use Rattle.operation_laws.proofs.Making.{over_made, over_both_made, lk_made, subst_made, cutelim_made, resolution_made, tautology_made, expansion_made, first_sound}
+use Rattle.operation_laws.specs.Claims.{AProof, AReducedProof, AnExpansion, AnInterpolant, AHerbrandSequent, AnIntroduction, ADefinition}
+use Rattle.operation_laws.proofs.Making.{found_valid, over_made, over_both_made, subst_made, cutelim_made, resolution_made, tautology_made, expansion_made, first_sound}
+use Rattle.operation_laws.proofs.Defined.{lk_made, define_made, unfold_made}
+use Rattle.operation_laws.proofs.Freed.{of_one, inside, eliminates_unanswered, asks_elimination, freed}
 use Rattle.operation_laws.proofs.Interpolated.{interpolation_made}
 use Rattle.operation_laws.proofs.Trees.{expand_made, fromexp_made}
 use Rattle.operation_laws.proofs.Introduced.{herbrand_made, cutintro_made}
@@ -41,6 +45,7 @@ proof_sound (nodes flat) P valid h = absurd h
 proof_sound (interpolant f t u) P valid h = absurd h
 proof_sound (herbrand k s) P valid h = absurd h
 proof_sound (introduced t b) P valid h = absurd h
+proof_sound (definition d f) P valid h = absurd h
 
 reduced_sound : (made : Product) (P : Tree → ℕ → Type 0) → ((t : Tree) (n : ℕ) → P t n → IsValid t) → AReducedProof made P → IsSound (held_product made)
 reduced_sound (reduced t n) P valid h = valid t n h
@@ -54,6 +59,7 @@ reduced_sound (nodes flat) P valid h = absurd h
 reduced_sound (interpolant f t u) P valid h = absurd h
 reduced_sound (herbrand k s) P valid h = absurd h
 reduced_sound (introduced t b) P valid h = absurd h
+reduced_sound (definition d f) P valid h = absurd h
 
 -- expansion trees that are made are an expansion proof
 expansion_sound : (made : Product) (P : Expansion → Type 0) → ((x : Expansion) → P x → IsSound (values.expansion x)) → AnExpansion made P → IsSound (held_product made)
@@ -68,6 +74,7 @@ expansion_sound (nodes flat) P sound h = absurd h
 expansion_sound (interpolant f t u) P sound h = absurd h
 expansion_sound (herbrand k s) P sound h = absurd h
 expansion_sound (introduced t b) P sound h = absurd h
+expansion_sound (definition d f) P sound h = absurd h
 
 -- both proofs of an interpolant that is made are valid
 interpolant_sound : (made : Product) (P : Formula → Tree → Tree → Type 0) → ((f : Formula) (t u : Tree) → P f t u → IsValid t × IsValid u) → AnInterpolant made P
@@ -83,6 +90,7 @@ interpolant_sound (expansion x) P valid h = absurd h
 interpolant_sound (nodes flat) P valid h = absurd h
 interpolant_sound (herbrand k s) P valid h = absurd h
 interpolant_sound (introduced t b) P valid h = absurd h
+interpolant_sound (definition d f) P valid h = absurd h
 
 -- a Herbrand sequent is held by no job
 herbrand_sound : (made : Product) (P : ℕ → Sequent → Type 0) → AHerbrandSequent made P → IsSound (held_product made)
@@ -97,6 +105,7 @@ herbrand_sound (expansion x) P h = absurd h
 herbrand_sound (nodes flat) P h = absurd h
 herbrand_sound (interpolant f t u) P h = absurd h
 herbrand_sound (introduced t b) P h = absurd h
+herbrand_sound (definition d f) P h = absurd h
 
 introduced_sound : (made : Product) (P : Tree → Bool → Type 0) → ((t : Tree) (b : Bool) → P t b → IsValid t) → AnIntroduction made P → IsSound (held_product made)
 introduced_sound (introduced t b) P valid h = valid t b h
@@ -110,6 +119,23 @@ introduced_sound (expansion x) P valid h = absurd h
 introduced_sound (nodes flat) P valid h = absurd h
 introduced_sound (interpolant f t u) P valid h = absurd h
 introduced_sound (herbrand k s) P valid h = absurd h
+introduced_sound (definition d f) P valid h = absurd h
+
+-- a symbol that is defined is well formed
+definition_sound : (made : Product) (P : Sym → Formula → Type 0) → ((s : Sym) (f : Formula) → P s f → IsFormedPred (pred s (defined f))) → ADefinition made P
+    → IsSound (held_product made)
+definition_sound (definition s f) P formed h = formed s f h
+definition_sound (proof t) P formed h = absurd h
+definition_sound (reduced t n) P formed h = absurd h
+definition_sound (problem p) P formed h = absurd h
+definition_sound (proves b) P formed h = absurd h
+definition_sound (steps list) P formed h = absurd h
+definition_sound (sizes cuts distinct quants size) P formed h = absurd h
+definition_sound (expansion x) P formed h = absurd h
+definition_sound (nodes flat) P formed h = absurd h
+definition_sound (interpolant f t u) P formed h = absurd h
+definition_sound (herbrand k s) P formed h = absurd h
+definition_sound (introduced t b) P formed h = absurd h
 
 -- the product is this one
 is_sound : (this made : Product) → product this ≡ product made → IsSound (held_product this) → IsSound (held_product made)
@@ -121,32 +147,48 @@ shown_sound (of_proof t) made is = is_sound (steps (steps_of t)) made is tt
 shown_sound (of_expansion x) made is = is_sound (nodes (flat_of x)) made is tt
 
 -- each operation
-pub made_sound : WorksRightly → (op : Op) (vs : List (Option Value)) (made : Product) → IsFormedOp op → AreSound vs → run op vs ≡ product made → IsSound (held_product made)
-made_sound rightly (ops.Lk list) vs made formed sound is = proof_sound made _ (λ t h. h.valid) (lk_made list made formed is)
-made_sound rightly (ops.Problem p) vs made formed sound is = is_sound (problem p) made is formed
-made_sound rightly (ops.Proves of goal) vs made formed sound is =
-    let both = over_both_made (proof_given of (first_of vs)) (problem_given goal (second_of vs)) _ made is in is_sound (proves _) made both.4 tt
-made_sound rightly (ops.Show of) vs made formed sound is = let one = over_made (shown_given of (first_of vs)) lists made is in shown_sound one.0 made one.2
-made_sound rightly (ops.Measure of) vs made formed sound is = let one = over_made (proof_given of (first_of vs)) _ made is in is_sound (sizes _ _ _ _) made one.2 tt
-made_sound rightly (ops.Subst of m) vs made formed sound is =
-    let one = subst_made of m (first_of vs) made formed (first_sound vs sound) is in proof_sound made _ (λ t h. h.valid) one.2
-made_sound rightly (ops.Cutelim of n) vs made formed sound is =
-    let one = cutelim_made of n (first_of vs) made (first_sound vs sound) is in reduced_sound made _ (λ t k h. h.right.valid) one.2
-made_sound rightly (ops.Resolution of list) vs made formed sound is =
-    let one = resolution_made of list (first_of vs) made formed (first_sound vs sound) is in proof_sound made _ (λ t h. h.valid) one.2
-made_sound rightly (ops.Tautology s n) vs made formed sound is = proof_sound made _ (λ t h. h.right.valid) (tautology_made s n made formed is)
-made_sound rightly (ops.Expansion flat n) vs made formed sound is = expansion_sound made _ (λ x h. h.right) (expansion_made rightly.reads rightly.checks flat n made is)
-made_sound rightly (ops.Expand of n) vs made formed sound is =
-    let one = expand_made rightly.extracts of n (first_of vs) made (first_sound vs sound) is in expansion_sound made _ (λ x h. subst (IsExpansionProof x) (sym h.formulas) h) one.2
-made_sound rightly (ops.Fromexp of n) vs made formed sound is =
-    let one = fromexp_made rightly.builds of n (first_of vs) made (first_sound vs sound) is in proof_sound made _ (λ t h. h.right.valid) one.2
-made_sound rightly (ops.Interpolate of one two n) vs made formed sound is =
-    let pair = interpolation_made rightly.interpolates of one two n (first_of vs) made formed (first_sound vs sound) is in
+answer_sound : WorksRightly → (op : Op) (vs : List (Option Value)) (made : Product) → IsFormedOp op → AreSound vs → run op vs ≡ answering (product made) → IsSound (held_product made)
+answer_sound rightly (ops.Lk list using) vs made formed sound is =
+    let it = lk_made rightly.marks list using vs made formed sound (inside _ _ is) in proof_sound made _ (λ t h. h.valid) it.2
+answer_sound rightly (ops.Problem p) vs made formed sound is = is_sound (problem p) made (inside _ _ is) formed
+answer_sound rightly (ops.Proves of goal) vs made formed sound is =
+    let both = over_both_made (proof_given of (first_of vs)) (problem_given goal (second_of vs)) _ made (inside _ _ is) in is_sound (proves _) made both.4 tt
+answer_sound rightly (ops.Show of) vs made formed sound is = let it = over_made (shown_given of (first_of vs)) lists made (inside _ _ is) in shown_sound it.0 made it.2
+answer_sound rightly (ops.Measure of) vs made formed sound is = let it = over_made (proof_given of (first_of vs)) _ made (inside _ _ is) in is_sound (sizes _ _ _ _) made it.2 tt
+answer_sound rightly (ops.Subst of m) vs made formed sound is =
+    let it = subst_made of m (first_of vs) made formed (first_sound vs sound) (inside _ _ is) in proof_sound made _ (λ t h. h.valid) it.2
+answer_sound rightly (ops.Cutelim of n) vs made formed sound is =
+    let it = cutelim_made of n (first_of vs) made (first_sound vs sound) (inside _ _ is) in reduced_sound made _ (λ t k h. h.right.valid) it.2
+answer_sound rightly (ops.Eliminate of) vs made formed sound is = absurd (eliminates_unanswered (proof_given of (first_of vs)) made is)
+answer_sound rightly (ops.Define symbol vars body using) vs made formed sound is =
+    let it = define_made rightly.defines symbol vars body using vs made (inside _ _ is) in definition_sound made _ (λ s f h. h.formed) it.2
+answer_sound rightly (ops.Unfold of) vs made formed sound is =
+    let it = unfold_made rightly.unfolds of (first_of vs) made (first_sound vs sound) (inside _ _ is) in proof_sound made _ (λ t h. h.right.valid) it.2
+answer_sound rightly (ops.Resolution of list) vs made formed sound is =
+    let it = resolution_made of list (first_of vs) made formed (first_sound vs sound) (inside _ _ is) in proof_sound made _ (λ t h. h.valid) it.2
+answer_sound rightly (ops.Tautology s n) vs made formed sound is = proof_sound made _ (λ t h. h.right.valid) (tautology_made s n made formed (inside _ _ is))
+answer_sound rightly (ops.Expansion flat n) vs made formed sound is = expansion_sound made _ (λ x h. h.right) (expansion_made rightly.reads rightly.checks flat n made (inside _ _ is))
+answer_sound rightly (ops.Expand of n) vs made formed sound is =
+    let it = expand_made rightly.extracts of n (first_of vs) made (first_sound vs sound) (inside _ _ is) in expansion_sound made _ (λ x h. subst (IsExpansionProof x) (sym h.formulas) h) it.2
+answer_sound rightly (ops.Fromexp of n) vs made formed sound is =
+    let it = fromexp_made rightly.builds of n (first_of vs) made (first_sound vs sound) (inside _ _ is) in proof_sound made _ (λ t h. h.right.valid) it.2
+answer_sound rightly (ops.Interpolate of one two n) vs made formed sound is =
+    let pair = interpolation_made rightly.interpolates of one two n (first_of vs) made formed (first_sound vs sound) (inside _ _ is) in
     interpolant_sound made _ (λ f t u h. (h.first.right.valid, h.second.right.valid)) pair.2
-made_sound rightly (ops.Herbrand of n) vs made formed sound is =
-    let one = herbrand_made rightly.instances of n (first_of vs) made (first_sound vs sound) is in herbrand_sound made _ one.2
-made_sound rightly (ops.Cutintro of width n) vs made formed sound is =
-    let one = cutintro_made rightly.introduces of width n (first_of vs) made (first_sound vs sound) is in introduced_sound made _ (λ t b h. h.right.valid) one.2
+answer_sound rightly (ops.Herbrand of n) vs made formed sound is =
+    let it = herbrand_made rightly.instances of n (first_of vs) made (first_sound vs sound) (inside _ _ is) in herbrand_sound made _ it.2
+answer_sound rightly (ops.Cutintro of width n) vs made formed sound is =
+    let it = cutintro_made rightly.introduces of width n (first_of vs) made (first_sound vs sound) (inside _ _ is) in introduced_sound made _ (λ t b h. h.right.valid) it.2
+
+pub made_sound : WorksRightly → (op : Op) (vs : List (Option Value)) (made : Product) → IsFormedOp op → AreSound vs → May (run op vs) (product made) → IsSound (held_product made)
+made_sound rightly op vs made formed sound may = by_asked (run op vs) refl may
+  where
+    by_asked : (asked : Asked) → run op vs ≡ asked → May asked (product made) → IsSound (held_product made)
+    by_asked (answering a) is may = answer_sound rightly op vs made formed sound (is ∙ ap answering (of_one a made may))
+    by_asked (reached_from t) is (inl reached) =
+        let asked = asks_elimination op vs t is in
+        reduced_sound made _ (λ u k h. h.right.valid) (freed t made (found_valid asked.0 (first_of vs) t (first_sound vs sound) asked.2) reached)
+    by_asked (reached_from t) is (inr none) = cc
 
 -- each proof in what is made is valid
 pub proofs_valid : (made : Product) → IsSound (held_product made) → All IsValid (proofs_in made)
@@ -160,6 +202,7 @@ proofs_valid (expansion x) done = All-nil IsValid
 proofs_valid (nodes flat) done = All-nil IsValid
 proofs_valid (interpolant f t u) valid = All-cons IsValid t (u ∷ []) valid.0 (All-cons IsValid u [] valid.1 (All-nil IsValid))
 proofs_valid (herbrand k s) done = All-nil IsValid
+proofs_valid (definition d f) done = All-nil IsValid
 proofs_valid (introduced t b) valid = All-cons IsValid t [] valid (All-nil IsValid)
 
 -- what is held is sound

@@ -3,12 +3,14 @@
 --     Answer      a refusal that is found before any work, a failure that is found by work, want of memory, or a product
 --     shown, held      what is replied to the job, and what the job holds
 --     proofs_in      the proofs in a product
---     with_lack      the same where it is known whether memory ran out
-use Rattle.std.specs.Prelude.{◌≡◌, ℕ, ◌-◌, ◌^◌, min, length, Bool, true, false, List, [], ◌∷◌}
-use Rattle.fol.specs.Syntax.{Formula}
+--     Asked, May      what an operation asks for, and what may be answered to it
+use Rattle.std.specs.Prelude.{◌≡◌, ◌⊎◌, ℕ, ◌-◌, ◌^◌, min, length, Bool, List, [], ◌∷◌}
+use Rattle.fol.specs.declared.symbols.Sym.{Sym}
+use Rattle.fol.specs.Syntax.{pred, defined, Formula}
 use Rattle.lk_rules.specs.declared.sequent.Sequent.{Sequent}
 use Rattle.lk_rules.specs.declared.rule.Step.{Step}
 use Rattle.proof_trees.specs.Trees.{Tree, concl, cuts, quants}
+use Rattle.cut_laws.specs.Elimination.{Reaches}
 use Rattle.expansion_laws.specs.Dependency.{Expansion, strongs_of}
 use Rattle.expansion_laws.specs.Proofs.{shallow_sequent}
 use Rattle.exp_tree.specs.Instances.{instances_of}
@@ -21,14 +23,14 @@ use Rattle.reply_lines.specs.declared.replies.ExpSummary.{ExpSummary}
 use Rattle.operation_laws.specs.declared.refusals.Refusal.{Refusal}
 use Rattle.operation_laws.specs.declared.refusals.Refusal.TheVariants.{UnknownName, Kind, Empty, Step as Faulty}
 use Rattle.operation_laws.specs.declared.refusals.Failure.{Failure}
-use Rattle.operation_laws.specs.declared.refusals.Failure.TheVariants.{Budget, Refutation, Quantified, Falsified, Node, Root, EigenTwice, EigenFree, Cycle, Cut, Defined, Partition, NotPrenex, TooMany}
+use Rattle.operation_laws.specs.declared.refusals.Failure.TheVariants.{Budget, Unproved, Refutation, Quantified, Falsified, Node, Root, EigenTwice, EigenFree, Cycle, Cut, Defined, Partition, NotPrenex, TooMany, DefTwice, DefFree, DefLarge}
 use Rattle.operation_laws.specs.Values.{Value}
 use Rattle.operation_laws.specs.Values as values
 
 -- a proof, a proof that was met after a number of replacements, a problem, whether a proof proves a problem, the steps of a proof, the
 -- numbers of its cuts, of its nodes that differ, of its quantifier rules and of all its nodes, expansion trees, trees as a flat list, an
--- interpolant with its two proofs, that of the first part first, a Herbrand sequent after the number of its tuples, or a proof and whether
--- it is shorter than the given one
+-- interpolant with its two proofs, that of the first part first, a Herbrand sequent after the number of its tuples, a proof and whether it is
+-- shorter than the given one, or a symbol with the formula that it stands for, closed over its arguments
 pub data Product : Type 0 where
   proof : Tree → Product
   reduced : Tree → ℕ → Product
@@ -41,6 +43,7 @@ pub data Product : Type 0 where
   interpolant : Formula → Tree → Tree → Product
   herbrand : ℕ → Sequent → Product
   introduced : Tree → Bool → Product
+  definition : Sym → Formula → Product
 
 pub data Answer : Type 0 where
   refused : Refusal → Answer
@@ -68,6 +71,7 @@ shown_refusal (Faulty step cause) = outcomes.Step step cause
 
 abbrev pub shown_failure : Failure → Outcome
 shown_failure Budget = outcomes.Budget
+shown_failure (Unproved r) = shown_refusal r
 shown_failure (Refutation step cause) = outcomes.Refutation step cause
 shown_failure (Quantified f side) = outcomes.Quantified f side
 shown_failure (Falsified atoms) = outcomes.Falsified atoms
@@ -81,6 +85,9 @@ shown_failure (Defined f side) = outcomes.Defined f side
 shown_failure (Partition f side) = outcomes.Partition f side
 shown_failure (NotPrenex f side) = outcomes.NotPrenex f side
 shown_failure (TooMany k) = outcomes.TooMany k
+shown_failure (DefTwice text) = outcomes.DefTwice text
+shown_failure (DefFree v) = outcomes.DefFree v
+shown_failure DefLarge = outcomes.DefLarge
 
 abbrev pub shown_product : Product → Outcome
 shown_product (proof t) = outcomes.Proof (summary_of t)
@@ -94,6 +101,7 @@ shown_product (nodes flat) = outcomes.Nodes flat
 shown_product (interpolant f t u) = outcomes.Interpolant (summary_of t) f (summary_of u)
 shown_product (herbrand k s) = outcomes.Herbrand k s
 shown_product (introduced t b) = outcomes.Introduced (summary_of t) b
+shown_product (definition s f) = outcomes.Definition s.name s.arity f
 
 -- what is replied
 abbrev pub shown : Answer → Outcome
@@ -114,6 +122,7 @@ held_product (nodes flat) = values.nothing
 held_product (interpolant f t u) = values.pair t u
 held_product (herbrand k s) = values.nothing
 held_product (introduced t b) = values.proof t
+held_product (definition s f) = values.definition (pred s (defined f))
 
 -- what the job holds
 abbrev pub held : Answer → Value
@@ -135,19 +144,29 @@ proofs_in (nodes flat) = []
 proofs_in (interpolant f t u) = t ∷ u ∷ []
 proofs_in (herbrand k s) = []
 proofs_in (introduced t b) = t ∷ []
+proofs_in (definition s f) = []
 
--- Where memory ran out a failure or a product gives way to want of it; a refusal needs none.
-abbrev pub with_lack : Bool → Answer → Answer
-with_lack lacked (refused r) = refused r
-with_lack lacked lacking = lacking
-with_lack true (failed f) = lacking
-with_lack true (product p) = lacking
-with_lack false (failed f) = failed f
-with_lack false (product p) = product p
+-- What an operation asks for: one answer, or a proof without cuts that is reached from a proof, after however many replacements. No function
+-- of the proof computes that, so a relation says what it is.
+pub data Asked : Type 0 where
+  one : Answer → Asked
+  elimination : Tree → Asked
 
--- an answer may lack memory or not: a refusal never does, and want of memory does
-abbrev pub may_lack : Bool → Answer → Type 0
-may_lack lacked (refused r) = lacked ≡ false
-may_lack lacked (failed f) = Unit {0}
-may_lack lacked lacking = lacked ≡ true
-may_lack lacked (product p) = Unit {0}
+-- A refusal needs no memory; a failure and a product may give way to want of it.
+abbrev pub OrLacking : Answer → Answer → Type 0
+OrLacking (refused r) b = b ≡ refused r
+OrLacking (failed f) b = (b ≡ failed f) ⊎ (b ≡ lacking)
+OrLacking lacking b = b ≡ lacking
+OrLacking (product p) b = (b ≡ product p) ⊎ (b ≡ lacking)
+
+-- it is the proof that is reached from t, with the number of replacements, which ends at the largest number of 64 bits
+pub record IsReached (t : Tree) (b : Answer) : Type 0 where
+  pub tree : Tree
+  pub steps : ℕ
+  pub reached : Reaches t steps tree
+  pub is : b ≡ product (reduced tree (capped steps))
+
+-- what may be answered
+abbrev pub May : Asked → Answer → Type 0
+May (one a) b = OrLacking a b
+May (elimination t) b = IsReached t b ⊎ (b ≡ lacking)

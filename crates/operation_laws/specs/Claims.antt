@@ -1,21 +1,30 @@
 -- What each operation claims of what it makes.
 --     IsProofOf, IsCutFreeProofOf      a valid proof of a sequent, and one without cuts
 --     IsFoundAnd      something holds of what a field is given
---     GivenProof, GivenProblem, GivenExpansion, GivenBoth      something holds of what the operation is given
+--     GivenProof, GivenProblem, GivenExpansion, GivenBoth, GivenDefinitions      something holds of what the operation is given
 --     Lists      the product is how a given value is shown
---     AProof, AReducedProof, AnExpansion, AnInterpolant, AHerbrandSequent, AnIntroduction      something holds of what the operation makes
+--     AProof, AReducedProof, AnExpansion, AnInterpolant, AHerbrandSequent, AnIntroduction, ADefinition      something holds of what the operation
+--     makes
 --     Claims      one line an operation
-use Rattle.std.specs.Prelude.{◌≡◌, ℕ, ◌<◌, ◌≤◌, Bool, true, false, List, [], ◌∷◌, Option}
+use Rattle.std.specs.Prelude.{◌≡◌, ℕ, ◌<◌, ◌≤◌, ◌-◌, ◌^◌, Bool, true, false, List, [], ◌∷◌, length, Option}
 use Rattle.std.specs.FinMap as fin
+use Rattle.fol.specs.declared.symbols.Sym.{Sym}
 use Rattle.fol.specs.declared.symbols.Var.{Var}
-use Rattle.fol.specs.Syntax.{Pred, Formula}
+use Rattle.fol.specs.Syntax.{Pred, pred, defined, Formula, all}
+use Rattle.fol.specs.Formed.{IsFormedPred}
 use Rattle.free_variables.specs.Occurrence.{is_free_in, is_pred_in}
+use Rattle.substitution.specs.Closing.{closed_over}
 use Rattle.lk_rules.specs.declared.sequent.Sequent.{Sequent}
 use Rattle.lk_rules.specs.declared.sequent.Side.TheVariants.{Left, Right}
 use Rattle.lk_rules.specs.Sequents.{is_subsequent, image_sequent, adds_to, union_sequent, is_free_in_sequent}
 use Rattle.proof_trees.specs.Trees.{Tree, concl, cuts, quants, IsValid, IsCutFree}
 use Rattle.proof_trees.specs.Occurrence.{is_pred_in_sequent}
 use Rattle.cut_laws.specs.Elimination.{Reaches}
+use Rattle.def_laws.specs.Flat.{flat, flat_sequent}
+use Rattle.def_laws.specs.Nodes.{nodes_of}
+use Rattle.def_laws.specs.Defining.{max_nodes}
+use Rattle.def_laws.specs.Unfolded.{HasNoBody}
+use Rattle.proof_trees.specs.Conclusions.{EachNode}
 use Rattle.refutations.specs.Clauses.{closures}
 use Rattle.search_laws.specs.Truth.{IsPropositional, IsTautology}
 use Rattle.expansion_laws.specs.Dependency.{Expansion}
@@ -33,9 +42,9 @@ use Rattle.tptp_problem.specs.ProblemClauses.{clauses_of}
 use Rattle.job_lang.specs.declared.jobs.Op.{Op}
 use Rattle.job_lang.specs.declared.jobs.Op.TheVariants as ops
 use Rattle.operation_laws.specs.Values.{Value}
-use Rattle.operation_laws.specs.Answers.{Product, proof, reduced, problem, proves, steps, expansion, nodes, interpolant, herbrand, introduced, capped}
-use Rattle.operation_laws.specs.Given.{Found, missing, wanting, found, proof_given, problem_given, expansion_given, ToShow, of_proof, of_expansion, shown_given}
-use Rattle.operation_laws.specs.Running.{sizes_of}
+use Rattle.operation_laws.specs.Answers.{Product, proof, reduced, problem, proves, steps, expansion, nodes, interpolant, herbrand, introduced, definition, capped}
+use Rattle.operation_laws.specs.Given.{Found, missing, wanting, found, proof_given, problem_given, expansion_given, ToShow, of_proof, of_expansion, shown_given, definitions_given}
+use Rattle.operation_laws.specs.Running.{sizes_of, steps_with, formula_with}
 
 -- the tree is a valid proof of the sequent
 pub record IsProofOf (t : Tree) (s : Sequent) : Type 0 where
@@ -67,6 +76,10 @@ GivenExpansion of vs holds = ⊥
 abbrev pub GivenBoth : List ℕ → List ℕ → List (Option Value) → (Tree → Problem → Type 0) → Type 0
 GivenBoth of goal (v ∷ w ∷ []) holds = IsFoundAnd (proof_given of v) (λ t. IsFoundAnd (problem_given goal w) (holds t))
 GivenBoth of goal vs holds = ⊥
+
+-- it is given values in which the names of a list stand for definitions, of which this holds
+abbrev pub GivenDefinitions : List (List ℕ) → List (Option Value) → (List Pred → Type 0) → Type 0
+GivenDefinitions using vs holds = IsFoundAnd (definitions_given using vs) holds
 
 -- the product has the canonical steps of a proof, or the flat list of expansion trees
 abbrev pub IsListOf : Product → ToShow → Type 0
@@ -105,6 +118,12 @@ pub record IsEliminated (t : Tree) (n : ℕ) (u : Tree) (k : ℕ) : Type 0 where
   pub reached : Reaches t k u
   pub within : k ≤ n
 
+-- the tree is a proof without cuts of the same sequent as t, reached from t in just k replacements, unless k is the largest number of 64 bits
+pub record IsFreed (t u : Tree) (k : ℕ) : Type 0 where
+  pub right : IsProofOf u (concl t)
+  pub cut_free : IsCutFree u
+  pub reached : k < 2 ^ 64 - 1 → Reaches t k u
+
 -- it is a Herbrand sequent with a number of tuples, of which this holds
 abbrev pub AHerbrandSequent : Product → (ℕ → Sequent → Type 0) → Type 0
 AHerbrandSequent (herbrand k s) holds = holds k s
@@ -114,6 +133,11 @@ AHerbrandSequent p holds = ⊥
 abbrev pub AnIntroduction : Product → (Tree → Bool → Type 0) → Type 0
 AnIntroduction (introduced t b) holds = holds t b
 AnIntroduction p holds = ⊥
+
+-- it is a symbol with the formula that it stands for, of which this holds
+abbrev pub ADefinition : Product → (Sym → Formula → Type 0) → Type 0
+ADefinition (definition s f) holds = holds s f
+ADefinition p holds = ⊥
 
 -- the tree is a valid proof without cuts of the sequent
 pub record IsCutFreeProofOf (t : Tree) (s : Sequent) : Type 0 where
@@ -147,20 +171,40 @@ pub record IsIntroduced (t u : Tree) (shorter : Bool) : Type 0 where
   pub shortened : shorter ≡ true → (cuts u ≡ 1) × (quants u < quants t)
   pub same : shorter ≡ false → u ≡ t
 
--- What an operation claims of its product: of `lk` a valid proof of the last step's sequent, of `subst` one of the image of the given
--- proof's sequent, of `cutelim` one without cuts of that sequent itself, reached within the budget, of `resolution` one of the
+-- The symbol has the name and an argument for each variable, and stands for f closed over these, in which nothing else is free. It is well
+-- formed, and f isn't large with all defined symbols unfolded.
+pub record IsDefinition (name : List ℕ) (vs : List Var) (f : Formula) (s : Sym) (g : Formula) : Type 0 where
+  pub symbol : s ≡ record { name = name; arity = length vs }
+  pub body : g ≡ closed_over all vs f
+  pub formed : IsFormedPred (pred s (defined g))
+  pub small : nodes_of (flat f) ≤ max_nodes
+
+-- The tree proves the sequent of t with all defined symbols unfolded, by as many cuts and quantifier inferences, and no symbol in it stands
+-- for a formula.
+pub record IsUnfolded (t u : Tree) : Type 0 where
+  pub right : IsProofOf u (flat_sequent (concl t))
+  pub cuts : cuts u ≡ cuts t
+  pub quants : quants u ≡ quants t
+  pub primitive : EachNode HasNoBody u
+
+-- What an operation claims of its product: of `lk` a valid proof of the last step's sequent, with the definitions that it uses, of `subst` one of the image of the given
+-- proof's sequent, of `cutelim` one without cuts of that sequent itself, reached within the budget, of `eliminate` the same without one, of
+-- `define` a symbol that stands for the formula, of `unfold` a valid proof of the given one's sequent unfolded, of `resolution` one of the
 -- closures of the problem's clauses, on the left, of `tautology` one without cuts of the sequent itself, of `expansion` an
 -- expansion proof, of `expand` one of the given proof's sequent, of `fromexp` a valid proof without cuts of the sequent of the given
 -- trees' formulas, of `interpolate` an interpolant of two parts of the given proof's sequent, with its two proofs, of `herbrand` the Herbrand
 -- sequent of the given proof, a tautology, and of `cutintro` a valid proof of the given one's sequent, shorter by a cut, or that proof.
 abbrev pub Claims : Op → List (Option Value) → Product → Type 0
-Claims (ops.Lk list) vs made = AProof made (λ t. IsProofOf t (last_end list))
+Claims (ops.Lk list using) vs made = GivenDefinitions using vs (λ ds. AProof made (λ t. IsProofOf t (last_end (steps_with using ds list))))
 Claims (ops.Problem p) vs made = made ≡ problem p
 Claims (ops.Proves of goal) vs made = GivenBoth of goal vs (λ t p. made ≡ proves (is_subsequent (concl t) p.sequent))
 Claims (ops.Show of) vs made = Lists of vs made
 Claims (ops.Measure of) vs made = GivenProof of vs (λ t. made ≡ sizes_of t)
 Claims (ops.Subst of m) vs made = GivenProof of vs (λ t. AProof made (λ u. IsProofOf u (image_sequent (fin.get m) (concl t))))
 Claims (ops.Cutelim of n) vs made = GivenProof of vs (λ t. AReducedProof made (λ u k. IsEliminated t n u k))
+Claims (ops.Eliminate of) vs made = GivenProof of vs (λ t. AReducedProof made (IsFreed t))
+Claims (ops.Define symbol vars body using) vs made = GivenDefinitions using vs (λ ds. ADefinition made (IsDefinition symbol vars (formula_with using ds body)))
+Claims (ops.Unfold of) vs made = GivenProof of vs (λ t. AProof made (IsUnfolded t))
 Claims (ops.Resolution of list) vs made = GivenProblem of vs (λ p. AProof made (λ t. IsProofOf t (closures (clauses_of p.entries))))
 Claims (ops.Tautology s n) vs made = AProof made (λ t. IsCutFreeProofOf t s)
 Claims (ops.Expansion flat n) vs made = AnExpansion made (IsExpansionOf flat)

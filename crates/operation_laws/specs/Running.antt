@@ -1,17 +1,26 @@
 -- What each operation comes to, over the values that its names of jobs stand for.
-use Rattle.std.specs.Prelude.{ℕ, ◌^◌, nat_lt, length, Bool, true, false, if◌then◌else◌, List, find, Option, Some, None, option_map, Result, Ok, Err}
+use Rattle.std.specs.Prelude.{ℕ, ◌^◌, nat_lt, ◌&&◌, length, Bool, true, false, if◌then◌else◌, List, [], ◌∷◌, map, find, slice_get, Option, Some, None, option_map, option_and_then, Result, Ok, Err}
 use Rattle.std.specs.List.{list_all}
-use Rattle.fol.specs.Syntax.{Formula}
-use Rattle.fol.specs.Formed.{is_formed}
+use Rattle.fol.specs.declared.symbols.Var.{Var}
+use Rattle.fol.specs.Syntax.{Pred, Formula, all}
+use Rattle.fol.specs.Formed.{is_formed, is_formed_pred}
 use Rattle.finite.specs.Finite as set
 use Rattle.lk_rules.specs.Formulas.{FormulaSet}
 use Rattle.lk_rules.specs.declared.sequent.Sequent.{Sequent}
 use Rattle.lk_rules.specs.declared.sequent.Side.{Side}
 use Rattle.lk_rules.specs.declared.sequent.Side.TheVariants.{Left, Right}
 use Rattle.lk_rules.specs.Sequents.{is_subsequent}
-use Rattle.proof_trees.specs.Trees.{Tree, concl, size, cuts, quants}
+use Rattle.substitution.specs.Closing.{closed_over}
+use Rattle.lk_rules.specs.declared.rule.Step.{Step as ProofStep}
+use Rattle.lk_rules.specs.Rules.{is_formed_rule}
+use Rattle.proof_trees.specs.Trees.{Tree, node, Trees, none, more, concl, size, cuts, quants}
 use Rattle.proof_trees.specs.Substitution.{sub}
 use Rattle.cut_laws.specs.Elimination.{elimination}
+use Rattle.def_laws.specs.declared.fault.DefFault.{DefFault}
+use Rattle.def_laws.specs.declared.fault.DefFault.TheVariants as defining_faults
+use Rattle.def_laws.specs.Unfolded.{unfolded}
+use Rattle.def_laws.specs.Marking.{first_like, marked, marked_step}
+use Rattle.def_laws.specs.Defining.{defining}
 use Rattle.refutations.specs.declared.clause.Clause.{Clause}
 use Rattle.refutations.specs.declared.step.ResStep.{ResStep}
 use Rattle.refutations.specs.declared.step.ResCause.{ResCause}
@@ -63,10 +72,10 @@ use Rattle.reply_lines.specs.declared.replies.StepShown.TheVariants.{Reference, 
 use Rattle.reply_lines.specs.declared.replies.RefutationShown.{RefutationShown}
 use Rattle.reply_lines.specs.declared.replies.RefutationShown.TheVariants as refutation_shows
 use Rattle.operation_laws.specs.declared.refusals.Refusal.TheVariants.{Empty, Step}
-use Rattle.operation_laws.specs.declared.refusals.Failure.TheVariants.{Budget, Refutation, Quantified, Falsified, Node, Root, EigenTwice, EigenFree, Cycle, Cut, Defined, Partition, NotPrenex, TooMany}
+use Rattle.operation_laws.specs.declared.refusals.Failure.TheVariants.{Budget, Unproved, Refutation, Quantified, Falsified, Node, Root, EigenTwice, EigenFree, Cycle, Cut, Defined, Partition, NotPrenex, TooMany, DefTwice, DefFree, DefLarge}
 use Rattle.operation_laws.specs.Values.{Value}
-use Rattle.operation_laws.specs.Answers.{Product, proof, reduced, problem, proves, steps, sizes, expansion, nodes, interpolant, herbrand, introduced, Answer, refused, failed, lacking, product, capped}
-use Rattle.operation_laws.specs.Given.{or_else, Found, missing, wanting, found, proof_given, problem_given, expansion_given, ToShow, of_proof, of_expansion, shown_given, first_of, second_of}
+use Rattle.operation_laws.specs.Answers.{Product, proof, reduced, problem, proves, steps, sizes, expansion, nodes, interpolant, herbrand, introduced, definition, Answer, refused, failed, lacking, product, capped, Asked, one, elimination as reached_from}
+use Rattle.operation_laws.specs.Given.{or_else, Found, missing, wanting, found, proof_given, problem_given, expansion_given, ToShow, of_proof, of_expansion, shown_given, definitions_given, first_of, second_of}
 
 -- what is done with what a field is given
 abbrev pub over : {A : Type 0} → Found A → (A → Answer) → Answer
@@ -90,6 +99,72 @@ admits (Ok t) = product (proof t)
 admits (Err admission.Empty) = refused Empty
 admits (Err (admission.Step i cause)) = refused (Step i (step_shown cause))
 admits (Err admission.Memory) = lacking
+
+-- The same of steps into which definitions were put. That takes memory, so what is found of the steps is found by work.
+abbrev pub admits_behind : List (List ℕ) → Result Tree AdmitFault → Answer
+admits_behind [] r = admits r
+admits_behind (text ∷ texts) (Ok t) = product (proof t)
+admits_behind (text ∷ texts) (Err admission.Empty) = failed (Unproved Empty)
+admits_behind (text ∷ texts) (Err (admission.Step i cause)) = failed (Unproved (Step i (step_shown cause)))
+admits_behind (text ∷ texts) (Err admission.Memory) = lacking
+
+-- the first name of a list whose definition is of the symbol of an earlier one
+abbrev pub repeated : List (List ℕ) → List Pred → Option (List ℕ)
+repeated texts ds = option_and_then (slice_get texts) (first_like [] ds)
+
+-- what is done with definitions, where no two are of one symbol
+abbrev pub unless_twice : Option (List ℕ) → Answer → Answer
+unless_twice None a = a
+unless_twice (Some text) a = failed (DefTwice text)
+
+-- the steps with definitions put into them, and a formula; without any they are as they are written
+abbrev pub steps_with : List (List ℕ) → List Pred → List ProofStep → List ProofStep
+steps_with [] ds list = list
+steps_with (text ∷ texts) ds list = map (marked_step ds) list
+
+abbrev pub formula_with : List (List ℕ) → List Pred → Formula → Formula
+formula_with [] ds f = f
+formula_with (text ∷ texts) ds f = marked ds f
+
+-- a list of steps with definitions: the proof of its last step
+abbrev pub proves_with : List (List ℕ) → List ProofStep → List Pred → Answer
+proves_with using list ds = unless_twice (repeated using ds) (admits_behind using (admission_of (steps_with using ds list)))
+
+-- A symbol that stands for a formula with variables for its arguments, or why it doesn't, which is found by work. The symbol is well formed
+-- unless 2^32 or more quantifiers would stand inside one another in what it stands for, which no index would count and no memory holds.
+abbrev pub defines : List ℕ → List Var → Formula → Result Pred DefFault → Answer
+defines name vs f (Ok p) = if is_formed_pred p then product (definition (record { name = name; arity = length vs }) (closed_over all vs f)) else lacking
+defines name vs f (Err (defining_faults.Free v)) = failed (DefFree v)
+defines name vs f (Err defining_faults.Large) = failed DefLarge
+defines name vs f (Err defining_faults.Memory) = lacking
+
+abbrev pub defines_with : List ℕ → List Var → Formula → List (List ℕ) → List Pred → Answer
+defines_with name vs f using ds =
+    unless_twice (repeated using ds) (defines name vs (formula_with using ds f) (defining name vs (formula_with using ds f)))
+
+-- whether each rule in a tree names what is well formed
+abbrev mutual
+  pub has_formed_rules : Tree → Bool
+  has_formed_rules (node r s ts) = is_formed_rule r && have_formed_rules ts
+
+  pub have_formed_rules : Trees → Bool
+  have_formed_rules none = true
+  have_formed_rules (more t ts) = has_formed_rules t && have_formed_rules ts
+
+-- whether the formulas of a sequent are well formed
+abbrev pub is_formed_sequent : Sequent → Bool
+is_formed_sequent s = list_all is_formed (set.listing s.left) && list_all is_formed (set.listing s.right)
+
+-- A proof with all defined symbols unfolded. Whatever a job's proof names is well formed, and so is what is unfolded unless 2^32 or more
+-- quantifiers would stand inside one another in it; no memory holds what isn't, and no proof is made of it.
+abbrev pub unfolds : Tree → Answer
+unfolds t = if is_formed_sequent (concl t) && has_formed_rules (unfolded t) then product (proof (unfolded t)) else lacking
+
+-- a proof without cuts is asked for, where a proof is given
+abbrev pub to_eliminate : Found Tree → Asked
+to_eliminate (missing r) = one (refused r)
+to_eliminate wanting = one lacking
+to_eliminate (found t) = reached_from t
 
 -- whether a proof proves a problem: its end sequent is a subsequent of the problem's
 abbrev pub compares : Tree → Problem → Answer
@@ -216,19 +291,22 @@ lists (of_proof t) = product (steps (steps_of t))
 lists (of_expansion x) = product (nodes (flat_of x))
 
 -- an operation over the values that its names stand for, one for each, in their order
-abbrev pub run : Op → List (Option Value) → Answer
-run (ops.Lk list) vs = admits (admission_of list)
-run (ops.Problem p) vs = product (problem p)
-run (ops.Proves of goal) vs = over_both (proof_given of (first_of vs)) (problem_given goal (second_of vs)) compares
-run (ops.Show of) vs = over (shown_given of (first_of vs)) lists
-run (ops.Measure of) vs = over (proof_given of (first_of vs)) (λ t. product (sizes_of t))
-run (ops.Subst of m) vs = over (proof_given of (first_of vs)) (λ t. product (proof (sub t m)))
-run (ops.Cutelim of n) vs = over (proof_given of (first_of vs)) (λ t. eliminates (elimination t n))
-run (ops.Resolution of list) vs = over (problem_given of (first_of vs)) (refutes list)
-run (ops.Tautology s n) vs = searches (quantified_in s) s n
-run (ops.Expansion flat n) vs = reads (reading flat n) n
-run (ops.Expand of n) vs = over (proof_given of (first_of vs)) (λ t. extracted (extracting t n))
-run (ops.Fromexp of n) vs = over (expansion_given of (first_of vs)) (λ x. builds x n)
-run (ops.Interpolate of one two n) vs = over (proof_given of (first_of vs)) (λ t. interpolated (interpolating t one two n))
-run (ops.Herbrand of n) vs = over (proof_given of (first_of vs)) (λ t. instanced (instancing t n))
-run (ops.Cutintro of width n) vs = over (proof_given of (first_of vs)) (λ t. shortened t (introducing width t n))
+abbrev pub run : Op → List (Option Value) → Asked
+run (ops.Lk list using) vs = one (over (definitions_given using vs) (proves_with using list))
+run (ops.Problem p) vs = one (product (problem p))
+run (ops.Proves of goal) vs = one (over_both (proof_given of (first_of vs)) (problem_given goal (second_of vs)) compares)
+run (ops.Show of) vs = one (over (shown_given of (first_of vs)) lists)
+run (ops.Measure of) vs = one (over (proof_given of (first_of vs)) (λ t. product (sizes_of t)))
+run (ops.Subst of m) vs = one (over (proof_given of (first_of vs)) (λ t. product (proof (sub t m))))
+run (ops.Cutelim of n) vs = one (over (proof_given of (first_of vs)) (λ t. eliminates (elimination t n)))
+run (ops.Eliminate of) vs = to_eliminate (proof_given of (first_of vs))
+run (ops.Define symbol vars body using) vs = one (over (definitions_given using vs) (defines_with symbol vars body using))
+run (ops.Unfold of) vs = one (over (proof_given of (first_of vs)) unfolds)
+run (ops.Resolution of list) vs = one (over (problem_given of (first_of vs)) (refutes list))
+run (ops.Tautology s n) vs = one (searches (quantified_in s) s n)
+run (ops.Expansion flat n) vs = one (reads (reading flat n) n)
+run (ops.Expand of n) vs = one (over (proof_given of (first_of vs)) (λ t. extracted (extracting t n)))
+run (ops.Fromexp of n) vs = one (over (expansion_given of (first_of vs)) (λ x. builds x n))
+run (ops.Interpolate of first second n) vs = one (over (proof_given of (first_of vs)) (λ t. interpolated (interpolating t first second n)))
+run (ops.Herbrand of n) vs = one (over (proof_given of (first_of vs)) (λ t. instanced (instancing t n)))
+run (ops.Cutintro of width n) vs = one (over (proof_given of (first_of vs)) (λ t. shortened t (introducing width t n)))

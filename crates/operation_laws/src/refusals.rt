@@ -22,6 +22,8 @@ pub enum Refusal {
 pub enum Failure {
     /// After as much work as the budget allows there is more to do.
     Budget,
+    /// A list of steps is refused, as was found when definitions had been put into it.
+    Unproved(Refusal),
     /// The first faulty step of a refutation, counted from 0, and its fault.
     Refutation { step: u64, cause: RefutationShown },
     /// The first formula of a sequent that has a quantifier, the left side before the right one.
@@ -49,4 +51,10 @@ pub enum Failure {
     NotPrenex { formula: FormedFormula, side: Side },
     /// The quantified formulas of a sequent have more tuples than candidates for a cut are looked for: this many.
     TooMany(u64),
+    /// The definition of a job, whose name is written so in a field, is of the symbol of an earlier one in the field.
+    DefTwice(Utf8Text),
+    /// The least variable that is free in the formula of a definition and isn't one of its arguments.
+    DefFree(FormedVar),
+    /// With all defined symbols unfolded the formula of a definition has more nodes than it may have.
+    DefLarge,
 }

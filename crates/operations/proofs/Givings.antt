@@ -1,5 +1,6 @@
 -- What an operation comes to, by what its fields are given.
-use Rattle.std.proofs.Common.{◌≡◌, Err, sym, ap, ◌∙◌, subst}
+use Rattle.std.proofs.Common.{◌≡◌, Err, refl, sym, ap, ◌∙◌, subst}
+use Rattle.proof_trees.specs.Trees.{Tree}
 use Rattle.proof_graph.specs.declared.graph.Graph.{Graph}
 use Rattle.operation_laws.specs.declared.refusals.Refusal.{Refusal}
 use Rattle.operations.specs.declared.answers.Absent.{Absent}
@@ -8,8 +9,8 @@ use Rattle.operations.specs.declared.answers.Ran.{Ran}
 use Rattle.operations.specs.declared.answers.Ran.TheVariants as ran
 use Rattle.operation_laws.specs.Answers.{Answer, refused, lacking}
 use Rattle.operation_laws.specs.Given.{Found, missing, wanting, found}
-use Rattle.operation_laws.specs.Running.{over, over_both}
-use Rattle.operations.specs.Means.{Finds, without, Comes}
+use Rattle.operation_laws.specs.Running.{over, over_both, to_eliminate}
+use Rattle.operations.specs.Means.{Finds, without, Comes, ComesTo}
 
 -- a field that is given nothing
 without_comes : {T A : Type 0} (g : Graph) (of : T → A) (a : Absent) (f : Found A) (k : A → Answer) → Finds of (Err a) f → Comes g (without a) (over f k)
@@ -21,6 +22,17 @@ without_comes g of absent.Wanting f k is = subst (λ w. Comes g ran.Lacking (ove
 
 pub absent_comes : {T A : Type 0} (g : Graph) (of : T → A) (a : Absent) (r : Ran) (f : Found A) (k : A → Answer) → r ≡ without a → Finds of (Err a) f → Comes g r (over f k)
 absent_comes g of a r f k is finds = subst (λ w. Comes g w (over f k)) (sym is) (without_comes g of a f k finds)
+
+-- the same where a proof without cuts is asked for
+pub absent_asked : {T : Type 0} (g : Graph) (of : T → Tree) (a : Absent) (r : Ran) (f : Found Tree) → r ≡ without a → Finds of (Err a) f → ComesTo g r (to_eliminate f)
+absent_asked g of a r f is finds = subst (λ w. ComesTo g w (to_eliminate f)) (sym is) (asked_without a f finds)
+  where
+    asked_without : (b : Absent) (h : Found Tree) → Finds of (Err b) h → ComesTo g (without b) (to_eliminate h)
+    asked_without (absent.Refused t) h is = subst (λ w. ComesTo g (ran.Refused t) (to_eliminate w)) (sym is) refl
+    asked_without absent.Unnamed (missing t) shows = shows
+    asked_without absent.Unnamed wanting shows = absurd shows
+    asked_without absent.Unnamed (found t) shows = absurd shows
+    asked_without absent.Wanting h is = subst (λ w. ComesTo g ran.Lacking (to_eliminate w)) (sym is) tt
 
 -- a field that is given something
 pub found_comes : {A : Type 0} (g : Graph) (r : Ran) (f : Found A) (a : A) (k : A → Answer) → f ≡ found a → Comes g r (k a) → Comes g r (over f k)

@@ -1,5 +1,5 @@
 -- What the introduction of a cut answers decides what the operation comes to.
-use Rattle.std.proofs.Common.{◌≡◌, ℕ, ◌≤◌, Bool, true, false, cond, arith, Result, Ok, Err, sym, ap, subst}
+use Rattle.std.proofs.Common.{◌≡◌, ℕ, ◌≤◌, Bool, true, false, cond, arith, Result, Ok, Err, sym, subst}
 use Rattle.std.proofs.lemmas.Bool.Decides.{nat_tests}
 use Rattle.lk_rules.proofs.Subsequents.{and_left, and_right}
 use Rattle.std.specs.Prelude.{nat_le}

@@ -1,4 +1,8 @@
+pub mod Asked
 pub mod Givings
+pub mod DefinitionsGiven
+pub mod DefinitionsUsed
+pub mod Unfolded
 pub mod Eliminated
 pub mod Refuted
 pub mod Searched

@@ -1,5 +1,5 @@
 -- What shows that an elimination of cuts is noted.
-use Rattle.std.proofs.Common.{◌≡◌, true, List, refl}
+use Rattle.std.proofs.Common.{◌≡◌, true, List}
 use Rattle.cut_elim.specs.declared.desk.DeskPass.{DeskPass}
 use Rattle.job_lang.specs.declared.jobs.Op.{Op}
 use Rattle.job_lang.specs.declared.jobs.Op.TheVariants as ops
@@ -9,18 +9,21 @@ use Rattle.operation_laws.specs.declared.refusals.Failure.{Failure}
 use Rattle.operation_laws.specs.declared.refusals.Failure.TheVariants as failures
 use Rattle.operation_laws.specs.Answers.{shown_refusal, shown_failure}
 use Rattle.held_values.specs.declared.held.Held.{Held}
-use Rattle.operations.specs.Means.{Needs, a_graph, a_bench, a_desk, needs}
+use Rattle.operations.specs.Means.{a_graph, a_bench, needs}
 use Rattle.operations.specs.Noted.{IsNoted, is_reduced}
 
 -- an operation that is run without a desk has nothing to note
 pub noted_in_graph : (op : Op) (given : List Held) (p : DeskPass) → needs op ≡ a_graph → IsNoted op given p
-noted_in_graph (ops.Lk steps) given p e = cc
+noted_in_graph (ops.Lk steps using) given p e = cc
 noted_in_graph (ops.Problem problem) given p e = tt
 noted_in_graph (ops.Proves of goal) given p e = tt
 noted_in_graph (ops.Show of) given p e = tt
 noted_in_graph (ops.Measure of) given p e = tt
 noted_in_graph (ops.Subst of m) given p e = cc
 noted_in_graph (ops.Cutelim of n) given p e = cc
+noted_in_graph (ops.Eliminate of) given p e = cc
+noted_in_graph (ops.Define symbol vars body using) given p e = tt
+noted_in_graph (ops.Unfold of) given p e = cc
 noted_in_graph (ops.Resolution of steps) given p e = cc
 noted_in_graph (ops.Tautology s n) given p e = cc
 noted_in_graph (ops.Expansion flat n) given p e = tt
@@ -31,13 +34,16 @@ noted_in_graph (ops.Herbrand of n) given p e = tt
 noted_in_graph (ops.Cutintro of width n) given p e = cc
 
 pub noted_at_bench : (op : Op) (given : List Held) (p : DeskPass) → needs op ≡ a_bench → IsNoted op given p
-noted_at_bench (ops.Lk steps) given p e = tt
+noted_at_bench (ops.Lk steps using) given p e = tt
 noted_at_bench (ops.Problem problem) given p e = cc
 noted_at_bench (ops.Proves of goal) given p e = cc
 noted_at_bench (ops.Show of) given p e = cc
 noted_at_bench (ops.Measure of) given p e = cc
 noted_at_bench (ops.Subst of m) given p e = tt
 noted_at_bench (ops.Cutelim of n) given p e = cc
+noted_at_bench (ops.Eliminate of) given p e = cc
+noted_at_bench (ops.Define symbol vars body using) given p e = cc
+noted_at_bench (ops.Unfold of) given p e = tt
 noted_at_bench (ops.Resolution of steps) given p e = tt
 noted_at_bench (ops.Tautology s n) given p e = tt
 noted_at_bench (ops.Expansion flat n) given p e = cc
@@ -56,6 +62,7 @@ refusal_not_reduced (refusals.Step i cause) e = cc
 
 pub failure_not_reduced : (f : Failure) → is_reduced (shown_failure f) ≡ true → ⊥
 failure_not_reduced failures.Budget e = cc
+failure_not_reduced (failures.Unproved r) e = refusal_not_reduced r e
 failure_not_reduced (failures.Refutation i cause) e = cc
 failure_not_reduced (failures.Quantified f side) e = cc
 failure_not_reduced (failures.Falsified atoms) e = cc
@@ -69,3 +76,6 @@ failure_not_reduced (failures.Defined f side) e = cc
 failure_not_reduced (failures.Partition f side) e = cc
 failure_not_reduced (failures.NotPrenex f side) e = cc
 failure_not_reduced (failures.TooMany n) e = cc
+failure_not_reduced (failures.DefTwice text) e = cc
+failure_not_reduced (failures.DefFree v) e = cc
+failure_not_reduced failures.DefLarge e = cc

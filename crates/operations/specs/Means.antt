@@ -1,14 +1,15 @@
 -- What the program's answers stand for, over the graph that the proofs share.
 --     made_of      what a product of the program means
 --     needs      what an operation is run with
---     Comes      what an operation came to stands for an answer
+--     Comes, ComesTo      what an operation came to stands for an answer, and for one to what it asks for
 --     is_refusal      an operation came to a refusal or a failure
 --     IsShort      an operation failed because the work takes more than the budget allows
-use Rattle.std.specs.Prelude.{◌≡◌, Bool, true, false, Result, Ok, Err}
+use Rattle.std.specs.Prelude.{◌≡◌, Bool, true, false, List, Result, Ok, Err}
 use Rattle.std.specs.List.{All}
 use Rattle.proof_graph.specs.declared.graph.Graph.{Graph}
 use Rattle.proof_graph.specs.Graphs.{IsOf}
-use Rattle.fol.specs.Formed.{IsFormedVar}
+use Rattle.fol.specs.Syntax.{Pred, pred, defined}
+use Rattle.fol.specs.Formed.{IsFormedVar, IsFormedPred}
 use Rattle.exp_tree.specs.Reads.{expansion_of}
 use Rattle.expansion_laws.specs.declared.fault.ExpFault.{ExpFault}
 use Rattle.expansion_laws.specs.declared.fault.ExpFault.TheVariants as checks
@@ -21,7 +22,7 @@ use Rattle.operations.specs.declared.answers.Made.{Made}
 use Rattle.operations.specs.declared.answers.Made.TheVariants as made
 use Rattle.operations.specs.declared.answers.Ran.{Ran}
 use Rattle.operations.specs.declared.answers.Ran.TheVariants as ran
-use Rattle.operation_laws.specs.Answers.{Product, Answer}
+use Rattle.operation_laws.specs.Answers.{Product, Answer, Asked, one as answering, elimination, May}
 use Rattle.operation_laws.specs.Answers as answers
 use Rattle.operation_laws.specs.Given.{Found}
 use Rattle.operation_laws.specs.Given as given
@@ -44,8 +45,9 @@ made_of (made.Nodes flat) = answers.nodes flat
 made_of (made.Interpolant f r s) = answers.interpolant f r.tree s.tree
 made_of (made.Herbrand k s) = answers.herbrand k s
 made_of (made.Introduced r b) = answers.introduced r.tree b
+made_of (made.Definition s f) = answers.definition s f
 
--- its references are of the graph, and a problem is such as is read
+-- its references are of the graph, a problem is such as is read, and a symbol is well formed
 abbrev pub FitsMade : Graph → Made → Type 0
 FitsMade g (made.Proof r) = IsOf g r
 FitsMade g (made.Reduced r n) = IsOf g r
@@ -58,6 +60,7 @@ FitsMade g (made.Nodes flat) = Unit {0}
 FitsMade g (made.Interpolant f r s) = IsOf g r × IsOf g s
 FitsMade g (made.Herbrand k s) = Unit {0}
 FitsMade g (made.Introduced r b) = IsOf g r
+FitsMade g (made.Definition s f) = IsFormedPred (pred s (defined f))
 
 -- the field is given nothing, and refused so, unless there is no memory for the name that the refusal shows
 abbrev pub IsAbsent : Absent → Refusal → Type 0
@@ -65,13 +68,18 @@ IsAbsent (absent.Refused r) wanted = r ≡ wanted
 IsAbsent absent.Unnamed wanted = ShowsName wanted
 IsAbsent absent.Wanting wanted = ⊥
 
+-- why there is nothing that a field was given, in the program
+abbrev pub FindsNone : {A : Type 0} → Absent → Found A → Type 0
+FindsNone (absent.Refused r) wanted = wanted ≡ given.missing r
+FindsNone absent.Unnamed (given.missing r) = ShowsName r
+FindsNone absent.Unnamed given.wanting = ⊥
+FindsNone absent.Unnamed (given.found a) = ⊥
+FindsNone absent.Wanting wanted = wanted ≡ given.wanting
+
 -- what a field was given, in the program: what `of` says of it, or why there is nothing
 abbrev pub Finds : {T A : Type 0} → (T → A) → Result T Absent → Found A → Type 0
 Finds of (Ok x) wanted = wanted ≡ given.found (of x)
-Finds of (Err (absent.Refused r)) wanted = wanted ≡ given.missing r
-Finds of (Err absent.Unnamed) (given.missing r) = ShowsName r
-Finds of (Err absent.Unnamed) wanted = ⊥
-Finds of (Err absent.Wanting) wanted = wanted ≡ given.wanting
+Finds of (Err a) wanted = FindsNone a wanted
 
 -- what can be shown, in the program
 abbrev pub shown_as : ToShow → given.ToShow
@@ -104,13 +112,16 @@ pub data Needs : Type 0 where
   a_desk : Needs
 
 abbrev pub needs : Op → Needs
-needs (ops.Lk steps) = a_bench
+needs (ops.Lk steps using) = a_bench
 needs (ops.Problem p) = a_graph
 needs (ops.Proves of goal) = a_graph
 needs (ops.Show of) = a_graph
 needs (ops.Measure of) = a_graph
 needs (ops.Subst of m) = a_bench
 needs (ops.Cutelim of n) = a_desk
+needs (ops.Eliminate of) = a_desk
+needs (ops.Define symbol vars body using) = a_graph
+needs (ops.Unfold of) = a_bench
 needs (ops.Resolution of steps) = a_bench
 needs (ops.Tautology s n) = a_bench
 needs (ops.Expansion flat n) = a_graph
@@ -129,6 +140,15 @@ Comes g (ran.Failed f) wanted = wanted ≡ answers.failed f
 Comes g ran.Lacking (answers.refused r) = ⊥
 Comes g ran.Lacking wanted = Unit {0}
 Comes g (ran.Done m) wanted = (wanted ≡ answers.product (made_of m)) × FitsMade g m
+
+-- want of memory is an answer to what is done with definitions, whatever they are
+abbrev pub LacksAlways : (List Pred → Answer) → Type 0
+LacksAlways k = (g : Graph) (ds : List Pred) → Comes g ran.Lacking (k ds)
+
+-- what it came to may be answered to what it asks for
+abbrev pub ComesTo : Graph → Ran → Asked → Type 0
+ComesTo g r (answering a) = Comes g r a
+ComesTo g r (elimination t) = (a : Answer) × May (elimination t) a × Comes g r a
 
 -- whether an operation came to no product though memory didn't run out: it is refused, or it failed
 abbrev pub is_refusal : Ran → Bool

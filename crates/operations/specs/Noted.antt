@@ -27,21 +27,25 @@ proof_in text (held.Proof r) = if is_some (pair_name text) then None else Some r
 proof_in text (held.Pair r s) = one_of text r s
 proof_in text (held.Problem p) = None
 proof_in text (held.Expansion e) = None
+proof_in text (held.Definition p) = None
 
 -- the value of the first name
 abbrev pub first_held : List Held → Held
 first_held [] = held.Unknown
 first_held (h ∷ hs) = h
 
--- the proof that an elimination of cuts is given stands as a key in the list of eliminations that the pass has seen
+-- the proof that an elimination of cuts within a budget is given stands as a key in the list of eliminations that the pass has seen
 abbrev pub IsNoted : Op → List Held → DeskPass → Type 0
 IsNoted (ops.Cutelim of n) given p = IsSomeAnd (proof_in of (first_held given)) (λ r. HasElimination p r.number)
-IsNoted (ops.Lk steps) given p = Unit {0}
+IsNoted (ops.Lk steps using) given p = Unit {0}
 IsNoted (ops.Problem problem) given p = Unit {0}
 IsNoted (ops.Proves of goal) given p = Unit {0}
 IsNoted (ops.Show of) given p = Unit {0}
 IsNoted (ops.Measure of) given p = Unit {0}
 IsNoted (ops.Subst of m) given p = Unit {0}
+IsNoted (ops.Eliminate of) given p = Unit {0}
+IsNoted (ops.Define symbol vars body using) given p = Unit {0}
+IsNoted (ops.Unfold of) given p = Unit {0}
 IsNoted (ops.Resolution of steps) given p = Unit {0}
 IsNoted (ops.Tautology s n) given p = Unit {0}
 IsNoted (ops.Expansion flat n) given p = Unit {0}
@@ -72,6 +76,7 @@ is_reduced (outcomes.Nodes flat) = false
 is_reduced (outcomes.Interpolant first formula second) = false
 is_reduced (outcomes.Herbrand count sequent) = false
 is_reduced (outcomes.Introduced summary shorter) = false
+is_reduced (outcomes.Definition symbol arity body) = false
 is_reduced outcomes.LineTooLong = false
 is_reduced (outcomes.Reading cause) = false
 is_reduced outcomes.NameTaken = false
@@ -92,5 +97,8 @@ is_reduced (outcomes.Defined formula side) = false
 is_reduced (outcomes.Partition formula side) = false
 is_reduced (outcomes.NotPrenex formula side) = false
 is_reduced (outcomes.TooMany tuples) = false
+is_reduced (outcomes.DefTwice name) = false
+is_reduced (outcomes.DefFree var) = false
+is_reduced outcomes.DefLarge = false
 is_reduced outcomes.Budget = false
 is_reduced outcomes.Memory = false

@@ -11,23 +11,25 @@ ghost use Rattle.job_lang.specs.FormedOps.{IsFormedOp};
 ghost use Rattle.operation_laws.specs.Answers.{product, problem as problem_made};
 ghost use Rattle.operation_laws.specs.Given.{names_in};
 ghost use Rattle.operation_laws.specs.Running.{run};
-ghost use Rattle.held_values.specs.Means.{sense, Fits, IsAnswerOf};
-ghost use Rattle.operations.specs.Means.{a_graph, a_bench, a_desk, needs, Comes, is_refusal, IsShort};
+ghost use Rattle.held_values.specs.Means.{sense, Fits, IsAnsweredTo};
+ghost use Rattle.operations.specs.Means.{a_graph, a_bench, a_desk, needs, Comes, is_refusal, IsShort, ComesTo};
 ghost use Rattle.operations.specs.Noted.{IsNoted, is_done, is_reduced};
 
 use crate::answers::{Made, Ran};
 use crate::building::build_from;
 use crate::concluding::conclude;
+use crate::defining::define_in;
 use crate::expanding::check_expansion;
 use crate::extracting::extract_of;
 use crate::given::{first, second};
 use crate::instancing::herbrand_in;
 use crate::interpolating::interpolate_in;
 use crate::introducing::introduce_in;
-use crate::proofs::{admit_steps, eliminate_in, substitute_in};
+use crate::proofs::{eliminate_all_in, eliminate_in, substitute_in};
 use crate::readings::{measure, prove, show};
 use crate::refuting::refute;
 use crate::searching::prove_sequent;
+use crate::unfolding::{admit_with, unfold_in};
 use cut_elim::{Desk, DeskPass};
 use held_values::Held;
 use job_lang::Op;
@@ -56,7 +58,7 @@ fn run_reading(graph: &Graph, alloc: Global, op: &Op, given: &[Held]) -> Ran
     requires count { length given.now ≡ length (names_in op.now) }
     requires op { IsFormedOp op.now }
     requires fits { All (Fits graph.now) given.now }
-    ensures { Comes graph.now result (run op.now (map sense given.now)) }
+    ensures { ComesTo graph.now result (run op.now (map sense given.now)) }
 {
     match op {
         Op::Problem { problem } => hold(problem),
@@ -65,6 +67,12 @@ fn run_reading(graph: &Graph, alloc: Global, op: &Op, given: &[Held]) -> Ran
         }
         Op::Show { of } => show(graph, alloc, of, first(given)),
         Op::Measure { proof } => measure(graph, alloc, proof, first(given)),
+        Op::Define {
+            symbol,
+            vars,
+            body,
+            using,
+        } => define_in(alloc, symbol, vars, body, using, given),
         Op::Expansion { flat, budget } => check_expansion(alloc, flat, budget.get()),
         Op::Expand { proof, budget } => {
             extract_of(graph, alloc, proof, first(given), budget.get())
@@ -90,14 +98,15 @@ fn run_making<R: Wait + Threads + Sync>(
     requires count { length given.now ≡ length (names_in op.now) }
     requires op { IsFormedOp op.now }
     requires fits { All (Fits (graph_of bench.now)) given.now }
-    ensures ran { Comes (graph_of bench.now) result (run op.now (map sense given.now)) }
+    ensures ran { ComesTo (graph_of bench.now) result (run op.now (map sense given.now)) }
     ensures unchanged { is_refusal result ≡ true → history (pass_in pass.new) ≡ history (pass_in pass.old) }
     ensures images_unchanged { is_refusal result ≡ true → images_in pass.new ≡ images_in pass.old }
     ensures images_grown { IsPrefix (images_in pass.old) (images_in pass.new) }
     ensures extends { Extends bench.now pass.old pass.new }
 {
     match op {
-        Op::Lk { steps } => admit_steps(rt, alloc, bench, pass, steps.as_slice()),
+        Op::Lk { steps, using } => admit_with(rt, alloc, bench, pass, steps, using, given),
+        Op::Unfold { proof } => unfold_in(rt, alloc, bench, pass, proof, first(given)),
         Op::Subst { proof, map } => {
             substitute_in(rt, alloc, bench, pass, proof, first(given), map.as_subst())
         }
@@ -147,7 +156,7 @@ fn run_given<R: Wait + Threads + Sync>(
     requires count { length given.now ≡ length (names_in op.now) }
     requires op { IsFormedOp op.now }
     requires fits { All (Fits (graph_of (bench_of desk.now))) given.now }
-    ensures ran { Comes (graph_of (bench_of desk.now)) result (run op.now (map sense given.now)) }
+    ensures ran { ComesTo (graph_of (bench_of desk.now)) result (run op.now (map sense given.now)) }
     ensures noted { is_done result ≡ true → IsNoted op.now given.now pass.new }
     ensures unchanged { is_refusal result ≡ true → history (pass_in (bench_pass_in pass.new)) ≡ history (pass_in (bench_pass_in pass.old)) }
     ensures images_unchanged { is_refusal result ≡ true → images_in (bench_pass_in pass.new) ≡ images_in (bench_pass_in pass.old) }
@@ -164,11 +173,13 @@ fn run_given<R: Wait + Threads + Sync>(
         | Op::Proves { .. }
         | Op::Show { .. }
         | Op::Measure { .. }
+        | Op::Define { .. }
         | Op::Expansion { .. }
         | Op::Expand { .. }
         | Op::Herbrand { .. } => run_reading(graph, alloc, op, given),
         Op::Lk { .. }
         | Op::Subst { .. }
+        | Op::Unfold { .. }
         | Op::Resolution { .. }
         | Op::Tautology { .. }
         | Op::Fromexp { .. }
@@ -177,11 +188,13 @@ fn run_given<R: Wait + Threads + Sync>(
         Op::Cutelim { proof, budget } => {
             eliminate_in(rt, alloc, desk, pass, proof, first(given), budget.get())
         }
+        Op::Eliminate { proof } => eliminate_all_in(rt, alloc, desk, pass, proof, first(given)),
     }
 }
 
 /// Runs an operation over the values that its names of jobs stand for: `given` has one for each, in the order in which the fields are read
-/// (none for `Lk`, `Problem`, `Tautology` and `Expansion`, the proof and then the problem for `Proves`, and one for the others). The answer
+/// (none for `Problem`, `Tautology` and `Expansion`, the proof and then the problem for `Proves`, the definitions that are used for `Lk` and
+/// `Define`, and one for the others). The answer
 /// is the outcome with what the job holds.
 ///
 /// A text with the suffix `.first` or `.second` stands for that proof of a `Pair`. A value that has a fault is refused, the first such value
@@ -201,7 +214,7 @@ pub fn answer<R: Wait + Threads + Sync>(
     requires count { length given.now ≡ length (names_in op.now) }
     requires op { IsFormedOp op.now }
     requires fits { All (Fits (graph_of (bench_of desk.now))) given.now }
-    ensures answered { IsAnswerOf result (run op.now (map sense given.now)) }
+    ensures answered { IsAnsweredTo result.0 (sense result.1) (run op.now (map sense given.now)) }
     ensures fits { Fits (graph_of (bench_of desk.now)) result.1 }
     // An elimination of cuts that is done has noted the proof that it was given.
     ensures noted { is_reduced result.0 ≡ true → IsNoted op.now given.now pass.new }

@@ -1,5 +1,6 @@
 //! What operations come to.
 use exp_tree::{CheckedExp, FlatExp};
+use fol::{Formula, Sym};
 use job_words::{FormedFormula, Steps};
 use lk_rules::Sequent;
 use operation_laws::{Failure, Refusal};
@@ -46,6 +47,8 @@ pub enum Made {
         proof: ProofRef,
         shorter: bool,
     },
+    /// A symbol with the formula that it stands for, closed over its arguments.
+    Definition(Sym, Formula),
 }
 
 /// Why a field is given nothing that the operation could take.

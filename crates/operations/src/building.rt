@@ -6,7 +6,7 @@ ghost use Rattle.exp_tree.specs.Reads.{expansion_of};
 ghost use Rattle.building_laws.specs.Budgets.{building, has_formed_trees};
 ghost use Rattle.operation_laws.specs.Running.{built, builds, run};
 ghost use Rattle.held_values.specs.Means.{sense};
-ghost use Rattle.operations.specs.Means.{Comes, is_refusal};
+ghost use Rattle.operations.specs.Means.{Comes, is_refusal, ComesTo};
 
 use crate::answers::{Made, Ran};
 use crate::given::expansion_given;
@@ -85,7 +85,7 @@ pub fn build_from<R: Wait>(
     budget: u64,
 ) -> Ran
     requires pass { IsBenchPassOf bench.now pass.old }
-    ensures ran { Comes (graph_of bench.now) result (run (Op.Fromexp of.now budget) (sense value.now ∷ [])) }
+    ensures ran { ComesTo (graph_of bench.now) result (run (Op.Fromexp of.now budget) (sense value.now ∷ [])) }
     ensures unchanged { is_refusal result ≡ true → history (pass_in pass.new) ≡ history (pass_in pass.old) }
     ensures images_stay { images_in pass.new ≡ images_in pass.old }
     ensures extends { Extends bench.now pass.old pass.new }

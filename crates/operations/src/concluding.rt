@@ -1,18 +1,21 @@
 //! What is replied to a job and what the job holds, by what its operation came to.
 ghost use Rattle.std.specs.Prelude.{◌≡◌, true, IfOk};
+ghost use Rattle.fol.specs.Syntax.{pred, defined};
+ghost use Rattle.fol.specs.Formed.{IsFormedPred};
 ghost use Rattle.proof_graph.specs.declared.graph.Graph.{Graph as GraphMeaning};
 ghost use Rattle.proof_graph.specs.Graphs.{IsOf};
 ghost use Rattle.exp_tree.specs.Reads.{expansion_of};
 ghost use Rattle.tptp_problem.specs.ProblemClauses.{IsReadProblem};
-ghost use Rattle.operation_laws.specs.Answers.{Answer, product, proof as proof_made, reduced as reduced_made, problem as problem_made, expansion as expansion_made, interpolant as interpolant_made, introduced as introduced_made, summary_of, exp_summary_of, shown_refusal as refusal_shown, shown_failure as failure_shown};
-ghost use Rattle.held_values.specs.Means.{Fits, IsAnswerOf};
+ghost use Rattle.operation_laws.specs.Answers.{Answer, product, proof as proof_made, reduced as reduced_made, problem as problem_made, expansion as expansion_made, interpolant as interpolant_made, introduced as introduced_made, definition as definition_made, shown_product, summary_of, exp_summary_of, shown_refusal as refusal_shown, shown_failure as failure_shown};
+ghost use Rattle.held_values.specs.Means.{sense, Fits, IsAnswered};
 ghost use Rattle.operations.specs.Means.{FitsMade, made_of, Comes, is_refusal, IsShort};
 ghost use Rattle.operations.specs.Noted.{is_done, is_reduced};
 
 use crate::answers::{Made, Ran};
 use exp_tree::{CheckedExp, count_instances, shallow_sequent, strong_vars};
+use fol::{Formula, Predicate, Sym};
 use held_values::Held;
-use job_words::FormedFormula;
+use job_words::{FormedFormula, SymbolName};
 use operation_laws::{Failure, Refusal};
 use proof_graph::{Graph, ProofRef};
 use proof_steps::{cuts, quants};
@@ -36,6 +39,7 @@ fn shown_failure(failure: Failure) -> Outcome
 {
     match failure {
         Failure::Budget => Outcome::Budget,
+        Failure::Unproved(refusal) => shown_refusal(refusal),
         Failure::Refutation { step, cause } => Outcome::Refutation { step, cause },
         Failure::Quantified { formula, side } => Outcome::Quantified { formula, side },
         Failure::Falsified(atoms) => Outcome::Falsified(atoms),
@@ -49,6 +53,9 @@ fn shown_failure(failure: Failure) -> Outcome
         Failure::Partition { formula, side } => Outcome::Partition { formula, side },
         Failure::NotPrenex { formula, side } => Outcome::NotPrenex { formula, side },
         Failure::TooMany(count) => Outcome::TooMany(count),
+        Failure::DefTwice(text) => Outcome::DefTwice(text),
+        Failure::DefFree(var) => Outcome::DefFree(var),
+        Failure::DefLarge => Outcome::DefLarge,
     }
 }
 
@@ -65,7 +72,7 @@ fn summary(graph: &Graph, alloc: Global, proof: &ProofRef) -> Result<Summary, Al
 
 fn hold_proof(graph: &Graph, alloc: Global, proof: ProofRef) -> (Outcome, Held)
     requires { IsOf graph.now proof }
-    ensures answered { IsAnswerOf result (product (proof_made proof.tree)) }
+    ensures answered { IsAnswered result.0 (sense result.1) (product (proof_made proof.tree)) }
     ensures fits { Fits graph.now result.1 }
     ensures refused { result.1 ≡ Held.Refused → ⊥ }
 {
@@ -77,7 +84,7 @@ fn hold_proof(graph: &Graph, alloc: Global, proof: ProofRef) -> (Outcome, Held)
 
 fn hold_reduced(graph: &Graph, alloc: Global, proof: ProofRef, reductions: u64) -> (Outcome, Held)
     requires { IsOf graph.now proof }
-    ensures answered { IsAnswerOf result (product (reduced_made proof.tree reductions)) }
+    ensures answered { IsAnswered result.0 (sense result.1) (product (reduced_made proof.tree reductions)) }
     ensures fits { Fits graph.now result.1 }
     ensures refused { result.1 ≡ Held.Refused → ⊥ }
 {
@@ -89,7 +96,7 @@ fn hold_reduced(graph: &Graph, alloc: Global, proof: ProofRef, reductions: u64) 
 
 fn hold_problem(problem: Problem) -> (Outcome, Held)
     requires { IsReadProblem problem }
-    ensures answered { IsAnswerOf result (product (problem_made problem)) }
+    ensures answered { IsAnswered result.0 (sense result.1) (product (problem_made problem)) }
     ensures fits { (g : GraphMeaning) → Fits g result.1 }
     ensures refused { result.1 ≡ Held.Refused → ⊥ }
 {
@@ -120,7 +127,7 @@ fn exp_summary(alloc: Global, checked: &CheckedExp) -> Result<ExpSummary, AllocE
 }
 
 fn hold_expansion(alloc: Global, checked: CheckedExp) -> (Outcome, Held)
-    ensures answered { IsAnswerOf result (product (expansion_made (expansion_of checked))) }
+    ensures answered { IsAnswered result.0 (sense result.1) (product (expansion_made (expansion_of checked))) }
     ensures fits { (g : GraphMeaning) → Fits g result.1 }
     ensures refused { result.1 ≡ Held.Refused → ⊥ }
 {
@@ -156,7 +163,7 @@ fn hold_interpolant(
 ) -> (Outcome, Held)
     requires first { IsOf graph.now first }
     requires second { IsOf graph.now second }
-    ensures answered { IsAnswerOf result (product (interpolant_made formula first.tree second.tree)) }
+    ensures answered { IsAnswered result.0 (sense result.1) (product (interpolant_made formula first.tree second.tree)) }
     ensures fits { Fits graph.now result.1 }
     ensures refused { result.1 ≡ Held.Refused → ⊥ }
 {
@@ -175,7 +182,7 @@ fn hold_interpolant(
 
 fn hold_introduced(graph: &Graph, alloc: Global, proof: ProofRef, shorter: bool) -> (Outcome, Held)
     requires { IsOf graph.now proof }
-    ensures answered { IsAnswerOf result (product (introduced_made proof.tree shorter)) }
+    ensures answered { IsAnswered result.0 (sense result.1) (product (introduced_made proof.tree shorter)) }
     ensures fits { Fits graph.now result.1 }
     ensures refused { result.1 ≡ Held.Refused → ⊥ }
 {
@@ -185,10 +192,40 @@ fn hold_introduced(graph: &Graph, alloc: Global, proof: ProofRef, shorter: bool)
     }
 }
 
+// What is shown of a definition: the symbol's name, how many arguments it has, and the formula.
+fn definition_shown(symbol: &Sym, body: &Formula) -> Result<Outcome, AllocError>
+    requires { IsFormedPred (pred symbol.now (defined body.now)) }
+    ensures { IfOk result (λ outcome. outcome ≡ shown_product (definition_made symbol.now body.now)) }
+{
+    Ok(Outcome::Definition {
+        symbol: SymbolName::new(symbol.name.copy()?),
+        arity: u64::from(symbol.arity),
+        body: FormedFormula::new(body.copy()?),
+    })
+}
+
+fn hold_definition(symbol: Sym, body: Formula) -> (Outcome, Held)
+    requires { IsFormedPred (pred symbol (defined body)) }
+    ensures answered { IsAnswered result.0 (sense result.1) (product (definition_made symbol body)) }
+    ensures fits { (g : GraphMeaning) → Fits g result.1 }
+    ensures refused { result.1 ≡ Held.Refused → ⊥ }
+{
+    match definition_shown(&symbol, &body) {
+        Ok(outcome) => (
+            outcome,
+            Held::Definition(Predicate {
+                symbol,
+                body: Some(body),
+            }),
+        ),
+        Err(_) => (Outcome::Memory, Held::Unheld),
+    }
+}
+
 // What is replied to a job whose operation is done, with what the job holds.
 fn hold(graph: &Graph, alloc: Global, made: Made) -> (Outcome, Held)
     requires { FitsMade graph.now made }
-    ensures answered { IsAnswerOf result (product (made_of made)) }
+    ensures answered { IsAnswered result.0 (sense result.1) (product (made_of made)) }
     ensures fits { Fits graph.now result.1 }
     ensures refused { result.1 ≡ Held.Refused → ⊥ }
 {
@@ -221,13 +258,14 @@ fn hold(graph: &Graph, alloc: Global, made: Made) -> (Outcome, Held)
         } => hold_interpolant(graph, alloc, formula, first, second),
         Made::Herbrand { count, sequent } => (Outcome::Herbrand { count, sequent }, Held::Nothing),
         Made::Introduced { proof, shorter } => hold_introduced(graph, alloc, proof, shorter),
+        Made::Definition(symbol, body) => hold_definition(symbol, body),
     }
 }
 
 /// What is replied to a job, with what the job holds.
 pub fn conclude(graph: &Graph, alloc: Global, ran: Ran) -> (Outcome, Held)
     requires { (wanted : Answer) × Comes graph.now ran wanted }
-    ensures answered { (wanted : Answer) → Comes graph.now ran wanted → IsAnswerOf result wanted }
+    ensures answered { (wanted : Answer) → Comes graph.now ran wanted → IsAnswered result.0 (sense result.1) wanted }
     ensures fits { Fits graph.now result.1 }
     ensures refused { result.1 ≡ Held.Refused → is_refusal ran ≡ true }
     ensures reduced { is_reduced result.0 ≡ true → is_done ran ≡ true }

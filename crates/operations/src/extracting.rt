@@ -8,7 +8,7 @@ ghost use Rattle.extraction_laws.specs.Extracting.{extracting};
 ghost use Rattle.exp_extract.specs.Extracting.{Extracts, NamesFormed};
 ghost use Rattle.operation_laws.specs.Running.{extracted, run};
 ghost use Rattle.held_values.specs.Means.{sense, Fits};
-ghost use Rattle.operations.specs.Means.{Comes};
+ghost use Rattle.operations.specs.Means.{Comes, ComesTo};
 
 use crate::answers::{Made, Ran};
 use crate::given::proof_given;
@@ -53,7 +53,7 @@ fn extract_by(graph: &Graph, alloc: Global, proof: &ProofRef, budget: u64) -> Ra
 #[tactic(auto, using(crate::proofs::Givings::absent_comes))]
 pub fn extract_of(graph: &Graph, alloc: Global, of: &Utf8Text, value: &Held, budget: u64) -> Ran
     requires { Fits graph.now value.now }
-    ensures { Comes graph.now result (run (Op.Expand of.now budget) (sense value.now ∷ [])) }
+    ensures { ComesTo graph.now result (run (Op.Expand of.now budget) (sense value.now ∷ [])) }
 {
     match proof_given(alloc, of, value) {
         Ok(proof) => extract_by(graph, alloc, proof, budget),

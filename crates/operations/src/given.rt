@@ -1,18 +1,21 @@
 //! What the names of jobs in an operation are given.
-ghost use Rattle.std.specs.Prelude.{◌≡◌, ◌<◌, Some, IfOk, IfSome, is_some, length, map, option_map};
+ghost use Rattle.std.specs.Prelude.{◌≡◌, ◌<◌, List, Some, IfOk, IfErr, IfSome, is_some, length, map, option_map};
 ghost use Rattle.std.specs.List.{All};
+ghost use Rattle.fol.specs.Syntax.{Pred};
+ghost use Rattle.fol.specs.Formed.{IsFormedPred};
 ghost use Rattle.proof_graph.specs.declared.graph.Graph.{Graph};
 ghost use Rattle.proof_graph.specs.Graphs.{IsOf};
 ghost use Rattle.operation_laws.specs.declared.refusals.Refusal.TheVariants.{UnknownName, Kind as OtherKind};
 ghost use Rattle.exp_tree.specs.Reads.{expansion_of};
-ghost use Rattle.operation_laws.specs.Given.{first_name as first_of_pair, second_name as second_of_pair, pair_name as pair_of, one_of as one_named, proof_given as proof_found, problem_given as problem_found, expansion_given as expansion_found, shown_given as shown_found, first_of, second_of};
+ghost use Rattle.operation_laws.specs.Given.{first_name as first_of_pair, second_name as second_of_pair, pair_name as pair_of, one_of as one_named, proof_given as proof_found, problem_given as problem_found, expansion_given as expansion_found, shown_given as shown_found, definition_given as definition_found, definitions_given as definitions_found, found, first_of, second_of};
 ghost use Rattle.held_values.specs.Means.{sense, Fits};
-ghost use Rattle.operations.specs.Means.{FitsShown, Finds, shown_as, IsAbsent};
+ghost use Rattle.operations.specs.Means.{FitsShown, Finds, FindsNone, shown_as, IsAbsent};
 ghost use Rattle.operations.specs.Noted.{proof_in, first_held};
 ghost use Rattle.held_values.specs.declared.held.Held.TheVariants.{Problem as ProblemHeld};
 
 use crate::answers::Absent;
 use exp_tree::CheckedExp;
+use fol::Predicate;
 use held_values::{Held, first_name, pair_name, second_name};
 use job_words::Utf8Text;
 use operation_laws::Refusal;
@@ -40,7 +43,8 @@ fn is_second(text: &Utf8Text) -> bool
     second_name(text.as_str()).is_some()
 }
 
-fn text_copy(alloc: Global, text: &Utf8Text) -> Result<Utf8Text, AllocError>
+/// A text of its own.
+pub fn text_copy(alloc: Global, text: &Utf8Text) -> Result<Utf8Text, AllocError>
     ensures { IfOk result (λ copy. copy ≡ text.now) }
 {
     Ok(Utf8Text::from_string(String::from_str(alloc, text.as_str())?))
@@ -104,9 +108,11 @@ pub fn proof_given<'h>(
             Some(proof) => Ok(proof),
             None => Err(other_kind(alloc, text)),
         },
-        Held::Nothing | Held::Refused | Held::Problem(_) | Held::Expansion(_) => {
-            Err(other_kind(alloc, text))
-        }
+        Held::Nothing
+        | Held::Refused
+        | Held::Problem(_)
+        | Held::Expansion(_)
+        | Held::Definition(_) => Err(other_kind(alloc, text)),
     }
 }
 
@@ -128,8 +134,12 @@ pub fn problem_given<'h>(
             }
             Ok(problem)
         }
-        Held::Nothing | Held::Refused | Held::Proof(_) | Held::Pair(_, _) | Held::Expansion(_) =>
-            Err(other_kind(alloc, text)),
+        Held::Nothing
+        | Held::Refused
+        | Held::Proof(_)
+        | Held::Pair(_, _)
+        | Held::Expansion(_)
+        | Held::Definition(_) => Err(other_kind(alloc, text)),
     }
 }
 
@@ -150,9 +160,12 @@ pub fn expansion_given<'h>(
             }
             Ok(trees)
         }
-        Held::Nothing | Held::Refused | Held::Proof(_) | Held::Pair(_, _) | Held::Problem(_) => {
-            Err(other_kind(alloc, text))
-        }
+        Held::Nothing
+        | Held::Refused
+        | Held::Proof(_)
+        | Held::Pair(_, _)
+        | Held::Problem(_)
+        | Held::Definition(_) => Err(other_kind(alloc, text)),
     }
 }
 
@@ -192,8 +205,79 @@ pub fn shown_given<'h>(
             }
             Ok(ToShow::Expansion(trees))
         }
-        Held::Nothing | Held::Refused | Held::Problem(_) => Err(other_kind(alloc, text)),
+        Held::Nothing | Held::Refused | Held::Problem(_) | Held::Definition(_) => {
+            Err(other_kind(alloc, text))
+        }
     }
+}
+
+/// The symbol that a name for a definition is given, or why there is none.
+pub fn definition_given<'h>(
+    alloc: Global,
+    text: &Utf8Text,
+    value: &'h Held,
+) -> Result<&'h Predicate, Absent>
+    ensures fits { IfOk result (λ p. (g : Graph) → Fits g value.now → IsFormedPred p.now) }
+    ensures found { Finds (λ p. p.now) result (definition_found text.now (sense value.now)) }
+{
+    match value {
+        Held::Unknown => Err(unknown(alloc, text)),
+        Held::Unheld => Err(Absent::Wanting),
+        Held::Definition(symbol) => {
+            if is_of_pair(text) {
+                return Err(other_kind(alloc, text));
+            }
+            Ok(symbol)
+        }
+        Held::Nothing
+        | Held::Refused
+        | Held::Proof(_)
+        | Held::Pair(_, _)
+        | Held::Problem(_)
+        | Held::Expansion(_) => Err(other_kind(alloc, text)),
+    }
+}
+
+/// Whether each name of a list is given a definition: the first fault of a name, or want of memory, where no name has a fault and the job of
+/// one wanted memory.
+pub fn are_defined(alloc: Global, texts: &[Utf8Text], given: &[Held]) -> Result<(), Absent>
+    requires { length given.now ≡ length texts.now }
+    ensures found { IfOk result (λ _. (ds : List Pred) × (definitions_found texts.now (map sense given.now) ≡ found ds)) }
+    ensures absent { IfErr result (λ absent. FindsNone absent (definitions_found texts.now (map sense given.now))) }
+{
+    let mut wants = false;
+    for (index, text) in texts.iter().enumerate() {
+        match definition_given(alloc, text, &given[index]) {
+            Ok(_) => {}
+            Err(Absent::Wanting) => wants = true,
+            Err(Absent::Refused(refusal)) => return Err(Absent::Refused(refusal)),
+            Err(Absent::Unnamed) => return Err(Absent::Unnamed),
+        }
+    }
+    if wants {
+        return Err(Absent::Wanting);
+    }
+    Ok(())
+}
+
+/// The symbols that the names of a list are given, where each is given a definition.
+pub fn definitions_given(
+    alloc: Global,
+    texts: &[Utf8Text],
+    given: &[Held],
+) -> Result<Vec<Predicate>, AllocError>
+    requires { length given.now ≡ length texts.now }
+    ensures found { IfOk result (λ ds. definitions_found texts.now (map sense given.now) ≡ found ds.items) }
+    ensures formed { IfOk result (λ ds. (g : Graph) → All (Fits g) given.now → All IsFormedPred ds.items) }
+{
+    let mut symbols = Vec::new(alloc);
+    for (index, text) in texts.iter().enumerate() {
+        let Ok(symbol) = definition_given(alloc, text, &given[index]) else {
+            return Err(AllocError);
+        };
+        symbols.push(symbol.copy()?)?;
+    }
+    Ok(symbols)
 }
 
 /// The value of the first name.

@@ -8,7 +8,7 @@ ghost use Rattle.introduction_laws.specs.Instancing.{instancing};
 ghost use Rattle.cut_intro.specs.Instancing.{HasInstances, NamesFormed};
 ghost use Rattle.operation_laws.specs.Running.{instanced, run};
 ghost use Rattle.held_values.specs.Means.{sense, Fits};
-ghost use Rattle.operations.specs.Means.{Comes};
+ghost use Rattle.operations.specs.Means.{Comes, ComesTo};
 
 use crate::answers::{Made, Ran};
 use crate::given::proof_given;
@@ -67,7 +67,7 @@ fn herbrand_by(graph: &Graph, alloc: Global, proof: &ProofRef, budget: u64) -> R
 #[tactic(auto, using(crate::proofs::Givings::absent_comes))]
 pub fn herbrand_in(graph: &Graph, alloc: Global, of: &Utf8Text, value: &Held, budget: u64) -> Ran
     requires { Fits graph.now value.now }
-    ensures { Comes graph.now result (run (Op.Herbrand of.now budget) (sense value.now ∷ [])) }
+    ensures { ComesTo graph.now result (run (Op.Herbrand of.now budget) (sense value.now ∷ [])) }
 {
     match proof_given(alloc, of, value) {
         Ok(proof) => herbrand_by(graph, alloc, proof, budget),

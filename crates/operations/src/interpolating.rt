@@ -10,7 +10,7 @@ ghost use Rattle.interp_laws.specs.Interpolating.{interpolating};
 ghost use Rattle.lk_interp.specs.Interpolating.{Interpolates, NamesFormed};
 ghost use Rattle.operation_laws.specs.Running.{interpolated, run};
 ghost use Rattle.held_values.specs.Means.{sense, Fits};
-ghost use Rattle.operations.specs.Means.{Comes, is_refusal};
+ghost use Rattle.operations.specs.Means.{Comes, is_refusal, ComesTo};
 
 use crate::answers::{Made, Ran};
 use crate::given::proof_given;
@@ -106,7 +106,7 @@ pub fn interpolate_in<R: Wait>(
 ) -> Ran
     requires pass { IsBenchPassOf bench.now pass.old }
     requires fits { Fits (graph_of bench.now) value.now }
-    ensures ran { Comes (graph_of bench.now) result (run (Op.Interpolate of.now one.now two.now budget) (sense value.now ∷ [])) }
+    ensures ran { ComesTo (graph_of bench.now) result (run (Op.Interpolate of.now one.now two.now budget) (sense value.now ∷ [])) }
     ensures unchanged { is_refusal result ≡ true → history (pass_in pass.new) ≡ history (pass_in pass.old) }
     ensures images_stay { images_in pass.new ≡ images_in pass.old }
     ensures extends { Extends bench.now pass.old pass.new }

@@ -10,7 +10,7 @@ ghost use Rattle.introduction_laws.specs.Introducing.{Answer, introducing, has_f
 ghost use Rattle.cut_intro.specs.Introducing.{Introduces, NamesFormedFormula, IfSame, answered};
 ghost use Rattle.operation_laws.specs.Running.{shortened, run};
 ghost use Rattle.held_values.specs.Means.{sense, Fits};
-ghost use Rattle.operations.specs.Means.{Comes, is_refusal};
+ghost use Rattle.operations.specs.Means.{Comes, is_refusal, ComesTo};
 
 use crate::answers::{Made, Ran};
 use crate::given::proof_given;
@@ -112,7 +112,7 @@ pub fn introduce_in<R: Wait + Threads + Sync>(
 ) -> Ran
     requires pass { IsBenchPassOf bench.now pass.old }
     requires fits { Fits (graph_of bench.now) value.now }
-    ensures ran { Comes (graph_of bench.now) result (run (Op.Cutintro of.now width.now budget) (sense value.now ∷ [])) }
+    ensures ran { ComesTo (graph_of bench.now) result (run (Op.Cutintro of.now width.now budget) (sense value.now ∷ [])) }
     ensures unchanged { is_refusal result ≡ true → history (pass_in pass.new) ≡ history (pass_in pass.old) }
     ensures images_stay { images_in pass.new ≡ images_in pass.old }
     ensures extends { Extends bench.now pass.old pass.new }

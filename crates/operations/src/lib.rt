@@ -5,6 +5,7 @@ mod answering;
 mod answers;
 mod building;
 mod concluding;
+mod defining;
 mod expanding;
 mod extracting;
 mod given;
@@ -15,6 +16,7 @@ mod proofs;
 mod readings;
 mod refuting;
 mod searching;
+mod unfolding;
 
 pub use answering::answer;
 pub use held_values::Held;

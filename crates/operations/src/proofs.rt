@@ -1,5 +1,5 @@
 //! What operations come to that make proofs of steps or of other proofs.
-ghost use Rattle.std.specs.Prelude.{◌≡◌, ◌<◌, [], ◌∷◌, true};
+ghost use Rattle.std.specs.Prelude.{◌≡◌, ◌<◌, [], ◌∷◌, true, false};
 ghost use Rattle.std.specs.FinMap as fin;
 ghost use Rattle.std.specs.List.{All};
 ghost use mathlib.Core.List.{IsPrefix};
@@ -11,17 +11,17 @@ ghost use Rattle.step_laws.specs.Admission.{admission};
 ghost use Rattle.proof_graph.specs.Graphs.{IsOf, history};
 ghost use Rattle.proof_subst.specs.Benches.{graph_of, pass_in, images_in, IsBenchPassOf, Extends};
 ghost use Rattle.cut_elim.specs.Desks.{bench_of, pass_in as bench_pass_in, eliminations_in, HasElimination, IsDeskPassOf, Extends as ExtendsDesk};
-ghost use Rattle.operation_laws.specs.Answers.{product, proof as proof_made};
+ghost use Rattle.operation_laws.specs.Answers.{product, proof as proof_made, elimination as reached_from};
 ghost use Rattle.operation_laws.specs.Running.{step_shown as shown_step, admits, eliminates, run};
 ghost use Rattle.held_values.specs.Means.{sense, Fits};
-ghost use Rattle.operations.specs.Means.{Comes, is_refusal, IsShort};
+ghost use Rattle.operations.specs.Means.{Comes, is_refusal, IsShort, ComesTo};
 ghost use Rattle.operations.specs.Noted.{proof_in, is_done};
 ghost use Rattle.std.specs.Option.{IsSomeAnd};
 
 use crate::answers::{Made, Ran};
 use crate::given::proof_given;
 use cut_contract::Steps as Contractions;
-use cut_elim::{Desk, DeskPass, ElimFault, Reduced, eliminate};
+use cut_elim::{Desk, DeskPass, ElimFault, Reduced, eliminate, eliminate_all};
 use held_values::Held;
 use job_lang::Op;
 use job_words::Utf8Text;
@@ -38,7 +38,8 @@ use std::sync::ledger::{Blank, Ledger};
 use std::thread::Threads;
 use substitution::Subst;
 
-fn step_shown(cause: StepCause) -> StepShown
+/// What is wrong with a step, as it is shown.
+pub fn step_shown(cause: StepCause) -> StepShown
     ensures { result ≡ shown_step cause }
 {
     match cause {
@@ -112,7 +113,7 @@ pub fn substitute_in<R: Wait>(
     requires pass { IsBenchPassOf bench.now pass.old }
     requires fits { Fits (graph_of bench.now) value.now }
     requires map { IsFormedMap (fin.get map.now) }
-    ensures ran { Comes (graph_of bench.now) result (run (Op.Subst of.now map.now) (sense value.now ∷ [])) }
+    ensures ran { ComesTo (graph_of bench.now) result (run (Op.Subst of.now map.now) (sense value.now ∷ [])) }
     ensures unchanged { is_refusal result ≡ true → history (pass_in pass.new) ≡ history (pass_in pass.old) }
     ensures images_unchanged { is_refusal result ≡ true → images_in pass.new ≡ images_in pass.old }
     ensures images_grown { IsPrefix (images_in pass.old) (images_in pass.new) }
@@ -171,7 +172,7 @@ pub fn eliminate_in<R: Wait + Threads + Sync>(
 ) -> Ran
     requires pass { IsDeskPassOf desk.now pass.old }
     requires fits { Fits (graph_of (bench_of desk.now)) value.now }
-    ensures ran { Comes (graph_of (bench_of desk.now)) result (run (Op.Cutelim of.now budget) (sense value.now ∷ [])) }
+    ensures ran { ComesTo (graph_of (bench_of desk.now)) result (run (Op.Cutelim of.now budget) (sense value.now ∷ [])) }
     ensures noted { is_done result ≡ true → IsSomeAnd (proof_in of.now value.now) (λ r. HasElimination pass.new r.number) }
     ensures unchanged { is_refusal result ≡ true → history (pass_in (bench_pass_in pass.new)) ≡ history (pass_in (bench_pass_in pass.old)) }
     ensures images_stay { images_in (bench_pass_in pass.new) ≡ images_in (bench_pass_in pass.old) }
@@ -189,6 +190,61 @@ pub fn eliminate_in<R: Wait + Threads + Sync>(
             budget,
             Blank::new(1),
         ),
+        Err(absent) => Ran::from(absent),
+    }
+}
+
+// The elimination of a proof's cuts without a budget, with a ledger for the contractions.
+#[tactic(auto, using(crate::proofs::Eliminated::whole_gives, crate::proofs::Eliminated::whole_lacks))]
+fn eliminate_whole<R: Wait + Threads + Sync, L: Ledger>(
+    rt: &R,
+    alloc: Global,
+    desk: &Desk,
+    pass: &mut DeskPass,
+    proof: &ProofRef,
+    ledger: Blank,
+) -> Ran
+    requires pass { IsDeskPassOf desk.now pass.old }
+    requires of { IsOf (graph_of (bench_of desk.now)) proof.now }
+    requires name { ledger.name ≡ L.name }
+    requires parts { ledger.parts ≡ L.parts }
+    requires one_part { 0 < ledger.parts }
+    ensures ran { ComesTo (graph_of (bench_of desk.now)) result (reached_from proof.now.tree) }
+    ensures never_refused { is_refusal result ≡ false }
+    ensures images_stay { images_in (bench_pass_in pass.new) ≡ images_in (bench_pass_in pass.old) }
+    ensures eliminations_grown { IsPrefix (eliminations_in pass.old) (eliminations_in pass.new) }
+    ensures extends { ExtendsDesk desk.now pass.old pass.new }
+{
+    let mut contractions = Contractions::<L>::new(ledger);
+    let made = eliminate_all(rt, alloc, desk, pass, proof, &mut contractions);
+    contractions.end();
+    match made {
+        Ok(Reduced { proof, reductions }) => Ran::Done(Made::Reduced(proof, reductions)),
+        Err(_) => Ran::Lacking,
+    }
+}
+
+/// The proof that is named, with its cuts eliminated however many contractions that takes.
+#[tactic(auto, using(crate::proofs::Givings::absent_asked))]
+pub fn eliminate_all_in<R: Wait + Threads + Sync>(
+    rt: &R,
+    alloc: Global,
+    desk: &Desk,
+    pass: &mut DeskPass,
+    of: &Utf8Text,
+    value: &Held,
+) -> Ran
+    requires pass { IsDeskPassOf desk.now pass.old }
+    requires fits { Fits (graph_of (bench_of desk.now)) value.now }
+    ensures ran { ComesTo (graph_of (bench_of desk.now)) result (run (Op.Eliminate of.now) (sense value.now ∷ [])) }
+    ensures unchanged { is_refusal result ≡ true → history (pass_in (bench_pass_in pass.new)) ≡ history (pass_in (bench_pass_in pass.old)) }
+    ensures images_stay { images_in (bench_pass_in pass.new) ≡ images_in (bench_pass_in pass.old) }
+    ensures eliminations_unchanged { is_refusal result ≡ true → eliminations_in pass.new ≡ eliminations_in pass.old }
+    ensures eliminations_grown { IsPrefix (eliminations_in pass.old) (eliminations_in pass.new) }
+    ensures extends { ExtendsDesk desk.now pass.old pass.new }
+{
+    match proof_given(alloc, of, value) {
+        Ok(proof) => { eliminate_whole::<R, Brand>(rt, alloc, desk, pass, proof, Blank::new(1)) }
         Err(absent) => Ran::from(absent),
     }
 }

@@ -9,7 +9,7 @@ ghost use Rattle.operation_laws.specs.Answers.{lacking, product, steps as steps_
 ghost use Rattle.operation_laws.specs.Given.{problem_given as problem_found};
 ghost use Rattle.operation_laws.specs.Running.{over, sizes_of, compares, run};
 ghost use Rattle.held_values.specs.Means.{sense, Fits};
-ghost use Rattle.operations.specs.Means.{made_of, Comes};
+ghost use Rattle.operations.specs.Means.{made_of, Comes, ComesTo};
 
 use crate::answers::{Absent, Made, Ran};
 use crate::given::{ToShow, problem_given, proof_given, shown_given};
@@ -45,7 +45,7 @@ fn written(alloc: Global, checked: &CheckedExp) -> Ran
 #[tactic(auto, using(crate::proofs::Givings::absent_comes))]
 pub fn show(graph: &Graph, alloc: Global, of: &Utf8Text, value: &Held) -> Ran
     requires { Fits graph.now value.now }
-    ensures { Comes graph.now result (run (Op.Show of.now) (sense value.now ∷ [])) }
+    ensures { ComesTo graph.now result (run (Op.Show of.now) (sense value.now ∷ [])) }
 {
     match shown_given(alloc, of, value) {
         Ok(ToShow::Proof(proof)) => listed(graph, alloc, proof),
@@ -84,7 +84,7 @@ fn measured(graph: &Graph, alloc: Global, proof: &ProofRef) -> Ran
 #[tactic(auto, using(crate::proofs::Givings::absent_comes))]
 pub fn measure(graph: &Graph, alloc: Global, of: &Utf8Text, value: &Held) -> Ran
     requires { Fits graph.now value.now }
-    ensures { Comes graph.now result (run (Op.Measure of.now) (sense value.now ∷ [])) }
+    ensures { ComesTo graph.now result (run (Op.Measure of.now) (sense value.now ∷ [])) }
 {
     match proof_given(alloc, of, value) {
         Ok(proof) => measured(graph, alloc, proof),
@@ -126,7 +126,7 @@ pub fn prove(
     problem_value: &Held,
 ) -> Ran
     requires { Fits graph.now proof_value.now }
-    ensures { Comes graph.now result (run (Op.Proves proof.now problem.now) (sense proof_value.now ∷ sense problem_value.now ∷ [])) }
+    ensures { ComesTo graph.now result (run (Op.Proves proof.now problem.now) (sense proof_value.now ∷ sense problem_value.now ∷ [])) }
 {
     match proof_given(alloc, proof, proof_value) {
         Ok(proof) => compared(graph, alloc, proof, problem, problem_value),

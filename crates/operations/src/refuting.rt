@@ -8,7 +8,7 @@ ghost use Rattle.proof_graph.specs.Graphs.{history};
 ghost use Rattle.proof_subst.specs.Benches.{graph_of, pass_in, images_in, IsBenchPassOf, Extends};
 ghost use Rattle.operation_laws.specs.Running.{has_closure, refutation_shown as shown_refutation, refuted, refutes, run};
 ghost use Rattle.held_values.specs.Means.{sense, Fits};
-ghost use Rattle.operations.specs.Means.{Comes, is_refusal};
+ghost use Rattle.operations.specs.Means.{Comes, is_refusal, ComesTo};
 
 use crate::answers::{Made, Ran};
 use crate::given::problem_given;
@@ -110,7 +110,7 @@ pub fn refute<R: Wait>(
     requires pass { IsBenchPassOf bench.now pass.old }
     requires fits { Fits (graph_of bench.now) value.now }
     requires steps { AreFormedSteps steps.now }
-    ensures ran { Comes (graph_of bench.now) result (run (Op.Resolution of.now steps.now) (sense value.now ∷ [])) }
+    ensures ran { ComesTo (graph_of bench.now) result (run (Op.Resolution of.now steps.now) (sense value.now ∷ [])) }
     ensures unchanged { is_refusal result ≡ true → history (pass_in pass.new) ≡ history (pass_in pass.old) }
     ensures images_stay { images_in pass.new ≡ images_in pass.old }
     ensures extends { Extends bench.now pass.old pass.new }

@@ -8,12 +8,12 @@ use Rattle.std.proofs.lemmas.List.Elements.{All-head, All-tail, All-push}
 use Rattle.std.specs.Io.KnownBytes.{Appends}
 use Rattle.std.proofs.KnownBytes.{Appends-trans}
 use Rattle.edge_io.specs.Causes.{Rose}
-use Rattle.operation_laws.specs.Answers.{refused, failed, lacking, product}
+use Rattle.operation_laws.specs.Answers.{refused, failed, lacking, product, one as answering, elimination}
 use Rattle.operation_laws.specs.Values.{Value}
 use Rattle.held_values.specs.declared.held.Held.{Held}
 use Rattle.held_values.specs.Means.{sense}
 use Rattle.session_laws.specs.Jobs.{max_line, is_too_long, is_blank, is_job, jobs, IsKept}
-use Rattle.session_laws.specs.Answers.{Past, Came, faulty, answered as answered_by, in_order, job_of, name_of, run_line, held_of, IsAllowed, AreAllowed}
+use Rattle.session_laws.specs.Answers.{Past, Request, no_operation, an_operation, Came, faulty, answered as answered_by, in_order, job_of, name_of, run_line, held_of, IsAllowed, AreAllowed}
 use Rattle.session_laws.specs.Replying.{reply_line}
 use Rattle.session_laws.specs.Session.{out, all_ok, IsPartOfNext}
 use Rattle.session_laws.proofs.ReplyLines.{length-reply_line}
@@ -33,24 +33,25 @@ use Rattle.proof_server.specs.declared.session.Stop.TheVariants.{WriteFault, Mem
 use Rattle.proof_server.proofs.Midway.{Rose-since}
 use Rattle.proof_server.specs.declared.session.Session.{Session}
 
--- each line may come to what it comes to with ample memory
-some_end : (r : Came) → IsAllowed r r
-some_end (faulty f) = refl
-some_end (answered_by (refused r)) = refl
-some_end (answered_by (failed f)) = inl refl
-some_end (answered_by lacking) = refl
-some_end (answered_by (product p)) = inl refl
+-- each line may come to something
+some_end : (r : Request) → (c : Came) × IsAllowed r c
+some_end (no_operation f) = (faulty f, refl)
+some_end (an_operation (answering (refused r))) = (answered_by (refused r), refl)
+some_end (an_operation (answering (failed f))) = (answered_by (failed f), inl refl)
+some_end (an_operation (answering lacking)) = (answered_by lacking, refl)
+some_end (an_operation (answering (product p))) = (answered_by (product p), inl refl)
+some_end (an_operation (elimination t)) = (answered_by lacking, inr refl)
 
 -- nothing of the next reply is a part of it
 part_none : (earlier : List Past) (waiting : List (List ℕ)) → AreAllowed earlier → IsPartOfNext earlier waiting []
 part_none earlier [] allowed = refl
 part_none earlier (line ∷ waiting) allowed =
-    let end = run_line (held_of earlier) line in record {
-      job = job_of line end;
+    let end = some_end (run_line (held_of earlier) line) in record {
+      job = job_of line end.0;
       line_is = refl;
-      allowed = (some_end end, allowed);
-      more = reply_line earlier (job_of line end);
-      goes_on = length-reply_line earlier (job_of line end);
+      allowed = (end.1, allowed);
+      more = reply_line earlier (job_of line end.0);
+      goes_on = length-reply_line earlier (job_of line end.0);
       bytes = refl;
     }
 

@@ -27,6 +27,7 @@ text_tells (outcomes.Nodes flat) name n = refl
 text_tells (outcomes.Interpolant first f second) name n = refl
 text_tells (outcomes.Herbrand k s) name n = refl
 text_tells (outcomes.Introduced summary shorter) name n = refl
+text_tells (outcomes.Definition symbol k f) name n = refl
 text_tells outcomes.LineTooLong name n = refl
 text_tells (outcomes.Reading causes.Json) name n = refl
 text_tells (outcomes.Reading (causes.Field field)) name n = refl
@@ -56,6 +57,9 @@ text_tells (outcomes.Defined f side) name n = refl
 text_tells (outcomes.Partition f side) name n = refl
 text_tells (outcomes.NotPrenex f side) name n = refl
 text_tells (outcomes.TooMany k) name n = refl
+text_tells (outcomes.DefTwice text) name n = refl
+text_tells (outcomes.DefFree var) name n = refl
+text_tells outcomes.DefLarge name n = refl
 text_tells outcomes.Budget name n = refl
 text_tells outcomes.Memory name n = refl
 

@@ -2,7 +2,7 @@
 use Rattle.std.specs.Prelude.{ℕ, List, [], ◌∷◌, ◌++◌, map, codes, Option, Some, None, Result, Ok, Err, Bool, is_ok}
 use Rattle.finite.specs.Finite as set
 use Rattle.fol.specs.declared.symbols.Var.{Var}
-use Rattle.fol.specs.Syntax.{Term, free, Formula}
+use Rattle.fol.specs.Syntax.{Term, free, app, nil, Formula}
 use Rattle.lk_rules.specs.Formulas.{FormulaSet}
 use Rattle.lk_rules.specs.declared.sequent.Sequent.{Sequent}
 use Rattle.lk_rules.specs.declared.sequent.Side.{Side}
@@ -34,7 +34,7 @@ use Rattle.reply_lines.specs.declared.replies.StepShown.TheVariants.{Reference, 
 use Rattle.reply_lines.specs.declared.replies.RefutationShown.{RefutationShown}
 use Rattle.reply_lines.specs.declared.replies.RefutationShown.TheVariants as refutations
 use Rattle.reply_lines.specs.declared.replies.Outcome.{Outcome}
-use Rattle.reply_lines.specs.declared.replies.Outcome.TheVariants.{Proof, Reduced, Entries, Proves, Steps, Measure, Expansion, Nodes, Interpolant, Herbrand, Introduced, LineTooLong, Reading, NameTaken, UnknownName, Kind, Empty, Step as Faulty, Refutation, Quantified, Falsified, Node, Root, EigenTwice, EigenFree, Cycle, Cut, Defined, Partition, NotPrenex, TooMany, Budget, Memory}
+use Rattle.reply_lines.specs.declared.replies.Outcome.TheVariants.{Proof, Reduced, Entries, Proves, Steps, Measure, Expansion, Nodes, Interpolant, Herbrand, Introduced, Definition, LineTooLong, Reading, NameTaken, UnknownName, Kind, Empty, Step as Faulty, Refutation, Quantified, Falsified, Node, Root, EigenTwice, EigenFree, Cycle, Cut, Defined, Partition, NotPrenex, TooMany, DefTwice, DefFree, DefLarge, Budget, Memory}
 use Rattle.reply_lines.specs.declared.replies.Reply.{Reply}
 use Rattle.job_words.specs.RuleKinds.{kind_of, kind_name}
 use Rattle.job_words.specs.declared.node_kinds.NodeKind.{NodeKind}
@@ -180,6 +180,15 @@ abbrev pub introduced_data : Summary → Bool → Data
 introduced_data s shorter = object (member (codes "cuts") (count_data s.cuts) (member (codes "left") (side_data s.end.left)
     (member (codes "quants") (count_data s.quants) (member (codes "right") (side_data s.end.right)
     (member (codes "shorter") (boolean shorter) no_members)))))
+
+-- a symbol's name, as a constant of this name is written
+abbrev pub symbol_data : List ℕ → Data
+symbol_data name = term_data (app (record { name = name; arity = 0 }) nil)
+
+-- a definition: how many arguments its symbol has, the formula that this stands for, and its name
+abbrev pub definition_data : List ℕ → ℕ → Formula → Data
+definition_data name n f = object (member (codes "arity") (count_data n) (member (codes "body") (string (canonical f))
+    (member (codes "symbol") (symbol_data name) no_members)))
 
 -- an error that says no more than its kind
 abbrev pub plain : List ℕ → Data
@@ -329,6 +338,7 @@ answer_data (Nodes flat) = Ok (nodes_data flat)
 answer_data (Interpolant first f second) = Ok (interpolant_data first f second)
 answer_data (Herbrand n s) = Ok (herbrand_data n s)
 answer_data (Introduced summary shorter) = Ok (introduced_data summary shorter)
+answer_data (Definition name n f) = Ok (definition_data name n f)
 answer_data LineTooLong = Err (plain (codes "line_too_long"))
 answer_data (Reading cause) = Err (reading_data cause)
 answer_data NameTaken = Err (plain (codes "name_taken"))
@@ -349,6 +359,9 @@ answer_data (Defined f side) = Err (side_fault (codes "defined") f side)
 answer_data (Partition f side) = Err (side_fault (codes "partition") f side)
 answer_data (NotPrenex f side) = Err (side_fault (codes "not_prenex") f side)
 answer_data (TooMany n) = Err (too_many_data n)
+answer_data (DefTwice name) = Err (named (codes "def_twice") name)
+answer_data (DefFree var) = Err (variable_fault (codes "def_free") var)
+answer_data DefLarge = Err (plain (codes "def_large"))
 answer_data Budget = Err (plain (codes "budget"))
 answer_data Memory = Err (plain (codes "memory"))
 

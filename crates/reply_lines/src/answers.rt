@@ -1,7 +1,7 @@
 //! What came of a job: the object of an Ok reply, or that of an error.
 ghost use Rattle.std.specs.Prelude.{◌≡◌, [], ◌∷◌};
 ghost use Rattle.fol.specs.Formed.{IsFormed};
-ghost use Rattle.reply_lines.specs.Replies.{summary_data, reduced_data, interpolant_data, herbrand_data, introduced_data, cut_data, too_many_data, entries_data, proves_data, measure_data, named as named_data, plain as plain_data, field_data, text_kind as kind_text, problem_kind as problem_kind_text, formula_data, tptp_data, reading_data, premise_fault as premise_fault_data, step_data, refutation_cause as refutation_cause_text, refutation_data, answer_data};
+ghost use Rattle.reply_lines.specs.Replies.{summary_data, reduced_data, interpolant_data, herbrand_data, introduced_data, definition_data, cut_data, too_many_data, entries_data, proves_data, measure_data, named as named_data, plain as plain_data, field_data, text_kind as kind_text, problem_kind as problem_kind_text, formula_data, tptp_data, reading_data, premise_fault as premise_fault_data, step_data, refutation_cause as refutation_cause_text, refutation_data, answer_data};
 ghost use Rattle.json_text.specs.Tokens.{data_tokens, Adds};
 ghost use Rattle.reply_lines.specs.Tokens.{said, fault_data};
 ghost use Rattle.reply_lines.specs.declared.replies.StepShown.TheVariants.{Rule};
@@ -10,11 +10,12 @@ use crate::expansions::{put_expansion, put_nodes};
 use crate::members::{put_formula, put_number, put_side, put_text};
 use crate::replies::{Outcome, RefutationShown, StepShown, Summary};
 use crate::steps::put_steps;
+use crate::terms::put_symbol;
 use crate::tree_faults::{
     put_cycle, put_falsified, put_node_fault, put_root_fault, put_side_fault, put_variable_fault,
 };
 use fol::Formula;
-use job_words::JobCause;
+use job_words::{JobCause, SymbolName};
 use json_text::JsonText;
 use lk_rules::{RuleFault, Sequent};
 use std::alloc::Global;
@@ -104,6 +105,26 @@ fn put_introduced(
     put_side(out, alloc, texts, "right", &summary.end.right);
     out.key("shorter");
     out.boolean(shorter);
+    out.end_object();
+}
+
+fn put_definition(
+    out: &mut JsonText,
+    alloc: Global,
+    texts: &mut CanonicalTexts,
+    symbol: &SymbolName,
+    arity: u64,
+    body: &Formula,
+)
+    requires { IsFormed body.now }
+    ensures { Adds out.old out.new (data_tokens (definition_data symbol.now arity body.now)) }
+{
+    out.begin_object();
+    put_number(out, "arity", arity);
+    out.key("body");
+    put_formula(out, alloc, texts, body);
+    out.key("symbol");
+    put_symbol(out, alloc, symbol);
     out.end_object();
 }
 
@@ -337,6 +358,11 @@ pub fn put_answer(out: &mut JsonText, alloc: Global, texts: &mut CanonicalTexts,
         Outcome::Introduced { summary, shorter } => {
             put_introduced(out, alloc, texts, summary, *shorter)
         }
+        Outcome::Definition {
+            symbol,
+            arity,
+            body,
+        } => put_definition(out, alloc, texts, symbol, *arity, body.get()),
         Outcome::LineTooLong => put_plain(out, "line_too_long"),
         Outcome::Reading(cause) => put_reading(out, cause),
         Outcome::NameTaken => put_plain(out, "name_taken"),
@@ -365,6 +391,9 @@ pub fn put_answer(out: &mut JsonText, alloc: Global, texts: &mut CanonicalTexts,
             put_side_fault(out, alloc, texts, "not_prenex", formula.get(), *side)
         }
         Outcome::TooMany(count) => put_too_many(out, *count),
+        Outcome::DefTwice(name) => put_named(out, "def_twice", name.as_str()),
+        Outcome::DefFree(var) => put_variable_fault(out, alloc, "def_free", var),
+        Outcome::DefLarge => put_plain(out, "def_large"),
         Outcome::Budget => put_plain(out, "budget"),
         Outcome::Memory => put_plain(out, "memory"),
     }

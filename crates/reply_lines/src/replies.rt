@@ -2,7 +2,9 @@
 ghost use Rattle.std.specs.Prelude.{◌≡◌};
 
 use exp_tree::{FlatExp, NodeCause, RootCause};
-use job_words::{FormedFormula, FormedVar, FormedVars, JobCause, Name, Steps, Utf8Text};
+use job_words::{
+    FormedFormula, FormedVar, FormedVars, JobCause, Name, Steps, SymbolName, Utf8Text,
+};
 use lk_rules::{Formulas, RuleFault, Sequent, Side};
 
 /// A proof in short: how many cuts and quantifier rules it has, and its end sequent.
@@ -84,6 +86,13 @@ pub enum Outcome {
         summary: Summary,
         shorter: bool,
     },
+    /// The job is a definition: a predicate symbol's name, how many arguments it has, and the formula that it stands for, under a universal
+    /// quantifier for each of these.
+    Definition {
+        symbol: SymbolName,
+        arity: u64,
+        body: FormedFormula,
+    },
     /// The line has more bytes than a job may have.
     LineTooLong,
     /// The line isn't a job.
@@ -149,6 +158,12 @@ pub enum Outcome {
     },
     /// The quantified formulas have more tuples than candidates for a cut are looked for: this many.
     TooMany(u64),
+    /// The definition of this job, by its name as it is written in a field, is of a symbol that an earlier one in the field is of.
+    DefTwice(Utf8Text),
+    /// The least variable that is free in the formula of a definition and isn't one of its arguments.
+    DefFree(FormedVar),
+    /// With all defined symbols unfolded the formula of a definition has more nodes than it may have.
+    DefLarge,
     /// The work takes more than the budget allows.
     Budget,
     /// Memory ran out while the job was run.
@@ -184,11 +199,21 @@ impl Drop for Outcome {
             | Outcome::Defined { formula, side: _ }
             | Outcome::Partition { formula, side: _ }
             | Outcome::NotPrenex { formula, side: _ } => drop(formula),
+            Outcome::Definition {
+                symbol,
+                arity: _,
+                body,
+            } => {
+                drop(symbol);
+                drop(body);
+            }
             Outcome::Falsified(atoms) => drop(atoms),
-            Outcome::EigenTwice(var) | Outcome::EigenFree(var) => drop(var),
+            Outcome::EigenTwice(var) | Outcome::EigenFree(var) | Outcome::DefFree(var) => drop(var),
             Outcome::Cycle(vars) => drop(vars),
             Outcome::Reading(cause) => drop(cause),
-            Outcome::UnknownName(name) | Outcome::Kind(name) => drop(name),
+            Outcome::UnknownName(name) | Outcome::Kind(name) | Outcome::DefTwice(name) => drop(
+                name,
+            ),
             Outcome::Proves(_)
             | Outcome::Measure {
                 cuts: _,
@@ -205,6 +230,7 @@ impl Drop for Outcome {
             | Outcome::LineTooLong
             | Outcome::NameTaken
             | Outcome::Empty
+            | Outcome::DefLarge
             | Outcome::Budget
             | Outcome::Memory => {}
         }
@@ -231,6 +257,7 @@ impl Outcome {
                 | Outcome::Interpolant { .. }
                 | Outcome::Herbrand { .. }
                 | Outcome::Introduced { .. }
+                | Outcome::Definition { .. }
         )
     }
 }

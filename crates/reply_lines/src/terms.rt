@@ -1,12 +1,13 @@
-//! Terms and variables in a reply.
+//! Terms, variables and symbols in a reply.
 ghost use Rattle.std.specs.Prelude.{◌≡◌, IfOk};
 ghost use Rattle.fol.specs.Formed.{IsFormedTerm, IsFormedVar};
-ghost use Rattle.fol.specs.Syntax.{free};
-ghost use Rattle.reply_lines.specs.Replies.{term_data, variable_data};
+ghost use Rattle.fol.specs.Syntax.{free, app, nil};
+ghost use Rattle.reply_lines.specs.Replies.{term_data, variable_data, symbol_data};
 ghost use Rattle.json_text.specs.Tokens.{data_tokens, Adds};
 
 use crate::members::printable;
-use fol::{Term, Var};
+use fol::{Sym, Term, Terms, Text, Var};
+use job_words::SymbolName;
 use json_text::JsonText;
 use std::alloc::{AllocError, Global};
 use tptp_print::print_term;
@@ -34,6 +35,26 @@ pub fn put_variable(out: &mut JsonText, alloc: Global, var: &Var)
     ensures { Adds out.old out.new (data_tokens (variable_data var.now)) }
 {
     match term_of(alloc, var) {
+        Ok(term) => put_term(out, alloc, &term),
+        Err(_) => out.lack(),
+    }
+}
+
+fn constant(alloc: Global, name: &Text) -> Result<Term, AllocError>
+    ensures { IfOk result (λ t. t ≡ app (record { name = name.now; arity = 0 }) nil) }
+{
+    let symbol = Sym {
+        name: name.copy()?,
+        arity: 0,
+    };
+    Term::app(alloc, symbol, Terms::empty(alloc)?)
+}
+
+/// A symbol by its name, which is written as a constant of this name is.
+pub fn put_symbol(out: &mut JsonText, alloc: Global, symbol: &SymbolName)
+    ensures { Adds out.old out.new (data_tokens (symbol_data symbol.now)) }
+{
+    match constant(alloc, symbol.get()) {
         Ok(term) => put_term(out, alloc, &term),
         Err(_) => out.lack(),
     }

@@ -1,5 +1,5 @@
 -- The bytes of replies tell which jobs lacked memory, and what each job came to, where each reply line is one line.
-use Rattle.std.proofs.Common.{◌≡◌, ◌⊎◌, ℕ, ◌<◌, ◌≤◌, ◌+◌, Bool, true, false, List, [], ◌∷◌, ◌++◌, length, take, map, refl, sym, ap, ◌∙◌, subst, inl, inr, arith, length-append}
+use Rattle.std.proofs.Common.{◌≡◌, ℕ, ◌<◌, ◌≤◌, ◌+◌, false, List, [], ◌∷◌, ◌++◌, length, take, map, refl, sym, ap, ◌∙◌, subst, arith, length-append}
 use Rattle.std.proofs.lemmas.List.{same_from_push, map_push, take_at, take-append-le, length_push}
 use Rattle.std.specs.List.{All, slice_split}
 use Rattle.std.proofs.lemmas.List.Elements.{All-take, All-head, All-tail}
@@ -9,10 +9,8 @@ use Rattle.reply_lines.specs.Replies.{line_of}
 use Rattle.reply_lines.specs.OneLine.{IsOneLine, is_want, reports_want}
 use Rattle.edge_io.specs.Lines.{is_newline, OneLine, AreLines, whole_lines}
 use Rattle.edge_io.proofs.LinesLemmas.{lines_nil, lines_more, whole_lines_at}
-use Rattle.operation_laws.specs.declared.refusals.Failure.{Failure}
-use Rattle.operation_laws.specs.Answers.{Product, Answer, refused, failed, lacking, product, shown, with_lack}
-use Rattle.operation_laws.specs.Answers as answers
-use Rattle.session_laws.specs.Answers.{Past, Came, faulty, answered, run_line, held_of, May, IsAllowed, outcome_of, lacked, job_of, in_order, AreAllowed}
+use Rattle.operation_laws.specs.Answers.{Answer, shown, Asked, May}
+use Rattle.session_laws.specs.Answers.{Past, Came, faulty, answered, Request, no_operation, an_operation, run_line, held_of, IsAllowed, outcome_of, lacked, job_of, in_order, AreAllowed}
 use Rattle.session_laws.specs.Replying.{reply_of, reply_line}
 use Rattle.session_laws.specs.Session.{out, flags_of, memory_flags, Replies, RepliesInPart, IsPartOfNext}
 
@@ -36,7 +34,7 @@ same_front a b c d same sized =
 module _
     (one : (reply : Reply) → IsOneLine (line_of reply))
     (tells : (reply : Reply) (text : List ℕ) → line_of reply ≡ text ++ 10 ∷ [] → reports_want text ≡ is_want reply.outcome)
-    (want : (lacked : Bool) (a : Answer) → answers.may_lack lacked a → is_want (shown (with_lack lacked a)) ≡ lacked) where
+    (one_answer : (asked : Asked) (a b : Answer) → May asked a → May asked b → is_want (shown a) ≡ is_want (shown b) → a ≡ b) where
   -- the texts of the replies, which are their lines
   texts : List Past → List (List ℕ)
   texts [] = []
@@ -81,38 +79,12 @@ module _
       sym (texts_tell done)
       ∙ ap (λ (x : List (List ℕ)). map reports_want x) (sym (whole_lines_at (out done) part (texts done) (texts_are done) (part_is done waiting part next)))
 
-  -- no failure and no product is want of memory
-  failed_is : (f : Failure) → is_want (shown (failed f)) ≡ false
-  failed_is f = want false (failed f) tt
-
-  product_is : (p : Product) → is_want (shown (product p)) ≡ false
-  product_is p = want false (product p) tt
-
-  wanting_is : is_want (shown lacking) ≡ true
-  wanting_is = want true lacking refl
-
-  -- what an operation came to is told by whether that is want of memory
-  one_answer : (a b c : Answer) → May a b → May a c → is_want (shown b) ≡ is_want (shown c) → b ≡ c
-  one_answer (refused r) b c is as_well same = is ∙ sym as_well
-  one_answer lacking b c is as_well same = is ∙ sym as_well
-  one_answer (failed f) b c (inl is) (inl as_well) same = is ∙ sym as_well
-  one_answer (failed f) b c (inr is) (inr as_well) same = is ∙ sym as_well
-  one_answer (failed f) b c (inl is) (inr as_well) same =
-      let none : false ≡ true = sym (failed_is f) ∙ ap (λ (x : Answer). is_want (shown x)) (sym is) ∙ same ∙ ap (λ (x : Answer). is_want (shown x)) as_well ∙ wanting_is in cc
-  one_answer (failed f) b c (inr is) (inl as_well) same =
-      let none : true ≡ false = sym wanting_is ∙ ap (λ (x : Answer). is_want (shown x)) (sym is) ∙ same ∙ ap (λ (x : Answer). is_want (shown x)) as_well ∙ failed_is f in cc
-  one_answer (product p) b c (inl is) (inl as_well) same = is ∙ sym as_well
-  one_answer (product p) b c (inr is) (inr as_well) same = is ∙ sym as_well
-  one_answer (product p) b c (inl is) (inr as_well) same =
-      let none : false ≡ true = sym (product_is p) ∙ ap (λ (x : Answer). is_want (shown x)) (sym is) ∙ same ∙ ap (λ (x : Answer). is_want (shown x)) as_well ∙ wanting_is in cc
-  one_answer (product p) b c (inr is) (inl as_well) same =
-      let none : true ≡ false = sym wanting_is ∙ ap (λ (x : Answer). is_want (shown x)) (sym is) ∙ same ∙ ap (λ (x : Answer). is_want (shown x)) as_well ∙ product_is p in cc
-
-  one_came : (r c d : Came) → IsAllowed r c → IsAllowed r d → is_want (outcome_of c) ≡ is_want (outcome_of d) → c ≡ d
-  one_came (faulty f) c d is as_well same = is ∙ sym as_well
-  one_came (answered a) (faulty f) d is as_well same = absurd is
-  one_came (answered a) (answered b) (faulty f) is as_well same = absurd as_well
-  one_came (answered a) (answered b) (answered c) is as_well same = ap answered (one_answer a b c is as_well same)
+  -- what a line came to is told by whether that is want of memory
+  one_came : (r : Request) (c d : Came) → IsAllowed r c → IsAllowed r d → is_want (outcome_of c) ≡ is_want (outcome_of d) → c ≡ d
+  one_came (no_operation f) c d is as_well same = is ∙ sym as_well
+  one_came (an_operation asked) (faulty f) d is as_well same = absurd is
+  one_came (an_operation asked) (answered a) (faulty f) is as_well same = absurd as_well
+  one_came (an_operation asked) (answered a) (answered b) is as_well same = ap answered (one_answer asked a b is as_well same)
 
   -- a reply line tells what its job came to
   pub one_reply : (earlier : List Past) (line : List ℕ) (c d : Came) → IsAllowed (run_line (held_of earlier) line) c → IsAllowed (run_line (held_of earlier) line) d

@@ -2,12 +2,12 @@
 --     JobFault      why a line asks for no operation
 --     Came      what a job came to
 --     values_for      the values that the names in an operation stand for
---     run_line      what a line asks for
---     May, IsAllowed      what an operation may come to, and a line
+--     Request, run_line      what a line asks for
+--     IsAllowed      what a line may come to
 --     Past      a job that has been answered
 --     held_of      what the jobs hold, by name
 --     AreAllowed      each job came to what its line may come to
-use Rattle.std.specs.Prelude.{◌≡◌, ◌⊎◌, ℕ, Bool, false, is_some, map, List, [], ◌∷◌, ◌++◌, Option, Some, None, Result, Ok, Err, if◌then◌else◌}
+use Rattle.std.specs.Prelude.{◌≡◌, ℕ, Bool, false, is_some, map, List, [], ◌∷◌, ◌++◌, Option, Some, None, Result, Ok, Err, if◌then◌else◌}
 use Rattle.std.specs.Ordering.{eq_by_cmp}
 use Rattle.fol.specs.Order.{text_cmp}
 use Rattle.job_lang.specs.declared.jobs.Op.{Op}
@@ -17,8 +17,7 @@ use Rattle.reply_lines.specs.declared.replies.Outcome.{Outcome}
 use Rattle.reply_lines.specs.declared.replies.Outcome.TheVariants as outcomes
 use Rattle.reply_lines.specs.OneLine.{is_want}
 use Rattle.operation_laws.specs.Values.{Value, refused}
-use Rattle.operation_laws.specs.Answers.{Answer, shown, held}
-use Rattle.operation_laws.specs.Answers as answers
+use Rattle.operation_laws.specs.Answers.{Answer, shown, held, Asked, May}
 use Rattle.operation_laws.specs.Given.{or_else, base_name, names_in}
 use Rattle.operation_laws.specs.Running.{run}
 use Rattle.session_laws.specs.Jobs.{is_too_long}
@@ -33,6 +32,11 @@ pub data JobFault : Type 0 where
 pub data Came : Type 0 where
   faulty : JobFault → Came
   answered : Answer → Came
+
+-- A line asks for nothing, since it has a fault, or for what its operation does.
+pub data Request : Type 0 where
+  no_operation : JobFault → Request
+  an_operation : Asked → Request
 
 -- what the first job with a name holds, where there is one
 abbrev pub Lookup : Type 0
@@ -52,27 +56,20 @@ is_taken lookup None = false
 is_taken lookup (Some name) = is_some (lookup name)
 
 -- a job that is read is run where its name is its own
-abbrev pub run_read : Lookup → Option (List ℕ) → Result Op JobCause → Came
-run_read lookup name (Err cause) = faulty (unread cause)
-run_read lookup name (Ok op) = if is_taken lookup name then faulty name_taken else answered (run op (values_for lookup op))
+abbrev pub run_read : Lookup → Option (List ℕ) → Result Op JobCause → Request
+run_read lookup name (Err cause) = no_operation (unread cause)
+run_read lookup name (Ok op) = if is_taken lookup name then no_operation name_taken else an_operation (run op (values_for lookup op))
 
--- what a line comes to with ample memory, after jobs that hold these values
-unfoldable pub run_line : Lookup → List ℕ → Came
+-- what a line asks for, after jobs that hold these values
+unfoldable pub run_line : Lookup → List ℕ → Request
 run_line lookup line =
-    if is_too_long line then faulty too_long else run_read lookup (reads_job line).name (reads_job line).op
-
--- What an operation may come to. A refusal needs no memory; a failure and a product may give way to want of it.
-abbrev pub May : Answer → Answer → Type 0
-May (answers.refused r) b = b ≡ answers.refused r
-May (answers.failed f) b = (b ≡ answers.failed f) ⊎ (b ≡ answers.lacking)
-May answers.lacking b = b ≡ answers.lacking
-May (answers.product p) b = (b ≡ answers.product p) ⊎ (b ≡ answers.lacking)
+    if is_too_long line then no_operation too_long else run_read lookup (reads_job line).name (reads_job line).op
 
 -- what a line may come to
-abbrev pub IsAllowed : Came → Came → Type 0
-IsAllowed (faulty f) c = c ≡ faulty f
-IsAllowed (answered a) (faulty f) = ⊥
-IsAllowed (answered a) (answered b) = May a b
+abbrev pub IsAllowed : Request → Came → Type 0
+IsAllowed (no_operation f) c = c ≡ faulty f
+IsAllowed (an_operation asked) (faulty f) = ⊥
+IsAllowed (an_operation asked) (answered a) = May asked a
 
 abbrev pub shown_fault : JobFault → Outcome
 shown_fault too_long = outcomes.LineTooLong

@@ -21,6 +21,9 @@ run_making-requires-clause-fits g c κs within = subst (λ (h : Graph). All (Fit
 pub eliminate_in-requires-clause-fits : goal.eliminate_in-requires-clause-fits
 eliminate_in-requires-clause-fits g c κs within = c.first.ensures.fits (graph_of (bench_of c.args.desk.now)) c.requires.fits
 
+pub eliminate_all_in-requires-clause-fits : goal.eliminate_all_in-requires-clause-fits
+eliminate_all_in-requires-clause-fits g c κs within = c.first-in-Eliminate.ensures.fits (graph_of (bench_of c.args.desk.now)) c.requires.fits
+
 pub returns-in-Problem-clause-noted : goal.returns-in-Problem-clause-noted
 returns-in-Problem-clause-noted g c = λ done. noted_in_graph c.args.op.now c.args.given.now c.args.pass.now (search rules)
 

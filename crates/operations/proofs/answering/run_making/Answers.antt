@@ -2,8 +2,11 @@
 use Rattle.proof_subst.specs.Benches.{graph_of}
 use Rattle.operations.proofs.answering.run_making.Goals as goal
 
+pub unfold_in-requires-clause-fits : goal.unfold_in-requires-clause-fits
+unfold_in-requires-clause-fits g c = c.first.ensures.fits (graph_of c.args.bench.now) c.requires.fits
+
 pub substitute_in-requires-clause-fits : goal.substitute_in-requires-clause-fits
-substitute_in-requires-clause-fits g c = c.first.ensures.fits (graph_of c.args.bench.now) c.requires.fits
+substitute_in-requires-clause-fits g c = c.first-in-Subst.ensures.fits (graph_of c.args.bench.now) c.requires.fits
 
 pub refute-requires-clause-fits : goal.refute-requires-clause-fits
 refute-requires-clause-fits g c = c.first-value.ensures.fits (graph_of c.args.bench.now) c.requires.fits

@@ -19,6 +19,11 @@ returns-in-EigenFree c =
     subst (λ (outcome : Outcome). Adds c.args.out.now c.put_variable_fault-in-EigenFree.new.out (data_tokens (said (answer_data outcome)))) (sym c.in-EigenFree.is)
     c.put_variable_fault-in-EigenFree.ensures
 
+pub returns-in-DefFree : goal.returns-in-DefFree
+returns-in-DefFree c =
+    subst (λ (outcome : Outcome). Adds c.args.out.now c.put_variable_fault-in-DefFree.new.out (data_tokens (said (answer_data outcome)))) (sym c.in-DefFree.is)
+    c.put_variable_fault-in-DefFree.ensures
+
 pub returns-in-Quantified : goal.returns-in-Quantified
 returns-in-Quantified c =
     subst (λ (outcome : Outcome). Adds c.args.out.now c.put_side_fault.new.out (data_tokens (said (answer_data outcome)))) (sym c.in-Quantified.is)
@@ -38,3 +43,7 @@ pub returns-in-NotPrenex : goal.returns-in-NotPrenex
 returns-in-NotPrenex c =
     subst (λ (outcome : Outcome). Adds c.args.out.now c.put_side_fault-in-NotPrenex.new.out (data_tokens (said (answer_data outcome)))) (sym c.in-NotPrenex.is)
     (subst (λ (f : Formula). Adds c.args.out.now c.put_side_fault-in-NotPrenex.new.out (data_tokens (side_fault (codes "not_prenex") f c.in-NotPrenex.side))) c.get-in-NotPrenex.ensures.formula c.put_side_fault-in-NotPrenex.ensures)
+
+pub returns-in-DefLarge : goal.returns-in-DefLarge
+returns-in-DefLarge c =
+    subst (λ (outcome : Outcome). Adds c.args.out.now c.put_plain-in-DefLarge.new.out (data_tokens (said (answer_data outcome)))) (sym c.in-DefLarge.is) c.put_plain-in-DefLarge.ensures

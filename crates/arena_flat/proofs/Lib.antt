@@ -1,0 +1,4 @@
+pub mod Sizes
+pub mod RuleLaws
+pub mod Growth
+pub mod SideSets

@@ -1,0 +1,4 @@
+pub mod Short
+pub mod Flattened
+pub mod Over
+pub mod PlainParts
