@@ -10,13 +10,17 @@ from .client import guarded
 SCRIPTS: Dict[str, str] = {
     "client": "sends the jobs of a file, in JSON of any layout, and prints the replies",
     "explain": "says in words why jobs of a file are refused",
+    "lint": "names all faulty steps of proofs at once, and fills in sides that are left out",
     "show": "shows what jobs of a file hold: text, HTML, LaTeX",
     "proofs": "a proof without needless weakenings, as a job",
+    "simplify": "an interpolant without needless parts; a sequent without strong quantifiers, and back",
     "tactics": "proofs from the goal: a dialogue, or the jobs for the theorems of a file",
     "fof": "a problem with formulas, proved: the problem and its proof as jobs",
     "export": "a proof in TSTP, for Coq, or in words",
     "tptp": "a problem in TPTP, includes resolved, or in DIMACS, as a job",
     "tstp": "a refutation by E or SPASS as jobs",
+    "serve": "one program for many clients, over a socket",
+    "fleet": "many files of jobs over many processes, each a session",
     "bundle": "several files of jobs as the sessions of one run",
 }
 MODULES = {"tactics": "script"}

@@ -60,6 +60,11 @@ class Reply:
             raise refusal(self.job, self.n, self.error)
         return self
 
+    def line(self) -> str:
+        """The reply as the program writes it."""
+        answer = {"ok": self.ok} if self.error is None else {"error": self.error}
+        return json.dumps({**answer, "job": self.job, "n": self.n}, separators=(",", ":"), sort_keys=True, ensure_ascii=False)
+
     @staticmethod
     def read(line: bytes, n: int) -> "Reply":
         """The reply that a line is, if it is the one to job `n`."""
@@ -238,12 +243,32 @@ class Session:
         """Sends one job and gives its reply, whose `job` is the name that it got. Raises the class that fits a refusal."""
         return self.batch([{"job": name, "op": op, **fields}])[0].checked()
 
-    def restart(self) -> None:
-        """Starts the program again, and sends again the accepted jobs that hold something."""
+    def restart(self, keep: Optional[Iterable[str]] = None) -> None:
+        """Starts the program again, and sends again the accepted jobs that hold something.
+
+        With `keep` only these are sent, and those that they are made of: all else is forgotten, and its names are free."""
+        if keep is not None:
+            self.forget_all_but([without_suffix(self.names.resolve(name)) for name in keep])
         self.end()
         self.start()
         for reply in self.exchange(encoded(job) for _, job in self.accepted):
             reply.checked()
+
+    def forget_all_but(self, waiting: List[str]) -> None:
+        """Strikes accepted jobs out, but for those that were sent by these names and those that they are made of."""
+        held = {job["job"]: (wanted, job) for wanted, job in self.accepted}
+        kept: Set[str] = set()
+        while waiting:
+            name = waiting.pop()
+            if name not in held:
+                raise ValueError(f"no job {name} is held that could be kept")
+            if name not in kept:
+                kept.add(name)
+                waiting.extend(without_suffix(one) for one in names_in(held[name][1]))
+        self.accepted = [(wanted, job) for wanted, job in self.accepted if job["job"] in kept]
+        self.names = Names()
+        for wanted, job in self.accepted:
+            self.names.stand(wanted, self.names.fresh(job["job"]))
 
     def close(self) -> int:
         """Ends the input, and gives the program's status: 0 if all jobs were answered Ok, 1 if one was refused."""
@@ -278,6 +303,11 @@ class Session:
             self.close()
         else:
             self.end()
+
+
+def names_in(job: Job) -> List[str]:
+    """The names of other jobs in a job's fields."""
+    return [job[field] for field in NAMING_FIELDS if isinstance(job.get(field), str)] + list(job.get("using") or ())
 
 
 def encoded(job: Any) -> bytes:
@@ -329,8 +359,7 @@ def main() -> int:
     words = parser.parse_args()
     session = Session(words.program)
     for _, reply in send_file(session, words.file):
-        answer = {"ok": reply.ok} if reply.error is None else {"error": reply.error}
-        print(json.dumps({**answer, "job": reply.job, "n": reply.n}, separators=(",", ":"), sort_keys=True, ensure_ascii=False))
+        print(reply.line())
     return session.close()
 
 

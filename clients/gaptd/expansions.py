@@ -43,6 +43,11 @@ class Expansion:
         below = node["of"] if isinstance(node["of"], (list, tuple)) else [node["of"]]
         return [(k, node.get("var", "")) for k in below]
 
+    def _repr_html_(self) -> str:
+        """The drawing that a notebook shows."""
+        from . import page  # (it stands on this module)
+        return page.picture("expansion trees", self)
+
     def quantified(self) -> List[bool]:
         """Whether each node has a quantifier in its tree."""
         found: List[bool] = []

@@ -75,6 +75,11 @@ def step(job: Job, error: Error, history: History) -> Iterator[str]:
 
 def step_text(given: Job) -> str:
     """A step in one line: its rule, what it names, its conclusion and its premises."""
+    return f"{inference_text(given)}:  {end_of(given)}"
+
+
+def inference_text(given: Job) -> str:
+    """A step without its conclusion."""
     form = RULES[given["rule"]]
     words = [given["rule"]]
     if form.names_main:
@@ -83,7 +88,7 @@ def step_text(given: Job) -> str:
         words.append(f"by {given[form.field]}")
     if given["premises"]:
         words.append("over " + " and ".join(f"step {k}" for k in given["premises"]))
-    return f"{' '.join(words)}:  {end_of(given)}"
+    return " ".join(words)
 
 
 def end_of(given: Job) -> Sequent:

@@ -11,14 +11,14 @@ import sys
 from typing import Callable, Dict, Iterable, Iterator, List, Sequence, Set, Tuple, Type, Union
 
 from .syntax import (KIND_NAMES, NUMBERED, All, And, App, Atom, Binary, Bound, Ex, Falsity, Formula, Imp, Not, Or, Quantified, Term, Truth,
-                     Var, atoms_of, closure, formula_key, free_variables, instance, is_equation, map_terms, members, substitute,
+                     Var, atoms_of, binding, closure, formula_key, free_variables, instance, is_equation, map_terms, members, substitute,
                      substitute_term, subterms, symbols_of, term_variables, terms_of)
 
 __all__ = [
     "KIND_NAMES", "NUMBERED", "All", "And", "App", "Atom", "Binary", "Bound", "Ex", "Falsity", "Formula", "Imp", "Not", "Or", "Quantified",
-    "Term", "Truth", "Var", "atoms_of", "closure", "formula_key", "free_variables", "instance", "is_equation", "map_terms", "members",
-    "substitute", "substitute_term", "subterms", "symbols_of", "term_variables", "terms_of", "TextError", "Printer", "applied", "canonical",
-    "formula", "formula_text", "name_text", "rising", "term", "term_text", "unquoted", "variable", "variables_of",
+    "Term", "Truth", "Var", "atoms_of", "binding", "closure", "formula_key", "free_variables", "instance", "is_equation", "map_terms",
+    "members", "substitute", "substitute_term", "subterms", "symbols_of", "term_variables", "terms_of", "TextError", "Printer", "applied",
+    "canonical", "formula", "formula_text", "name_text", "rising", "term", "term_text", "unquoted", "variable", "variables_of",
 ]
 
 

@@ -85,3 +85,9 @@ def page(title: str, shown: Sequence[Tuple[str, Shown]], write: Write = str) -> 
     drawings = [drawing(heading, what, write) for heading, what in shown]
     data = json.dumps(drawings, separators=(",", ":")).replace("<", "\\u003c")
     return TEMPLATE.read_text(encoding="utf-8").replace("@TITLE@", html.escape(title)).replace("@DATA@", data)
+
+
+def picture(title: str, shown: Shown, height: int = 480) -> str:
+    """A drawing for a cell of a notebook: the page in a frame."""
+    inside = html.escape(page(title, [(title, shown)]))
+    return f'<iframe srcdoc="{inside}" style="width: 100%; height: {height}px; border: 1px solid #ccc"></iframe>'

@@ -23,6 +23,7 @@ from typing import Any, Callable, Dict, Iterable, List, Mapping, Optional, Seque
 
 from . import formulas
 from .client import Session, add_program, guarded, send_file
+from .explain import History
 from .formulas import Formula
 from .rules import RULES, Definition, Definitions, RuleError, Sequent, auxiliary, main_sequent
 
@@ -52,6 +53,11 @@ class Proof:
 
     def __str__(self) -> str:
         return f"{self.label}: {self.end}"
+
+    def _repr_html_(self) -> str:
+        """The drawing that a notebook shows."""
+        from . import page  # (it stands on this module)
+        return page.picture(str(self.end), self)
 
 
 # Builders
@@ -326,10 +332,14 @@ def main() -> int:
     parser.add_argument("file", help="a file of jobs; - is the standard input")
     parser.add_argument("name", help="the job whose proof is taken")
     words = parser.parse_args()
+    history = History()
     with Session(words.program) as session:
-        send_file(session, words.file)
-        name, proof = shorten(session, words.name, by=pruned if words.prune else without_weak)
-    print(json.dumps(lk_job(proof, name), separators=(",", ":")))
+        for job, reply in send_file(session, words.file):
+            history.add(job, reply)
+        using = history.using(words.name)
+        fields: Dict[str, Any] = {"using": using} if using else {}
+        name, proof = shorten(session, words.name, by=pruned if words.prune else without_weak, **fields)
+    print(json.dumps({**lk_job(proof, name), **fields}, separators=(",", ":")))
     return 0
 
 

@@ -132,8 +132,13 @@ def map_terms(change: Callable[[Term, int], Term], whole: Formula, depth: int = 
 def closure(whole: Formula) -> Formula:
     """The formula with a universal quantifier for each free variable, the one that occurs first outermost."""
     for name in reversed(free_variables(whole)):
-        whole = All(map_terms(lambda part, depth: bound(part, name, depth), whole))
+        whole = binding(All, name, whole)
     return whole
+
+
+def binding(quantifier: Callable[[Formula], Formula], name: str, body: Formula) -> Formula:
+    """The quantified formula whose instance by the variable is the body."""
+    return quantifier(map_terms(lambda part, depth: bound(part, name, depth), body))
 
 
 def bound(part: Term, name: str, index: int) -> Term:

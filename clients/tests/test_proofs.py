@@ -147,6 +147,14 @@ class Weakening(unittest.TestCase):
         self.assertEqual(json.loads(done.stdout), {"job": "b-short", "op": "lk", "steps": [
             {"rule": "ax", "main": "p", "premises": [], "left": ["p", "q"], "right": ["p"]}]})
 
+    @needs("define")
+    def test_the_command_names_the_definitions(self) -> None:
+        done = command("gaptd.proofs", "--prune", str(EXAMPLES / "sets.jobs"), "empty-unique-direct")
+        self.assertEqual(done.returncode, 0, done.stderr)
+        shorter = json.loads(done.stdout)
+        self.assertEqual((shorter["job"], sorted(shorter["using"])), ("empty-unique-direct-short", ["empty", "equal", "subset"]))
+        self.assertEqual(shorter["steps"][-1]["right"], ["![V0]: ![V1]: ((empty(V0) & empty(V1)) => equal(V0,V1))"])
+
     def test_what_is_no_proof_can_not_be_shortened(self) -> None:
         done = command("gaptd.proofs", str(EXAMPLES / "expansion.jobs"), "drinker")
         self.assertEqual((done.returncode, done.stdout), (1, ""))

@@ -246,6 +246,18 @@ class Scripts(unittest.TestCase):
                          [(reply["job"], reply["ok"]["left"], reply["ok"]["right"]) for reply in kept])
         self.assertTrue(all(reply["ok"]["cuts"] > 0 for reply in replies))
 
+    @needs("define")
+    def test_the_libraries(self) -> None:
+        """The definitions and proofs that begin sets.jobs and orders.jobs are made of the tactics, and each is accepted."""
+        for library in ("sets", "orders"):
+            with self.subTest(library):
+                done = command("gaptd.tactics", str(EXAMPLES / f"{library}.tactics"))
+                self.assertEqual(done.returncode, 0, done.stderr)
+                made = done.stdout.splitlines()
+                self.assertEqual((EXAMPLES / f"{library}.jobs").read_text().splitlines()[:len(made)], made)
+                replies = [json.loads(line) for line in (EXAMPLES / f"{library}.replies").read_text().splitlines()]
+                self.assertTrue(all("ok" in reply for reply in replies[:len(made)]))
+
     def test_a_dialogue(self) -> None:
         given = ["theorem t", "prove ![X]: p(X) => p(c)", "impr", "impR", "allL c", "andL", "undo", "allL c of h1", "ax", "script", "qed",
                  "theorem u", "assume ![X]: p(X)", "prove q & p(c)", "andR", "abandon", "theorem v", "assume p", "prove p", "qed", "ax", "qed"]
