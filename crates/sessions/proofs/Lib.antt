@@ -1,0 +1,6 @@
+mod Adding
+mod Faulty
+mod Sizes
+mod ReadSoFar
+mod Midway
+mod Examples

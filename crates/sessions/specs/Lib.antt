@@ -1,0 +1,5 @@
+pub mod Switches
+pub mod Parts
+pub mod Bundles
+pub mod SoFar
+pub mod Reading
