@@ -10,7 +10,7 @@ import re
 import subprocess
 import sys
 from pathlib import Path
-from typing import Any, Callable, Dict, FrozenSet, List, NamedTuple, Optional, Sequence, Set, Tuple
+from typing import Any, Callable, Dict, FrozenSet, Iterator, List, NamedTuple, Optional, Sequence, Set, Tuple
 
 EXAMPLES = Path(__file__).resolve().parents[1] / "examples"
 SECONDS = 300.0
@@ -22,15 +22,15 @@ NOTES = {0: b"", 1: b"", 3: b"gaptd: read fault\n", 4: b"gaptd: write fault\n", 
 EARLY = frozenset(("line_too_long", "json", "field", "op", "formula", "tptp", "name_taken"))
 LATE = frozenset(("empty", "step"))
 
-# The fields of each operation that name jobs, in the order in which they are looked up, with what they take.
-PROOF, PROBLEM, TREES = frozenset(["proof"]), frozenset(["problem"]), frozenset(["trees"])
+# The fields of each operation that name jobs, in the order in which they are looked up, with what they take. `using` is a list of names.
+PROOF, PROBLEM, TREES, DEFINITION = frozenset(["proof"]), frozenset(["problem"]), frozenset(["trees"]), frozenset(["definition"])
 FIELDS: Dict[str, Sequence[Tuple[str, FrozenSet[str]]]] = {
-    "proves": (("proof", PROOF), ("problem", PROBLEM)), "resolution": (("problem", PROBLEM),), "fromexp": (("expansion", TREES),),
-    "show": (("of", PROOF | TREES),),
-    **{op: (("proof", PROOF),) for op in ("subst", "cutelim", "expand", "interpolate", "herbrand", "cutintro", "measure")},
+    "proves": (("proof", PROOF), ("problem", PROBLEM)), "resolution": (("problem", PROBLEM),), "sat": (("problem", PROBLEM),),
+    "fromexp": (("expansion", TREES),), "show": (("of", PROOF | TREES),), "lk": (("using", DEFINITION),), "define": (("using", DEFINITION),),
+    **{op: (("proof", PROOF),) for op in ("subst", "cutelim", "eliminate", "unfold", "expand", "interpolate", "herbrand", "cutintro", "measure")},
 }
-HOLDS = {"problem": "problem", "expansion": "trees", "expand": "trees", "interpolate": "pair",
-         **{op: "proof" for op in ("lk", "subst", "resolution", "cutelim", "tautology", "fromexp", "cutintro")}}
+HOLDS = {"problem": "problem", "define": "definition", "expansion": "trees", "expand": "trees", "interpolate": "pair",
+         **{op: "proof" for op in ("lk", "subst", "resolution", "cutelim", "eliminate", "unfold", "tautology", "fromexp", "cutintro")}}
 
 
 class Run(NamedTuple):
@@ -82,6 +82,13 @@ def short(line: bytes) -> str:
     return repr(line if len(line) < 200 else line[:200] + b"..")
 
 
+def names_in(job: Dict[str, Any]) -> Iterator[Tuple[str, FrozenSet[str]]]:
+    """The names of jobs in a job, with what each may stand for."""
+    for field, takes in FIELDS.get(job.get("op", ""), ()):
+        names = job.get(field, []) if field == "using" else [job[field]]
+        yield from ((name, takes) for name in names)
+
+
 class Exchange:
     """A file of jobs with the replies beside it."""
 
@@ -102,27 +109,34 @@ class Exchange:
     def error(self, place: int, **error: Any) -> bytes:
         return line_of({"error": error, "job": self.replies[place]["job"], "n": place + 1})
 
+    def holds(self, place: int) -> Optional[str]:
+        """What a job holds that is no error: a refutation that `sat` found is held as a proof, and a model isn't."""
+        op, ok = self.jobs[place]["op"], self.replies[place]["ok"]
+        return ("proof" if "steps" in ok else None) if op == "sat" else HOLDS.get(op)
+
     def named(self, place: int, name: str) -> Tuple[Optional[int], Optional[str]]:
         """The earlier job that a name stands for, and what it holds with ample memory."""
         whole, suffix = re.fullmatch(r"(.*?)(\.first|\.second)?", name, re.DOTALL).groups()
         job = self.first.get(whole, place)
         if job >= place:
             return None, None
-        holds = None if kind_of(self.replies[job]) else HOLDS.get(self.jobs[job]["op"])
+        holds = None if kind_of(self.replies[job]) else self.holds(job)
         return job, (("proof" if holds == "pair" else None) if suffix else holds)
 
     def allowed(self, place: int, lacking: Set[int]) -> Tuple[bytes, bool]:
         """The reply to a job where these earlier ones lacked memory, and whether the `memory` line may stand in its place."""
         job, kind, needs = self.jobs[place], kind_of(self.replies[place]), False
-        for field, takes in FIELDS.get(job.get("op", ""), ()):
-            earlier, holds = self.named(place, job[field])
+        for name, takes in names_in(job):
+            earlier, holds = self.named(place, name)
             if earlier is None:
-                return self.error(place, kind="unknown_name", name=job[field]), False
+                return self.error(place, kind="unknown_name", name=name), False
             if earlier in lacking or kind_of(self.replies[earlier]) == "memory":
                 needs = True
             elif holds not in takes:
-                return self.error(place, kind="kind", name=job[field]), False
-        return (self.error(place, kind="memory"), False) if needs else (self.kept[place], kind not in EARLY | LATE)
+                return self.error(place, kind="kind", name=name), False
+        if needs:
+            return self.error(place, kind="memory"), False
+        return self.kept[place], kind not in (EARLY if job.get("using") else EARLY | LATE)
 
     def rights(self, place: int, lacking: Set[int]) -> List[bytes]:
         """The lines that may be the reply to a job."""

@@ -19,6 +19,7 @@ SCRIPTS: Dict[str, str] = {
     "export": "a proof in TSTP, for Coq, or in words",
     "tptp": "a problem in TPTP, includes resolved, or in DIMACS, as a job",
     "tstp": "a refutation by E or SPASS as jobs",
+    "dimacs": "a file in DIMACS answered as SAT solvers answer it, with a refutation for checkers",
     "serve": "one program for many clients, over a socket",
     "fleet": "many files of jobs over many processes, each a session",
     "bundle": "several files of jobs as the sessions of one run",

@@ -29,13 +29,14 @@ from typing import Any, Callable, Deque, Dict, IO, Iterable, Iterator, List, Map
 
 from .errors import GaptdError, ProgramEnded, ProgramMissing, ProtocolError, refusal
 from .files import faults_in, read_text
-from .operations import HELD, NOTHING, without_suffix
+from .operations import NOTHING, kind_held, without_suffix
 from .progress import Progress
 
 Job = Mapping[str, Any]
 Program = Union[str, Sequence[str]]
 
 NAME_LENGTH = 64
+LINE_LENGTH = 1 << 24
 NAMING_FIELDS = ("proof", "problem", "expansion", "of")
 
 
@@ -236,7 +237,7 @@ class Session:
         """Remembers an accepted job; one that holds nothing isn't sent again by `restart`."""
         if reply.error is None:
             self.names.stand(wanted, job["job"])
-            if HELD.get(str(job.get("op"))) != NOTHING:
+            if kind_held(str(job.get("op")), reply.ok) != NOTHING:
                 self.accepted.append((wanted, job))
 
     def run(self, op: str, name: Optional[str] = None, **fields: Any) -> Reply:

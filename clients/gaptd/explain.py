@@ -10,11 +10,11 @@ from __future__ import annotations
 import argparse
 import difflib
 import sys
-from typing import Any, Callable, Dict, Iterable, Iterator, List, Mapping, Optional, Set, Tuple
+from typing import Any, Callable, Dict, Iterable, Iterator, List, Mapping, Optional, Sequence, Set, Tuple
 
 from . import clauses, formulas, tptp
 from .client import NAME_LENGTH, Reply, Session, add_program, guarded, send_file
-from .operations import ASKED, HELD, PAIR, near, without_suffix
+from .operations import ASKED, HELD, NOTHING, PAIR, SEARCHES, kind_held, near, without_suffix
 from .rules import RULES, Definition, Definitions, Sequent, auxiliary, main_sequent
 
 Job = Mapping[str, Any]
@@ -197,9 +197,25 @@ def refutation(job: Job, error: Error, history: History) -> Iterator[str]:
     yield "the last clause isn't empty" if derived else "there is no step"
 
 
-def refutation_text(given: Job) -> str:
+def not_ground(job: Job, error: Error, history: History) -> Iterator[str]:
+    name, number = job["problem"], error["clause"]
+    problem, _ = history.jobs.get(name, ({}, None))
+    found = [entry for entry in tptp.entries(problem.get("text", "")) if entry.language == "cnf"]
+    if number >= len(found):
+        yield f"{job['op']} takes clauses without variables, and clause {number} of {name} (counted from 0) has one"
+        return
+    clause = tptp.clause_of(found[number])
+    variables = sorted(clause.variables())
+    has = f"the variable{'s' * (len(variables) > 1)} {' and '.join(variables)}"
+    yield f"{job['op']} takes clauses without variables, and clause {number} of {name} (counted from 0) has {has}"
+    yield f"  it is {formulas.name_text(found[number].name)}: {clause}"
+    yield "  what begins with a capital is a variable; write instances of the clause, with terms in place of its variables"
+
+
+def refutation_text(given: Job, names: Sequence[str] = ()) -> str:
+    """A step in one line; with the names of the clauses an input is told with its name."""
     if "input" in given:
-        return f"input {given['input']}"
+        return f"input {given['input']}" + (f", {names[given['input']]}" if names else "")
     if "subst" in given:
         return f"subst {given['subst']} " + " ".join(f"{name}:={text}" for name, text in given["map"].items())
     return f"resolve {given['resolve'][0]} {given['resolve'][1]} on {given['atom']}"
@@ -292,19 +308,19 @@ def wrong_kind(job: Job, error: Error, history: History) -> Iterator[str]:
     name = without_suffix(error["name"])
     given, reply = history.jobs.get(name, ({}, None))
     if reply is None or reply.error is None:
-        yield from holds_another(job, error["name"], given)
+        yield from holds_another(job, error["name"], given, reply.ok if reply else {})
         return
     yield f"{error['name']} was refused itself (and keeps its name all the same):"
     for line in explain(given, reply.error, history).splitlines():
         yield "  " + line
 
 
-def holds_another(job: Job, name: str, given: Job) -> Iterator[str]:
-    """What an accepted job holds, and what the field asks for that names it."""
+def holds_another(job: Job, name: str, given: Job, ok: Mapping[str, Any]) -> Iterator[str]:
+    """What an accepted job holds that has this reply, and what the field asks for that names it."""
     base, operation = without_suffix(name), str(given.get("op", "another operation"))
-    found = operation in ("sat", "prove")
-    held = "a proof only where it found a refutation" if found else HELD.get(operation, "another value")
-    yield f"{base} is a job by {operation}, which holds {held}"
+    held = kind_held(operation, ok)
+    found = operation in SEARCHES and held == NOTHING
+    yield f"{base} is a job by {operation}, which holds {held}" + (f": it found {found_instead(ok)}, and no refutation" if found else "")
     if base != name and held != PAIR:
         yield "  only a pair of proofs is named with a suffix"
         return
@@ -312,6 +328,11 @@ def holds_another(job: Job, name: str, given: Job) -> Iterator[str]:
         if (name == job.get(field) or (field == "using" and name in (job.get(field) or ()))) and held not in kinds:
             yield f"  the field {field} asks for {' or '.join(kinds)}" + (f": say {name}.first or {name}.second" if held == PAIR else "")
             return
+
+
+def found_instead(ok: Mapping[str, Any]) -> str:
+    """What a search found in place of a refutation."""
+    return "a closed set of clauses" if "clauses" in ok else "a model"
 
 
 def falsified(job: Job, error: Error, history: History) -> Iterator[str]:
@@ -339,7 +360,6 @@ SENTENCES: Dict[str, str] = {
     "def_twice": "the definition {name} has the symbol of one before it",
     "def_free": "the variable {var} is free in the body and is none of the definition's variables",
     "def_large": "the body is too large when it is unfolded",
-    "not_ground": "clause {clause} has a variable",
     "rounds": "neither a refutation nor a closed set was found within the rounds",
 }
 
@@ -357,7 +377,7 @@ def other(job: Job, error: Error, history: History) -> Iterator[str]:
 Explainer = Callable[[Job, Error, History], Iterable[str]]
 EXPLAINERS: Dict[str, Explainer] = {
     "step": step, "refutation": refutation, "formula": text_fault, "tptp": text_fault, "field": bad_field, "unknown_name": unknown_name,
-    "kind": wrong_kind, "falsified": falsified, "op": bad_operation,
+    "kind": wrong_kind, "falsified": falsified, "op": bad_operation, "not_ground": not_ground,
 }
 
 

@@ -1,13 +1,18 @@
 """Texts of files, and faults that say in which file they are."""
 from __future__ import annotations
 
+import gzip
 import json
+import re
 import sys
+import zlib
 from contextlib import contextmanager
 from pathlib import Path
 from typing import Iterator, Union
 
 from .formulas import TextError
+
+GZIPPED = b"\x1f\x8b"
 
 
 def read_text(path: Union[str, Path]) -> str:
@@ -18,8 +23,25 @@ def read_text(path: Union[str, Path]) -> str:
         raise ValueError(f"{file_name(path)}: byte {error.start} isn't UTF-8") from error
 
 
+def read_bytes(path: Union[str, Path]) -> bytes:
+    """The bytes of a file, or of the standard input where the path is -. What is gzipped is unpacked."""
+    given = sys.stdin.buffer.read() if str(path) == "-" else Path(path).read_bytes()
+    if not given.startswith(GZIPPED):
+        return given
+    try:
+        return gzip.decompress(given)
+    except (OSError, EOFError, zlib.error) as error:
+        raise ValueError(f"{file_name(path)} is gzipped, and can't be unpacked: {error}") from error
+
+
 def file_name(path: Union[str, Path]) -> str:
     return "the standard input" if str(path) == "-" else str(path)
+
+
+def job_name(path: Path) -> str:
+    """A name for a file's job: its own, with - for what a name of a job can't have."""
+    stem = Path(path.stem).stem if path.suffix == ".gz" else path.stem
+    return "problem" if str(path) == "-" else re.sub(r"[^A-Za-z0-9_-]", "-", stem)[:64] or "problem"
 
 
 @contextmanager

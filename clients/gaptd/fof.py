@@ -21,7 +21,7 @@ from typing import Any, Callable, Dict, Iterator, List, Optional, Sequence, Set,
 from . import formulas, provers, search, tptp
 from .client import Session, add_program, guarded
 from .expansions import Expansion
-from .files import file_name
+from .files import file_name, job_name
 from .formulas import And, App, Formula, TextError
 from .matrix import Matrix
 from .progress import Progress
@@ -147,7 +147,7 @@ def main() -> int:
     if words.equality:
         print(f"fof: {added.count('fof(')} axioms of equality are added to the problem; those that are used stand in the proof's end "
               "sequent", file=sys.stderr)
-    for job in jobs(text, (words.job or tptp.job_name(words.file))[:54], expansion):
+    for job in jobs(text, (words.job or job_name(words.file))[:54], expansion):
         print(json.dumps(job, separators=(",", ":")))
     return 0
 

@@ -2,12 +2,12 @@
 from __future__ import annotations
 
 import difflib
-from typing import Dict, Iterable, List, Tuple
+from typing import Any, Dict, Iterable, List, Mapping, Tuple
 
 PROOF, PAIR, PROBLEM, EXPANSION, DEFINITION = "a proof", "a pair of proofs", "a problem", "expansion trees", "a definition"
 NOTHING = "nothing"
 
-# What a job by an operation holds once it is accepted. (`sat` and `prove` hold a proof only where they found a refutation.)
+# What a job by an operation holds once it is accepted; of the searches `kind_held` tells more.
 HELD: Dict[str, str] = {
     "lk": PROOF, "problem": PROBLEM, "resolution": PROOF, "proves": NOTHING, "subst": PROOF, "cutelim": PROOF, "eliminate": PROOF,
     "tautology": PROOF, "expansion": EXPANSION, "expand": EXPANSION, "fromexp": PROOF, "interpolate": PAIR, "herbrand": NOTHING,
@@ -17,7 +17,14 @@ HELD: Dict[str, str] = {
 ASKED: Dict[str, Tuple[str, ...]] = {
     "proof": (PROOF,), "problem": (PROBLEM,), "expansion": (EXPANSION,), "of": (PROOF, EXPANSION), "using": (DEFINITION,),
 }
+# Operations that look for a refutation. They hold a proof only where they found one.
+SEARCHES = ("sat", "prove")
 SUFFIXES = (".first", ".second")
+
+
+def kind_held(operation: str, ok: Mapping[str, Any]) -> str:
+    """What an accepted job by an operation holds, where its reply has this Ok object."""
+    return NOTHING if operation in SEARCHES and "steps" not in ok else HELD.get(operation, "another value")
 
 
 def without_suffix(name: str) -> str:

@@ -3,8 +3,10 @@ from __future__ import annotations
 
 import shutil
 import sys
+import threading
 import time
-from typing import Optional, Type
+from contextlib import contextmanager
+from typing import Iterator, Optional, Type
 from types import TracebackType
 
 PATIENCE, PAUSE = 2.0, 0.2  # seconds before the line is shown, and between its changes
@@ -44,3 +46,22 @@ class Progress:
         if self.width:
             self.write("")
             sys.stderr.write("\r")
+
+
+@contextmanager
+def waiting(text: str) -> Iterator[None]:
+    """Meanwhile the text is shown, and how many seconds it has been: for work of which nobody knows how far it is."""
+    begun, done = time.monotonic(), threading.Event()
+
+    def tell() -> None:
+        while not done.wait(PAUSE):
+            progress.tell(f"{text}: {time.monotonic() - begun:.0f} seconds")
+
+    with Progress() as progress:
+        teller = threading.Thread(target=tell, daemon=True)
+        teller.start()
+        try:
+            yield
+        finally:
+            done.set()
+            teller.join()

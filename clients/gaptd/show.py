@@ -1,11 +1,12 @@
-"""Proofs, expansion trees, interpolations, problems and Herbrand sequents to look at.
+"""Proofs, expansion trees, interpolations, problems, Herbrand sequents, models and refutations to look at.
 
-    python3 -m gaptd.show [--html | --latex] [--short | --prune] FILE NAME ..
+    python3 -m gaptd.show [--html | --latex] [--short | --prune] [--proof] FILE NAME ..
 
 runs the jobs of a file and shows what the named ones hold: as text, as one page of HTML in which subtrees fold when they are clicked, or as
-LaTeX with the package bussproofs. Of an interpolation both proofs are shown, of a problem and of a job `herbrand` the sequent. With
-`--short` proofs are shown without needless weakenings, with `--prune` without formulas and inferences that aren't needed; gaptd has checked
-the shorter proofs.
+LaTeX with the package bussproofs. Of an interpolation both proofs are shown, of a problem and of a job `herbrand` the sequent, of a job `sat`
+the model, or the refutation with the clause of each step. With `--proof` it is the proof in LK that the refutation stands for, as it is on a
+page and in LaTeX. With `--short` proofs are shown without needless weakenings, with `--prune` without formulas and inferences that aren't
+needed; gaptd has checked the shorter proofs.
 """
 from __future__ import annotations
 
@@ -13,13 +14,14 @@ import argparse
 import sys
 from dataclasses import dataclass
 from pathlib import Path
-from typing import Any, Callable, Iterator, List, Mapping, Optional, Sequence, Tuple, Union
+from typing import Any, Callable, Iterable, Iterator, List, Mapping, NamedTuple, Optional, Sequence, Tuple, Union
 
-from . import formulas, latex, page, readable
+from . import clauses, formulas, latex, page, readable, tptp
 from .client import Reply, Session, add_program, guarded, send_file
 from .expansions import Expansion
-from .explain import History, explain
-from .operations import HELD, NOTHING, PAIR, near, without_suffix
+from .explain import History, explain, found_instead, refutation_text
+from .operations import HELD, NOTHING, PAIR, SEARCHES, near, without_suffix
+from .progress import Progress
 from .proofs import Proof, from_steps, pruned, shorten, steps, without_weak
 from .rules import Sequent
 
@@ -28,22 +30,45 @@ Job = Mapping[str, Any]
 Write = Callable[[str], str]
 # An expansion tree is written with its shared parts repeated, up to so many lines.
 MOST_LINES = 2_000
+WIDTH = 120  # of a row of atoms
 
 
 class ShowError(ValueError):
     """A name that stands for nothing that can be shown."""
 
 
+class Model(NamedTuple):
+    """A model of clauses: which of their atoms are true in it, and which are false."""
+
+    true: Sequence[str]
+    false: Sequence[str]
+
+
+class Refutation(NamedTuple):
+    """The steps of a refutation, each as a text, with the clauses that they derive."""
+
+    steps: Sequence[str]
+    derived: Sequence[clauses.Clause]
+
+
 @dataclass(frozen=True)
 class Section:
-    """A part of what is shown: a heading, and a proof, an expansion or a sequent."""
+    """A part of what is shown: a heading, and a proof, an expansion, a sequent, a model or a refutation."""
 
     title: str
-    shown: Union[Proof, Expansion, Sequent]
+    shown: Union[Proof, Expansion, Sequent, Model, Refutation]
+
+    def drawn(self) -> Tuple[str, page.Shown]:
+        """The heading, and what can be drawn: a model as the sequent that it makes false."""
+        if isinstance(self.shown, Model):
+            return f"{self.title}: what is true on the left, what is false on the right", Sequent.of(*self.shown)
+        assert not isinstance(self.shown, Refutation)
+        return self.title, self.shown
 
 
-def named_sections(session: Session, name: str, history: History, by: Optional[Shorter] = None) -> List[Section]:
-    """What a job of a file holds, or the sequent that its reply tells of. Raises ShowError."""
+def named_sections(session: Session, name: str, history: History, by: Optional[Shorter] = None, is_proof: bool = False) -> List[Section]:
+    """What a job of a file holds, or what its reply tells of: a sequent, a model, and a refutation where that isn't to be shown as a proof.
+    Raises ShowError."""
     job, reply = accepted(name, history)
     operation = job["op"]
     if operation == "problem":
@@ -51,8 +76,8 @@ def named_sections(session: Session, name: str, history: History, by: Optional[S
     if operation == "define":
         arguments = f" of {reply.ok['arity']} arguments" if reply.ok["arity"] else ""
         return [Section(f"{name}: {reply.ok['symbol']}{arguments} stands for", Sequent.of([], [reply.ok["body"]]))]
-    if operation in ("sat", "prove") and "steps" not in reply.ok:
-        return [Section(f"{name}: {found_instead(reply)}", Sequent.of(map(str, texts_found(reply)), []))]
+    if operation in SEARCHES and name == reply.job and not (is_proof and "steps" in reply.ok):
+        return [found_section(name, reply, history.jobs[job["problem"]][0]["text"])]
     if operation == "herbrand":
         tuples = f"{reply.ok['count']} tuple{'s' * (reply.ok['count'] != 1)}"
         return [Section(f"{name}: the Herbrand sequent, of {tuples}", Sequent.of(reply.ok["left"], reply.ok["right"]))]
@@ -64,15 +89,29 @@ def named_sections(session: Session, name: str, history: History, by: Optional[S
     return sections(session, name, interpolant, by, history.using(name))
 
 
-def found_instead(reply: Reply) -> str:
-    """What a search found in place of a refutation."""
-    return "a closed set of clauses" if "clauses" in reply.ok else "a model, in which just these atoms are true"
+def found_section(name: str, reply: Reply, problem: str) -> Section:
+    """What a search found among the clauses of a problem text."""
+    if "steps" in reply.ok:
+        return Section(f"{name}: a refutation, in which each step derives a clause", refutation(reply.ok["steps"], problem))
+    title = f"{name}: {found_instead(reply.ok)}"
+    if "clauses" in reply.ok:
+        closed = [[*(f"~({atom})" for atom in one["left"]), *one["right"]] for one in reply.ok["clauses"]]
+        return Section(title, Sequent.of((" | ".join(literals) for literals in closed), []))
+    true = reply.ok["true"]
+    atoms = {literal.atom for clause in tptp.clauses_of(problem) for literal in clause.literals}
+    return Section(title, Model(true, formulas.rising(set(map(formulas.formula_text, atoms)) - set(true))))
 
 
-def texts_found(reply: Reply) -> List[str]:
-    """The atoms of a model, or the clauses of a closed set as formulas."""
-    clauses = [[*(f"~({atom})" for atom in one["left"]), *one["right"]] for one in reply.ok.get("clauses", ())]
-    return [" | ".join(literals) for literals in clauses] or list(reply.ok.get("true", ()))
+def refutation(found: Sequence[Job], problem: str) -> Refutation:
+    """A refutation of the clauses of a problem text, with what each step derives."""
+    inputs = tptp.clauses_of(problem)
+    names = [formulas.name_text(entry.name) for entry in tptp.entries(problem) if entry.language == "cnf"]
+    derived: List[clauses.Clause] = []
+    with Progress(len(found)) as progress:
+        for step in found:
+            derived.append(clauses.derive(step, inputs, derived))
+            progress.step()
+    return Refutation([refutation_text(step, names) for step in found], derived)
 
 
 def accepted(name: str, history: History) -> Tuple[Job, Reply]:
@@ -146,14 +185,44 @@ def sequent_text(end: Sequent, write: Write = str) -> str:
                       "right:", *(f"  {write(text)}" for text in formulas.rising(end.right))])
 
 
+def model_text(model: Model, write: Write = str) -> str:
+    """The atoms of a model, in rows."""
+    return "\n".join(["true:", *rows(map(write, model.true)), "false:", *rows(map(write, model.false))])
+
+
+def rows(texts: Iterable[str]) -> Iterator[str]:
+    """The texts in indented lines, as many in each as have room in it."""
+    line = ""
+    for one in texts:
+        if line and len(line) + len(one) + 2 > WIDTH:
+            yield f"  {line},"
+            line = ""
+        line += f", {one}" if line else one
+    if line:
+        yield f"  {line}"
+
+
+def refutation_lines(shown: Refutation, write: Write = str) -> str:
+    """The steps of a refutation, one in a line: number, what is done, the clause that is derived."""
+    first, second = len(str(len(shown.steps) - 1)), max(map(len, shown.steps))
+    return "\n".join(f"{number:>{first}}  {step:{min(second, 40)}}  {write(str(clause))}"
+                     for number, (step, clause) in enumerate(zip(shown.steps, shown.derived)))
+
+
 def text(shown: Sequence[Section], write: Write = str) -> str:
     """The sections as plain text; `write` may write canonical texts in another way."""
-    def body(section: Section) -> str:
-        if isinstance(section.shown, Sequent):
-            return sequent_text(section.shown, write)
-        return proof_text(section.shown, write) if isinstance(section.shown, Proof) else expansion_text(section.shown, write)
+    return "\n\n".join(f"{section.title}\n\n{body_text(section, write)}" for section in shown) + "\n"
 
-    return "\n\n".join(f"{section.title}\n\n{body(section)}" for section in shown) + "\n"
+
+def body_text(section: Section, write: Write) -> str:
+    shown = section.shown
+    if isinstance(shown, Sequent):
+        return sequent_text(shown, write)
+    if isinstance(shown, Model):
+        return model_text(shown, write)
+    if isinstance(shown, Refutation):
+        return refutation_lines(shown, write)
+    return proof_text(shown, write) if isinstance(shown, Proof) else expansion_text(shown, write)
 
 
 def main() -> int:
@@ -167,6 +236,8 @@ def main() -> int:
     shorter.add_argument("--prune", dest="by", action="store_const", const=pruned, help="without what a proof doesn't need")
     parser.add_argument("--readable", action="store_true", help="formulas as a person writes them: quantifiers in blocks, bound variables "
                         "X, Y, Z, and <=>; not with --latex")
+    parser.add_argument("--proof", action="store_true", help="of a refutation the proof in LK that it stands for; so it always is but for plain "
+                        "text")
     parser.add_argument("--output", type=Path, help="the file to write; the standard output without it")
     parser.add_argument("file", help="a file of jobs; - is the standard input")
     parser.add_argument("names", nargs="+", help="the jobs to show")
@@ -175,13 +246,13 @@ def main() -> int:
         history = History()
         for job, reply in send_file(session, words.file):
             history.add(job, reply)
-        shown = [section for name in words.names for section in named_sections(session, name, history, words.by)]
+        is_proof = bool(words.proof or words.by or words.html or words.latex)
+        shown = [section for name in words.names for section in named_sections(session, name, history, words.by, is_proof)]
     write: Write = readable.formula if words.readable else str
-    pairs = [(section.title, section.shown) for section in shown]
     if words.html:
-        written = page.page(" and ".join(words.names), pairs, write)
+        written = page.page(" and ".join(words.names), [section.drawn() for section in shown], write)
     else:
-        written = latex.document(pairs) if words.latex else text(shown, write)
+        written = latex.document([section.drawn() for section in shown]) if words.latex else text(shown, write)
     if words.output:
         words.output.write_text(written, encoding="utf-8")
     else:

@@ -19,7 +19,7 @@ from .client import Reply, Session, add_program, guarded, send_file
 from .equivalences import Equivalence, simplified
 from .expansions import Expansion
 from .explain import History
-from .operations import HELD, PAIR, PROBLEM, PROOF, without_suffix
+from .operations import HELD, PAIR, PROBLEM, PROOF, kind_held, without_suffix
 from .proofs import Proof, cut, from_steps, lk_job, pruned, shorten, steps, weak
 from .rules import Sequent
 from .show import accepted
@@ -98,8 +98,10 @@ def proof_jobs(session: Session, expansion: Expansion, name: str, end: Tuple[Seq
 def with_sequent(name: str, history: History, *kinds: str) -> Tuple[Mapping[str, Any], Reply]:
     """A job that holds a value of one of these kinds, with its reply, which says a sequent."""
     job, reply = accepted(name, history)
-    if HELD.get(job["op"]) not in kinds or name != without_suffix(name):
+    if kind_held(job["op"], reply.ok) not in kinds or name != without_suffix(name):
         raise SimplifyError(f"{name} is a job by {job['op']}, and holds no{' and no'.join(kind.lstrip('a') for kind in kinds)}")
+    if "left" not in reply.ok:
+        raise SimplifyError(f"{name} is a job by {job['op']}, whose reply tells of no sequent")
     return job, reply
 
 

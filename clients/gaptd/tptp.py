@@ -17,10 +17,10 @@ from dataclasses import dataclass
 from pathlib import Path
 from typing import Any, Dict, Iterator, List, Optional, Sequence, Tuple
 
-from . import formulas
+from . import dimacs, formulas
 from .clauses import Clause
 from .client import guarded
-from .files import faults_in, read_text
+from .files import faults_in, job_name, read_text
 from .formulas import TextError
 
 # What an entry consists of, as far as its end is looked for: quoted texts and comments hide brackets and points.
@@ -142,35 +142,12 @@ def included(name: str, by: Path) -> Path:
     raise FileNotFoundError(f"{by} includes {name}, which is not in {' or '.join(map(str, folders))}")
 
 
-def dimacs(text: str) -> Iterator[str]:
-    """The clauses of a DIMACS text as entries. Raises TextError."""
-    literals: List[str] = []
-    count = 0
-    for line in text.splitlines():
-        if line.startswith("%"):
-            break
-        if line.startswith(("c", "p")) or not line.strip():
-            continue
-        for word in line.split():
-            if not re.fullmatch(r"-?[0-9]+", word):
-                raise TextError(text, text.find(word), "no number of DIMACS")
-            number = int(word)
-            if number:
-                literals.append(f"~x{-number}" if number < 0 else f"x{number}")
-            else:
-                count += 1
-                yield f"cnf(c{count},axiom,{' | '.join(literals) or '$false'})."
-                literals = []
-    if literals:
-        raise TextError(text, len(text), "a clause without its 0")
-
-
 def problem_text(path: Path) -> str:
     """The text of a problem file, without includes and in TPTP's syntax."""
     text = read_text(path)
     if path.suffix in (".cnf", ".dimacs") or re.match(r"(c\b[^\n]*\n|\s)*p\s+cnf\s", text):
         with faults_in(path):
-            return "".join(f"{line}\n" for line in dimacs(text))
+            return "".join(dimacs.entry(number, clause) for number, clause in enumerate(dimacs.Reader(text), 1))
     return "".join(f"{entry.text}\n" for entry in resolved(path, text))
 
 
@@ -189,11 +166,6 @@ def clause_of(entry: Entry) -> Clause:
         return Clause.read(entry.body)
     except TextError as error:
         raise TextError(error.text, error.at, f"the entry {entry.name}: {error.what}") from error
-
-
-def job_name(path: Path) -> str:
-    """A name for a file's job: its own, with - for what a name of a job can't have."""
-    return "problem" if str(path) == "-" else re.sub(r"[^A-Za-z0-9_-]", "-", path.stem)[:64] or "problem"
 
 
 def main() -> int:

@@ -119,6 +119,29 @@ class Others(unittest.TestCase):
         self.assertIn("there is a job i, and .third is no suffix: the two proofs of a pair end in .first and .second", third)
         self.assertIn("only a pair of proofs is named with a suffix", first)
 
+    @needs("sat")
+    def test_clauses_with_variables(self) -> None:
+        text = "cnf(a,axiom,p(a)). fof(f,axiom,![X]: q(X)). cnf('b c',axiom,~p(Y) | r(X,Y)). cnf(d,axiom,p(Z))."
+        job = {"job": "s", "op": "sat", "problem": "c"}
+        said, = self.refusals({"job": "c", "op": "problem", "text": text}, job)
+        self.assertEqual(said.splitlines(), [
+            "sat takes clauses without variables, and clause 1 of c (counted from 0) has the variables X and Y", "  it is 'b c': ~p(Y) | r(X,Y)",
+            "  what begins with a capital is a variable; write instances of the clause, with terms in place of its variables"])
+        self.assertIn("clause 1 of c (counted from 0) has one", explain(job, {"kind": "not_ground", "clause": 1}))
+
+    @needs("sat")
+    def test_what_a_search_holds(self) -> None:
+        either, both = ({"job": name, "op": "problem", "text": text} for name, text in
+                        (("c", "cnf(a,axiom,p | q)."), ("d", "cnf(a,axiom,p). cnf(b,axiom,~p).")))
+        model, problem, refutation = self.refusals(
+            either, both, {"job": "s", "op": "sat", "problem": "c"}, {"job": "t", "op": "sat", "problem": "d"},
+            {"job": "m", "op": "measure", "proof": "s"}, {"job": "n", "op": "measure", "proof": "t"},
+            {"job": "o", "op": "sat", "problem": "s"}, {"job": "p", "op": "sat", "problem": "t"})
+        found = "s is a job by sat, which holds nothing: it found a model, and no refutation"
+        self.assertEqual(model.splitlines(), [found, "  the field proof asks for a proof"])
+        self.assertEqual(problem.splitlines(), [found, "  the field problem asks for a problem"])
+        self.assertEqual(refutation.splitlines(), ["t is a job by sat, which holds a proof", "  the field problem asks for a problem"])
+
     @needs("herbrand")
     def test_strong_quantifiers(self) -> None:
         main = "![X]: ![Y]: ~r(X,Y)"

@@ -1,6 +1,7 @@
 from __future__ import annotations
 
 import io
+import time
 import unittest
 from unittest import mock
 
@@ -26,6 +27,17 @@ class Lines(unittest.TestCase):
     def test_work_that_takes_long(self) -> None:
         self.assertEqual(self.written(Terminal(), 1.5).split("\r"), [
             "", "[####################..........] 2 of 3 b", "[##############################] 3 of 3 c", " " * 41, ""])
+
+    def test_waiting(self) -> None:
+        terminal = Terminal()
+        with mock.patch("sys.stderr", terminal), mock.patch.multiple(progress, PATIENCE=0.0, PAUSE=0.001):
+            with self.assertRaises(ValueError), progress.waiting("the program runs"):
+                time.sleep(0.1)
+                raise ValueError
+        first, *_, last, end = terminal.getvalue().split("\r")[1:]
+        self.assertEqual((first, last.strip(), end), ("the program runs: 0 seconds", "", ""))
+        with mock.patch("sys.stderr", io.StringIO()), progress.waiting("the program runs"):
+            pass
 
     def test_work_that_is_soon_done_and_no_terminal(self) -> None:
         self.assertEqual(self.written(Terminal(), 0.5), "")

@@ -110,17 +110,52 @@ class Text(unittest.TestCase):
         self.assertIn(r"\mathrm{p}(\mathit{X}) \\ \vdash \\ \mathrm{p}(\mathit{X})", command("gaptd.show", "--latex", path, "h").stdout)
 
     @needs("sat")
-    def test_models_and_closed_sets(self) -> None:
-        jobs = """{"job":"c","op":"problem","text":"cnf(a,axiom,p | q). cnf(b,axiom,~p). cnf(c,axiom,r | ~q)."} {"job":"s","op":"sat","problem":"c"}
-            {"job":"d","op":"problem","text":"cnf(a,axiom,p(a)). cnf(b,axiom,~q(X) | p(X))."} {"job":"t","op":"prove","problem":"d","rounds":1}
-            {"job":"e","op":"problem","text":"cnf(a,axiom,p(a)). cnf(b,axiom,~p(X))."} {"job":"u","op":"prove","problem":"e"}"""
-        done = command("gaptd.show", "-", "s", "t", "u", given=jobs)
+    def test_models(self) -> None:
+        jobs = """{"job":"c","op":"problem","text":"cnf(a,axiom,p | q). cnf(b,axiom,~p). cnf(c,axiom,r | ~q). cnf(d,axiom,s | ~s | ~r)."}
+            {"job":"s","op":"sat","problem":"c"} {"job":"e","op":"problem","text":""} {"job":"t","op":"sat","problem":"e"}"""
+        done = command("gaptd.show", "-", "s", "t", given=jobs)
         self.assertEqual(done.returncode, 0, done.stderr)
-        model, closed, refutation = done.stdout.split("\n\n")[1::2]
-        self.assertIn("s: a model, in which just these atoms are true", done.stdout)
-        self.assertEqual(model.splitlines(), ["left:", "  q", "  r", "right:"])
+        _, some, title, none = done.stdout.split("\n\n")
+        self.assertTrue(done.stdout.startswith("s: a model\n\n"))
+        self.assertIn(some.splitlines(), (["true:", "  q, r", "false:", "  p, s"], ["true:", "  q, r, s", "false:", "  p"]))
+        self.assertEqual((title, none), ("t: a model", "true:\nfalse:\n"))
+        for form, drawn in (("--html", '"kind":"sequent"'), ("--latex", r"\vdash")):
+            written = command("gaptd.show", form, "-", "s", given=jobs).stdout
+            self.assertIn("s: a model: what is true on the left, what is false on the right", written)
+            self.assertIn(drawn, written)
+
+    def test_a_model_with_many_atoms(self) -> None:
+        atoms = [f"p({number})" for number in range(100)]
+        first, *rows, last = show.model_text(show.Model(atoms, [])).splitlines()
+        self.assertEqual((first, " ".join(map(str.strip, rows)), last), ("true:", ", ".join(atoms), "false:"))
+        self.assertTrue(110 < len(rows[0]) <= 123, rows[0])
+
+    @needs("sat")
+    def test_refutations(self) -> None:
+        jobs = """{"job":"c","op":"problem","text":"cnf(one,axiom,p). fof(no,axiom,q). cnf('two words',axiom,~p)."}
+            {"job":"s","op":"sat","problem":"c"}"""
+        done = command("gaptd.show", "-", "s", given=jobs)
+        self.assertEqual(done.returncode, 0, done.stderr)
+        title, lines = done.stdout.split("\n\n")
+        self.assertEqual(title, "s: a refutation, in which each step derives a clause")
+        first, second, third = lines.splitlines()
+        self.assertEqual(sorted([first[3:], second[3:]]), ["input 0, one          p", "input 1, 'two words'  ~p"])
+        self.assertRegex(third, r"^2  resolve . . on p      \$false$")
+        for words in (["--proof"], ["--short"], ["--html"]):
+            with self.subTest(words):
+                shown = command("gaptd.show", *words, "-", "s", given=jobs).stdout
+                self.assertIn('"rule":"cut' if words == ["--html"] else "cut p over", shown)
+
+    @needs("prove")
+    def test_closed_sets(self) -> None:
+        jobs = """{"job":"d","op":"problem","text":"cnf(a,axiom,p(a)). cnf(b,axiom,~q(X) | p(X))."}
+            {"job":"t","op":"prove","problem":"d","rounds":1} {"job":"e","op":"problem","text":"cnf(a,axiom,p(a)). cnf(b,axiom,~p(X))."} {"job":"u","op":"prove","problem":"e"}"""
+        done = command("gaptd.show", "-", "t", "u", given=jobs)
+        self.assertEqual(done.returncode, 0, done.stderr)
+        closed, refutation = done.stdout.split("\n\n")[1::2]
         self.assertEqual(sorted(closed.splitlines()[1:-1]), ["  p(a)", "  ~q(V0) | p(V0)"])
-        self.assertIn("cut p(a) over", refutation)
+        self.assertIn("on p(a)", refutation)
+        self.assertIn("cut p(a) over", command("gaptd.show", "--proof", "-", "u", given=jobs).stdout)
 
     @needs("define")
     def test_definitions(self) -> None:

@@ -15,7 +15,7 @@ from gaptd.formulas import All, And, App, Atom, Ex, Falsity, Formula, Imp, Not, 
 from gaptd.proofs import steps
 from gaptd.rules import Sequent
 from gaptd.skolem import SkolemError, Skolemized
-from tests.support import EXAMPLES, command, session, steps_of
+from tests.support import EXAMPLES, command, needs, session, steps_of
 
 DRINKER = "?[X]: (p(X) => ![Y]: p(Y))"
 DRINKER_TREES = [
@@ -168,6 +168,17 @@ class StrongQuantifiers(unittest.TestCase):
                     self.assertIn(said, done.stderr)
                     self.assertNotIn("Traceback", done.stderr)
             self.assertEqual(command("gaptd.simplify", "back", str(path), "drinker").returncode, 2)
+
+    @needs("sat")
+    def test_searches(self) -> None:
+        jobs = [{"job": "c", "op": "problem", "text": "cnf(a,axiom,p)."}, {"job": "model", "op": "sat", "problem": "c"},
+                {"job": "d", "op": "problem", "text": "cnf(a,axiom,p). cnf(b,axiom,~p)."}, {"job": "refuted", "op": "sat", "problem": "d"}]
+        with session() as one:
+            history = history_of(one, jobs)
+            for name, what in (("model", "model is a job by sat, and holds no proof"),
+                               ("refuted", "refuted is a job by sat, whose reply tells of no sequent")):
+                with self.subTest(name), self.assertRaisesRegex(simplify.SimplifyError, what):
+                    simplify.skolemize_jobs(one, name, history)
 
 
 if __name__ == "__main__":

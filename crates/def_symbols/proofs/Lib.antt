@@ -7,3 +7,4 @@ pub mod Flattenings
 pub mod DefinitionLists
 pub mod Searches
 pub mod DefinedSymbols
+pub mod WeightExamples

@@ -1,23 +1,22 @@
 -- What is marked is well formed, and a rule with another formula.
-use Rattle.std.proofs.Common.{◌≡◌, List, Some, None, Result, Ok, Err, IfOk, refl, sym, ap, subst}
-use Rattle.std.specs.List.{All}
+use Rattle.std.proofs.Common.{◌≡◌, true, List, Some, None, Result, Ok, Err, IfOk, refl, sym, ap, subst, ◌∙◌}
+use Rattle.std.specs.List.{All, list_all}
+use Rattle.std.proofs.lemmas.List.Sums.{list_all-from_AllPass}
 use Rattle.fol.specs.Syntax.{Pred, Formula}
-use Rattle.fol.specs.Formed.{IsFormed, IsFormedPred}
-use Rattle.lk_rules.specs.declared.sequent.Sequent.{Sequent}
+use Rattle.fol.specs.Formed.{is_formed, IsFormed, IsFormedPred}
 use Rattle.lk_rules.specs.declared.rule.Rule.{Rule}
 use Rattle.lk_rules.specs.declared.rule.Rule.TheVariants.{Ax, TopR, BotL, NegL, NegR, AndL, AndR, OrL, OrR, ImpL, ImpR, AllL, AllR, ExL, ExR, DefL, DefR, Cut, Weak}
 use Rattle.lk_rules.specs.RuleOrder.{formula_of, map_rule}
 use Rattle.lk_rules.specs.Rules.{IsFormedRule}
-use Rattle.proof_trees.specs.Conclusions.{IsFormedSequent}
-use Rattle.def_laws.specs.Marking.{marked, marked_sequent, marked_rule}
+use Rattle.def_laws.specs.Marking.{marked, marked_rule}
 use Rattle.def_laws.proofs.MarkedFormulas.{formed-marked}
-use Rattle.def_laws.proofs.MarkedSequents.{formed_marked_sequent, formed_marked_rule}
+use Rattle.def_laws.proofs.MarkedSequents.{formed_marked_rule}
 
 pub formed_mark : (ds : List Pred) (f g : Formula) → All IsFormedPred ds → IsFormed f → g ≡ marked ds f → IsFormed g
 formed_mark ds f g each h is = subst (λ x. IsFormed x) (sym is) (formed-marked ds 0 f each h)
 
-pub formed_mark_sequent : (ds : List Pred) (s t : Sequent) → All IsFormedPred ds → IsFormedSequent s → t ≡ marked_sequent ds s → IsFormedSequent t
-formed_mark_sequent ds s t each h is = subst (λ x. IsFormedSequent x) (sym is) (formed_marked_sequent ds s each h)
+pub formed_listing : (fs gs : List Formula) → fs ≡ gs → All IsFormed fs → list_all is_formed gs ≡ true
+formed_listing fs gs same each = ap (list_all is_formed) (sym same) ∙ list_all-from_AllPass is_formed fs each
 
 pub formed_mark_rule : (ds : List Pred) (r q : Rule) → All IsFormedPred ds → IsFormedRule r → q ≡ marked_rule ds r → IsFormedRule q
 formed_mark_rule ds r q each h is = subst (λ x. IsFormedRule x) (sym is) (formed_marked_rule ds each r h)

@@ -1,7 +1,8 @@
 //! Formulas, sequents and rules in which symbols get their definitions.
-ghost use Rattle.std.specs.Prelude.{◌≡◌, IfOk, unwrap_or, option_copied};
-ghost use Rattle.std.specs.List.{All};
-ghost use Rattle.fol.specs.Formed.{IsFormed, IsFormedPred};
+ghost use Rattle.std.specs.Prelude.{◌≡◌, true, IfOk, unwrap_or, option_copied};
+ghost use Rattle.std.specs.List.{All, list_all};
+ghost use Rattle.fol.specs.Formed.{is_formed, IsFormed, IsFormedPred};
+ghost use Rattle.finite.specs.Finite as set;
 ghost use Rattle.lk_rules.specs.RuleOrder.{formula_of, map_rule};
 ghost use Rattle.lk_rules.specs.Rules.{IsFormedRule};
 ghost use Rattle.proof_trees.specs.Conclusions.{IsFormedSequent};
@@ -38,11 +39,21 @@ pub fn mark_sequent(
 ) -> Result<Sequent, AllocError>
     requires { All IsFormedPred definitions.now }
     ensures value { IfOk result (λ s. s ≡ marked_sequent definitions.now sequent.now) }
-    ensures formed { IsFormedSequent sequent.now → IfOk result IsFormedSequent }
+    ensures formed { IfOk result IsFormedSequent }
 {
     let left = mark_set(alloc, definitions, &sequent.left)?;
     let right = mark_set(alloc, definitions, &sequent.right)?;
+    are_formed(&left);
+    are_formed(&right);
     Ok(Sequent { left, right })
+}
+
+// Each formula of a set is well formed.
+#[tactic(auto, using(crate::proofs::Marks::formed_listing))]
+fn are_formed(formulas: &Formulas)
+    ensures { list_all is_formed (set.listing formulas.now) ≡ true }
+{
+    let _formulas = formulas.as_slice();
 }
 
 /// The rule with its formula marked.
@@ -60,36 +71,11 @@ pub fn mark_rule(alloc: Global, definitions: &Definitions, rule: &Rule) -> Resul
 fn marked_copy(alloc: Global, definitions: &Definitions, rule: &Rule) -> Result<Rule, AllocError>
     ensures { IfOk result (λ r. r ≡ marked_rule definitions.now rule.now) }
 {
-    let Some(main) = formula_in(rule) else {
+    let Some(main) = rule.formula() else {
         return rule.copy();
     };
     let main = mark_copy(alloc, definitions, main)?;
     with_formula(rule, main)
-}
-
-// The formula that the rule names.
-fn formula_in(rule: &Rule) -> Option<&Formula>
-    ensures { option_copied result ≡ formula_of rule.now }
-{
-    match rule {
-        Rule::Ax(main)
-        | Rule::NegL(main)
-        | Rule::NegR(main)
-        | Rule::AndL(main)
-        | Rule::AndR(main)
-        | Rule::OrL(main)
-        | Rule::OrR(main)
-        | Rule::ImpL(main)
-        | Rule::ImpR(main)
-        | Rule::AllL(main, _)
-        | Rule::AllR(main, _)
-        | Rule::ExL(main, _)
-        | Rule::ExR(main, _)
-        | Rule::DefL(main)
-        | Rule::DefR(main)
-        | Rule::Cut(main) => Some(main),
-        Rule::TopR | Rule::BotL | Rule::Weak => None,
-    }
 }
 
 // The rule with another formula.

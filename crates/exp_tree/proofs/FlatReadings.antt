@@ -15,7 +15,6 @@ use Rattle.exp_tree.specs.declared.flat.RootCause.{RootCause}
 use Rattle.exp_tree.specs.declared.flat.NodesFault.{NodesFault}
 use Rattle.exp_tree.specs.declared.flat.NodesFault.TheVariants as fault
 use Rattle.exp_tree.specs.declared.sequents.ExpSequent.{ExpSequent}
-use Rattle.exp_tree.specs.Sizes.{capped}
 use Rattle.exp_tree.specs.FlatLists.{trees_of, node_fault, fault_at, IsWithoutNodeFault}
 use Rattle.exp_tree.specs.Roots.{root_fault, root_fault_at, side_fault_at, IsWithoutRootFault, expansion_over, total}
 use Rattle.exp_tree.specs.Reads.{IsWithoutFault, Reads}
@@ -65,11 +64,11 @@ root_within flat n cause here = by (nat_lt n (length flat.left)) refl here
         let least = ltb-false n (length flat.left) is in omega (arith, low, least)
 
 -- a list without fault
-whole : (n : ℕ) (x : Expansion) → capped (total x) ≤ n → within n x ≡ Ok x
-whole n x few = ap (λ b. if b then Err fault.Budget else Ok x) (le-ltb n (capped (total x)) few)
+whole : (n : ℕ) (x : Expansion) → total x ≤ n → within n x ≡ Ok x
+whole n x few = ap (λ b. if b then Err fault.Budget else Ok x) (le-ltb n (total x) few)
 
-too_large : (n : ℕ) (x : Expansion) → n < capped (total x) → within n x ≡ Err fault.Budget
-too_large n x many = ap (λ b. if b then Err fault.Budget else Ok x) (below_test n (capped (total x)) many)
+too_large : (n : ℕ) (x : Expansion) → n < total x → within n x ≡ Err fault.Budget
+too_large n x many = ap (λ b. if b then Err fault.Budget else Ok x) (below_test n (total x) many)
 
 no_node : (flat : FlatExp) → IsWithoutNodeFault flat.nodes → node_fault_in flat ≡ None
 no_node flat right = none_below (fault_at flat.nodes) (length flat.nodes) right
@@ -129,5 +128,5 @@ is_read flat n x is = by (node_fault_in flat) (root_fault_in flat) refl refl is
         nodes = none_left (fault_at flat.nodes) (length flat.nodes) nodes;
         roots = none_left (root_fault_at flat) (length flat.left + length flat.right) roots;
       };
-      roots = same (nat_lt n (capped (total (expansion_over flat)))) (expansion_over flat) is;
+      roots = same (nat_lt n (total (expansion_over flat))) (expansion_over flat) is;
     }

@@ -10,7 +10,6 @@ use Rattle.lk_rules.specs.declared.sequent.Side.TheVariants.{Left, Right}
 use Rattle.expansion_laws.specs.Building.{is_built}
 use Rattle.expansion_laws.specs.Dependency.{Expansion}
 use Rattle.expansion_laws.specs.Proofs.{stands}
-use Rattle.exp_tree.specs.Sizes.{capped}
 use Rattle.exp_tree.specs.FlatLists.{fault_at}
 use Rattle.exp_tree.specs.Roots.{root_fault_at, expansion_over, total}
 use Rattle.exp_tree.specs.Reads.{expansion_of}
@@ -41,7 +40,7 @@ root_fault_in flat = first_below (root_fault_at flat) (length flat.left + length
 
 -- trees, if unfolded they have at most n nodes
 abbrev pub within : ℕ → Expansion → Result Expansion NodesFault
-within n x = if nat_lt n (capped (total x)) then Err Budget else Ok x
+within n x = if nat_lt n (total x) then Err Budget else Ok x
 
 -- trees, if no node and no root is faulty
 abbrev pub read_after : Option (ℕ × NodeCause) → Option (ℕ × RootCause) → ℕ → Expansion → Result Expansion NodesFault

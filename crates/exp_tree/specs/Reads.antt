@@ -7,7 +7,6 @@ use Rattle.std.specs.List.{list_all}
 use Rattle.lk_rules.specs.declared.sequent.Side.TheVariants.{Left, Right}
 use Rattle.expansion_laws.specs.Dependency.{Expansion}
 use Rattle.expansion_laws.specs.Proofs.{stands}
-use Rattle.exp_tree.specs.Sizes.{capped}
 use Rattle.exp_tree.specs.FlatLists.{IsFirstNodeFault, IsWithoutNodeFault}
 use Rattle.exp_tree.specs.Roots.{IsFirstRootFault, IsWithoutRootFault, expansion_over, total}
 use Rattle.exp_tree.specs.declared.flat.FlatExp.{FlatExp}
@@ -35,10 +34,10 @@ IsRootOrMemory flat fault.Budget = ⊥
 IsRootOrMemory flat fault.Memory = Unit {0}
 
 -- the first faulty node; else the first faulty root; else whether the unfolded trees have too many nodes; else the trees that the list
--- means. Numbers of nodes are cut off at the largest budget
+-- means
 abbrev pub Reads : Result ExpSequent NodesFault → FlatExp → ℕ → Type 0
-Reads (Ok e) flat budget = IsWithoutFault flat × (expansion_of e ≡ expansion_over flat) × (capped (total (expansion_over flat)) ≤ budget)
+Reads (Ok e) flat budget = IsWithoutFault flat × (expansion_of e ≡ expansion_over flat) × (total (expansion_over flat) ≤ budget)
 Reads (Err (fault.Node i cause)) flat budget = IsFirstNodeFault flat.nodes i cause
 Reads (Err (fault.Root n cause)) flat budget = IsWithoutNodeFault flat.nodes × IsFirstRootFault flat n cause
-Reads (Err fault.Budget) flat budget = IsWithoutFault flat × (budget < capped (total (expansion_over flat)))
+Reads (Err fault.Budget) flat budget = IsWithoutFault flat × (budget < total (expansion_over flat))
 Reads (Err fault.Memory) flat budget = Unit {0}

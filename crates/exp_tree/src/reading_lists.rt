@@ -86,7 +86,7 @@ fn read_roots(alloc: Global, trees: &[Exp], flat: &FlatExp) -> Result<ExpSequent
 
 /// Reads expansion trees from a flat list, sharing what the list shares. `Node` and `Root` name the first fault, nodes before roots.
 /// `Budget` is answered where there is none and the unfolded trees of the roots have more than `budget` nodes; nothing is unfolded to
-/// count them.
+/// count them. With 2^64 - 1 nodes or more, which are counted no further, and that budget, want of memory is answered.
 pub fn read_nodes(alloc: Global, flat: &FlatExp, budget: u64) -> Result<ExpSequent, NodesFault>
     ensures exact { Reads result flat.now budget }
     ensures stand { IfOk result StandsRightly }
@@ -101,8 +101,12 @@ pub fn read_nodes(alloc: Global, flat: &FlatExp, budget: u64) -> Result<ExpSeque
     };
     let left = count_nodes(read.left.as_slice());
     let right = count_nodes(read.right.as_slice());
-    if left.saturating_add(right) > budget {
+    let nodes = left.saturating_add(right);
+    if nodes > budget {
         return Err(NodesFault::Budget);
+    }
+    if nodes == u64::MAX {
+        return Err(NodesFault::Memory);
     }
     Ok(read)
 }

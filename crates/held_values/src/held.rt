@@ -1,5 +1,8 @@
 //! What jobs hold for later ones.
-ghost use Rattle.std.specs.Prelude.{◌≡◌, IfOk};
+ghost use Rattle.std.specs.Prelude.{◌≡◌, IfOk, IfSome};
+ghost use Rattle.proof_graph.specs.declared.graph.Graph.{Graph};
+ghost use Rattle.operation_laws.specs.Values.{IsSound};
+ghost use Rattle.held_values.specs.Means.{sense, Fits};
 
 use exp_tree::CheckedExp;
 use fol::Predicate;
@@ -60,6 +63,30 @@ impl Held {
             Held::Problem(problem) => Ok(Held::Problem(problem.copy()?)),
             Held::Expansion(trees) => Ok(Held::Expansion(trees.copy(alloc)?)),
             Held::Definition(symbol) => Ok(Held::Definition(symbol.copy()?)),
+        }
+    }
+
+    /// A value that fits a graph is sound: a proof is valid, a problem is such as is read, trees are an expansion proof, and a symbol is well
+    /// formed.
+    pub fn known(&self)
+        requires { (g : Graph) × Fits g self.now }
+        ensures { IfSome (sense self.now) IsSound }
+    {
+        match self {
+            Held::Proof(proof) => proof.known(),
+            Held::Pair(first, second) => {
+                first.known();
+                second.known();
+            }
+            Held::Expansion(trees) => {
+                let _trees = trees.tree();
+            }
+            Held::Nothing
+            | Held::Refused
+            | Held::Unheld
+            | Held::Unknown
+            | Held::Problem(_)
+            | Held::Definition(_) => {}
         }
     }
 }

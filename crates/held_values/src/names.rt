@@ -25,6 +25,7 @@ pub fn name_at(op: &Op, place: usize) -> Option<&str>
         | Op::Cutelim { proof: text, .. }
         | Op::Eliminate { proof: text }
         | Op::Unfold { proof: text }
+        | Op::Sat { problem: text }
         | Op::Expand { proof: text, .. }
         | Op::Fromexp {
             expansion: text,

@@ -4,3 +4,5 @@ mod Examples
 pub mod PlainTexts
 pub mod ShortJobs
 pub mod LineLaws
+pub mod ReadValues
+pub mod ReadJobs

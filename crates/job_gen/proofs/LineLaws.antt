@@ -1,6 +1,6 @@
 -- Generated lines are printable and short.
 use Rattle.std.proofs.Common.{ℕ, zero, suc, ◌+◌, ◌*◌, ◌≤◌, [], ◌∷◌, length, refl, arith, length-append}
-use Rattle.std.specs.List.{flat_map, range_with_len}
+use Rattle.std.specs.List.{All, flat_map, range_with_len}
 use Rattle.serde_json.specs.Written.{compact_text}
 use Rattle.job_gen.specs.Generated.{job_data, generated_line, generated}
 use Rattle.job_gen.specs.PrintableLine.{IsPrintableLine}
@@ -10,9 +10,12 @@ use Rattle.job_gen.proofs.ShortJobs.{small_job}
 job_short : (i : ℕ) → IsShort (compact_text (job_data i)) (room (job_data i))
 job_short i = text_short (job_data i) (small_job i).plain
 
+pub job_printable : (i : ℕ) → All (λ b. (32 ≤ b) × (b ≤ 126)) (compact_text (job_data i))
+job_printable i = (job_short i).printable
+
 pub line_printable : (i : ℕ) → IsPrintableLine (generated_line i)
 unfolding generated_line
-line_printable i = record { text = compact_text (job_data i); ends = refl; printable = (job_short i).printable }
+line_printable i = record { text = compact_text (job_data i); ends = refl; printable = job_printable i }
 
 pub length-generated_line : (i : ℕ) → length (generated_line i) ≤ 4096
 unfolding generated_line

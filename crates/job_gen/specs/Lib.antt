@@ -4,3 +4,4 @@ pub mod Derivations
 pub mod Chains
 pub mod Generated
 pub mod PrintableLine
+pub mod ReadLine

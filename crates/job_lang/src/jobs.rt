@@ -80,6 +80,10 @@ pub enum Op {
     Unfold {
         proof: Utf8Text,
     },
+    /// A model of the clauses of a problem, which is named by its job and has no variables in them, or a refutation.
+    Sat {
+        problem: Utf8Text,
+    },
     /// The steps of a refutation of the clauses of a problem, which is named by its job.
     Resolution {
         problem: Utf8Text,
@@ -157,6 +161,7 @@ impl Drop for Op {
             | Op::Measure { proof: name }
             | Op::Eliminate { proof: name }
             | Op::Unfold { proof: name }
+            | Op::Sat { problem: name }
             | Op::Cutelim {
                 proof: name,
                 budget: _,
@@ -431,6 +436,10 @@ fn op_named(
     if name == "unfold" {
         let proof = written_at(alloc, value, Place::Top, "proof")?;
         return Ok(Op::Unfold { proof });
+    }
+    if name == "sat" {
+        let problem = written_at(alloc, value, Place::Top, "problem")?;
+        return Ok(Op::Sat { problem });
     }
     budgeted_op_named(alloc, texts, name, value)
 }

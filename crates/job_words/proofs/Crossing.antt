@@ -9,14 +9,35 @@ use Rattle.job_words.proofs.formed.SymbolName.TheSendSync as symbol
 use Rattle.job_words.proofs.texts.Utf8Text.TheSendSync as text
 use Rattle.job_words.proofs.texts.Utf8Texts.TheSendSync as texts
 use Rattle.job_words.specs.contracts.formed.FormedFormula as formula
+use Rattle.job_words.specs.contracts.steps.RefutationSteps as refutation
 use Rattle.job_words.specs.contracts.steps.Steps as steps
 use Rattle.lk_rules.proofs.Crossing as rules
+use Rattle.refutations.specs.contracts.step.ResStep as res_step
+use Rattle.substitution.specs.contracts.maps.Subst as subst
 
 pub steps_send : IsSend steps.the_row
 steps_send = search (sendable, std.crosses, rules.crosses) depth 20
 
 pub steps_sync : IsSync steps.the_row
 steps_sync = search (sendable, std.crosses, rules.crosses) depth 20
+
+subst_send : IsSend subst.the_row
+subst_send = search (sendable, std.crosses, rules.crosses) depth 20
+
+subst_sync : IsSync subst.the_row
+subst_sync = search (sendable, std.crosses, rules.crosses) depth 20
+
+res_step_send : IsSend (res_step.the_field).row
+res_step_send = search (sendable, std.crosses, rules.crosses, subst_send) depth 20
+
+res_step_sync : IsSync (res_step.the_field).row
+res_step_sync = search (sendable, std.crosses, rules.crosses, subst_sync) depth 20
+
+pub refutation_send : IsSend refutation.the_row
+refutation_send = search (sendable, std.crosses, res_step_send) depth 20
+
+pub refutation_sync : IsSync refutation.the_row
+refutation_sync = search (sendable, std.crosses, res_step_sync) depth 20
 
 pub formula_send : IsSend formula.the_row
 formula_send = search (sendable, rules.crosses) depth 20
@@ -27,6 +48,8 @@ formula_sync = search (sendable, rules.crosses) depth 20
 pub ruleset crosses = (
   steps_send,
   steps_sync,
+  refutation_send,
+  refutation_sync,
   formula_send,
   formula_sync,
   cause.the_field_send,

@@ -1,3 +1,4 @@
 pub mod Names
 pub mod RuleKinds
 pub mod NodeKinds
+pub mod Refutations

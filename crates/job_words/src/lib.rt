@@ -1,5 +1,5 @@
 //! What jobs and replies both speak of: names of jobs, texts, the rules and the nodes of expansion trees by their names, the steps of a
-//! proof, formulas, variables and names of symbols that are well formed, and why a line isn't read.
+//! proof and of a refutation, formulas, variables and names of symbols that are well formed, and why a line isn't read.
 #![tactic(auto)]
 
 mod causes;
@@ -15,5 +15,5 @@ pub use formed::{FormedFormula, FormedVar, FormedVars, SymbolName};
 pub use kinds::RuleKind;
 pub use names::{Name, is_name};
 pub use node_kinds::NodeKind;
-pub use steps::Steps;
+pub use steps::{RefutationSteps, Steps};
 pub use texts::{Utf8Text, Utf8Texts};

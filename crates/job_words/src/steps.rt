@@ -1,9 +1,11 @@
-//! The steps of a proof.
+//! The steps of a proof and of a refutation.
 ghost use Rattle.std.specs.Prelude.{◌≡◌};
 ghost use Rattle.std.specs.List.{All};
 ghost use Rattle.lk_rules.specs.Rules.{IsFormedRule};
+ghost use Rattle.job_words.specs.Refutations.{HaveFormedParts};
 
 use lk_rules::Step;
+use refutations::ResStep;
 use std::marker::Model;
 
 /// The steps of a proof, each of which names a rule with well-formed parts.
@@ -54,5 +56,47 @@ impl Steps {
     {
         let Steps { items } = self;
         items
+    }
+}
+
+/// The steps of a refutation, each of which names a well-formed atom or a map of well-formed variables to well-formed terms, where it
+/// names one.
+#[derive(Drop)]
+pub struct RefutationSteps {
+    items: Vec<ResStep>,
+}
+
+impl Model for RefutationSteps {
+    ghost use Rattle.std.specs.Prelude.{List};
+    ghost use Rattle.refutations.specs.declared.step.ResStep.{ResStep};
+    ghost use Rattle.job_words.specs.Refutations.{HaveFormedParts};
+
+    ghost Value = { List ResStep };
+
+    ghost use Rattle.std.specs.Coded.{codes};
+    ghost use Rattle.refutations.specs.contracts.step.ResStep as step;
+
+    ghost coded = { Prim.hlevel (codes, step.the_row.coded) };
+
+    ghost view = { λ s. s.items.items };
+
+    ghost invariant = { λ s. HaveFormedParts s.items.items };
+}
+
+impl RefutationSteps {
+    /// The list of these steps, whose parts have to be well formed.
+    pub fn from_vec(items: Vec<ResStep>) -> RefutationSteps
+        requires { HaveFormedParts items.items }
+        ensures { result ≡ items.items }
+    {
+        RefutationSteps { items }
+    }
+
+    /// The steps, in order.
+    pub fn as_slice(&self) -> &[ResStep]
+        ensures steps { result.now ≡ self.now }
+        ensures formed { HaveFormedParts result.now }
+    {
+        self.items.as_slice()
     }
 }

@@ -8,9 +8,10 @@ use Rattle.job_lang.specs.declared.jobs.Op.{Op}
 use Rattle.job_lang.specs.declared.jobs.Op.TheVariants as ops
 use Rattle.operation_laws.specs.Values.{Value}
 use Rattle.operation_laws.specs.Answers.{Product, reduced, Answer, refused, failed, lacking, product, capped, Asked, one, elimination as reached_from, OrLacking, IsReached}
-use Rattle.operation_laws.specs.Given.{Found, missing, wanting, found, proof_given, first_of}
+use Rattle.operation_laws.specs.Given.{Found, missing, wanting, found, proof_given, problem_given, first_of}
 use Rattle.operation_laws.specs.Running.{to_eliminate, run}
 use Rattle.operation_laws.specs.Claims.{AReducedProof, IsFreed}
+use Rattle.operation_laws.proofs.Solved.{solves_no_elimination}
 
 -- one answer that is a product is that product
 pub of_one : (a : Answer) (made : Product) → OrLacking a (product made) → a ≡ product made
@@ -68,6 +69,7 @@ asks_elimination (ops.Cutelim of n) vs t is = absurd (apart _ _ is)
 asks_elimination (ops.Eliminate of) vs t is = (of, refl, eliminates_found (proof_given of (first_of vs)) t is)
 asks_elimination (ops.Define symbol vars body using) vs t is = absurd (apart _ _ is)
 asks_elimination (ops.Unfold of) vs t is = absurd (apart _ _ is)
+asks_elimination (ops.Sat of) vs t is = absurd (solves_no_elimination (problem_given of (first_of vs)) t is)
 asks_elimination (ops.Resolution of list) vs t is = absurd (apart _ _ is)
 asks_elimination (ops.Tautology s n) vs t is = absurd (apart _ _ is)
 asks_elimination (ops.Expansion flat n) vs t is = absurd (apart _ _ is)

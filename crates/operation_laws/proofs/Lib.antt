@@ -10,4 +10,5 @@ pub mod Shows
 pub mod OneAnswer
 pub mod Defined
 pub mod Freed
+pub mod Solved
 pub mod Examples

@@ -161,7 +161,7 @@ cutelim_made of n v made sound is =
     (one.0, one.1, eliminated_by one.0 n made (elimination one.0 n) (found_valid of v one.0 sound one.1) refl one.2)
 
 -- the clauses of a problem that is read
-read_clauses : (p : Problem) → IsReadProblem p → All IsClauseOf (clauses_of p.entries)
+pub read_clauses : (p : Problem) → IsReadProblem p → All IsClauseOf (clauses_of p.entries)
 read_clauses p read =
     let cs = clauses_of p.entries in
     all_clauses p.entries p.entries cs (length p.entries) refl (omega arith)
@@ -171,7 +171,7 @@ read_clauses p read =
 closure_formed : (c : Clause) → IsClauseOf c → has_closure c ≡ true → IsFormed (closure_of c)
 closure_formed c h few = few_variables c.vars c.matrix _ refl h.shape h.formed (ltb-true (length c.vars) (2 ^ 32) few)
 
-closures_formed : (cs : List Clause) → All IsClauseOf cs → list_all has_closure cs ≡ true → All (λ c. IsFormed (closure_of c)) cs
+pub closures_formed : (cs : List Clause) → All IsClauseOf cs → list_all has_closure cs ≡ true → All (λ c. IsFormed (closure_of c)) cs
 closures_formed [] h few = λ k d l. absurd (omega arith)
 closures_formed (c ∷ cs) h few =
     All-cons (λ d. IsFormed (closure_of d)) c cs (closure_formed c (All-head IsClauseOf c cs h) (and_left (has_closure c) (list_all has_closure cs) few))

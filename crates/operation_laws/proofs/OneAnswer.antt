@@ -1,10 +1,22 @@
 -- What may be answered to an operation is one answer, beside want of memory.
-use Rattle.std.proofs.Common.{◌≡◌, ◌⊎◌, ℕ, ◌+◌, true, Some, sym, ◌∙◌, inl, inr, arith}
+use Rattle.std.proofs.Common.{◌≡◌, ◌⊎◌, ℕ, ◌+◌, true, List, map, Option, Some, Result, Ok, sym, ap, ◌∙◌, subst, inl, inr, arith}
 use Rattle.proof_trees.specs.Trees.{Tree}
 use Rattle.cut_laws.specs.Elimination.{Reaches, elimination}
 use Rattle.cut_laws.proofs.Reached.{least_reached}
+use Rattle.refutations.specs.declared.clause.Clause.{Clause}
+use Rattle.refutations.specs.declared.step.ResCause.{ResCause}
+use Rattle.refutations.specs.Refutations.{refutation as refutation_of}
+use Rattle.ground_laws.specs.Steps.{res_step}
+use Rattle.job_lang.specs.declared.jobs.Op.{Op}
+use Rattle.job_lang.specs.declared.jobs.Op.TheVariants as ops
+use Rattle.reply_lines.specs.declared.replies.Outcome.{Outcome}
 use Rattle.reply_lines.specs.OneLine.{is_want}
-use Rattle.operation_laws.specs.Answers.{reduced, Answer, refused, failed, lacking, product, shown, capped, Asked, one, elimination as reached_from, OrLacking, May}
+use Rattle.reply_lines.specs.Shown.{AreAlike}
+use Rattle.reply_lines.proofs.Telling.{same_want, same_model, same_refutation, kept_apart}
+use Rattle.operation_laws.specs.Values.{Value}
+use Rattle.operation_laws.specs.Answers.{reduced, model, refutation, Answer, refused, failed, lacking, product, shown, capped, Asked, one, elimination as reached_from, satisfiability, OrLacking, IsModelOf, IsRefutationOf, May}
+use Rattle.operation_laws.specs.Given.{Found, missing, wanting, found, proof_given, first_of}
+use Rattle.operation_laws.specs.Running.{to_eliminate, run, HasOneAnswer}
 use Rattle.operation_laws.proofs.Shows.{want_by, want_shown}
 
 -- where it is one answer or want of memory, that tells which
@@ -34,10 +46,94 @@ one_reached t u v k j first second =
     let both = same_pair (u, k) (v, j) (sym here ∙ there) in
     λ i. shown_as (both i).0 (both i).1
 
-pub one_answer : (asked : Asked) (a b : Answer) → May asked a → May asked b → is_want (shown a) ≡ is_want (shown b) → a ≡ b
-one_answer (one p) a b first second same = one_of_one p a b first second same
-one_answer (reached_from t) a b (inl is) (inl as_well) same =
-    is.is ∙ one_reached t is.tree as_well.tree is.steps as_well.steps is.reached as_well.reached ∙ sym as_well.is
-one_answer (reached_from t) a b (inr is) (inr as_well) same = is ∙ sym as_well
-one_answer (reached_from t) a b (inl is) (inr as_well) same = want_by a (same ∙ want_shown b as_well) ∙ sym as_well
-one_answer (reached_from t) a b (inr is) (inl as_well) same = is ∙ sym (want_by b (sym same ∙ want_shown a is))
+-- two models, and two refutations, whose replies are alike are the same, and a model is never alike to a refutation
+turned : (x y : Outcome) → AreAlike x y → AreAlike y x
+turned x y alike = record { name = alike.name; n = alike.n; lines = sym alike.lines }
+
+moved : (a b p q : Answer) → a ≡ p → b ≡ q → AreAlike (shown a) (shown b) → AreAlike (shown p) (shown q)
+moved a b p q is as_well alike = subst (λ c. AreAlike (shown p) (shown c)) as_well (subst (λ c. AreAlike (shown c) (shown b)) is alike)
+
+one_tree : (t u : Tree) → ◌≡◌ {A = Result Tree (ℕ × ResCause)} (Ok t) (Ok u) → t ≡ u
+one_tree t u is = cc
+
+one_model : (cs : List Clause) (a b : Answer) (m : IsModelOf cs a) (k : IsModelOf cs b) → AreAlike (shown a) (shown b) → a ≡ b
+one_model cs a b m k alike =
+    let same = same_model m.atoms k.atoms m.shown k.shown (moved a b (product (model m.atoms)) (product (model k.atoms)) m.is k.is alike) in
+    m.is ∙ (ap (λ x. product (model x)) same ∙ sym k.is)
+
+one_refutation : (cs : List Clause) (a b : Answer) (r : IsRefutationOf cs a) (q : IsRefutationOf cs b) → AreAlike (shown a) (shown b) → a ≡ b
+one_refutation cs a b r q alike =
+    let xs = map res_step r.steps in
+    let ys = map res_step q.steps in
+    let same : xs ≡ ys = same_refutation xs ys r.shown q.shown (moved a b (product (refutation xs r.tree)) (product (refutation ys q.tree)) r.is q.is alike) in
+    let trees : r.tree ≡ q.tree = one_tree r.tree q.tree (sym r.stands ∙ (ap (refutation_of cs) same ∙ q.stands)) in
+    let both : product (refutation xs r.tree) ≡ product (refutation ys q.tree) = λ i. product (refutation (same i) (trees i)) in
+    r.is ∙ (both ∙ sym q.is)
+
+not_both : (cs : List Clause) (a b : Answer) → IsModelOf cs a → IsRefutationOf cs b → AreAlike (shown a) (shown b) → ⊥
+not_both cs a b m r alike =
+    kept_apart m.atoms (map res_step r.steps) r.shown (moved a b (product (model m.atoms)) (product (refutation (map res_step r.steps) r.tree)) m.is r.is alike)
+
+lacks_both : (a b : Answer) → b ≡ lacking → AreAlike (shown a) (shown b) → a ≡ b
+lacks_both a b is alike = want_by a (same_want (shown a) (shown b) alike ∙ want_shown b is) ∙ sym is
+
+one_solution : (cs : List Clause) (a b : Answer) → May (satisfiability cs) a → May (satisfiability cs) b → AreAlike (shown a) (shown b) → a ≡ b
+one_solution cs a b (inl m) (inl k) alike = one_model cs a b m k alike
+one_solution cs a b (inl m) (inr (inl r)) alike = absurd (not_both cs a b m r alike)
+one_solution cs a b (inr (inl r)) (inl m) alike = absurd (not_both cs b a m r (turned (shown a) (shown b) alike))
+one_solution cs a b (inr (inl r)) (inr (inl q)) alike = one_refutation cs a b r q alike
+one_solution cs a b first (inr (inr none)) alike = lacks_both a b none alike
+one_solution cs a b (inr (inr none)) (inl m) alike = sym (lacks_both b a none (turned (shown a) (shown b) alike))
+one_solution cs a b (inr (inr none)) (inr (inl r)) alike = sym (lacks_both b a none (turned (shown a) (shown b) alike))
+
+one_eliminated : (t : Tree) (a b : Answer) → May (reached_from t) a → May (reached_from t) b → is_want (shown a) ≡ is_want (shown b) → a ≡ b
+one_eliminated t a b (inl is) (inl as_well) same = is.is ∙ one_reached t is.tree as_well.tree is.steps as_well.steps is.reached as_well.reached ∙ sym as_well.is
+one_eliminated t a b (inr is) (inr as_well) same = is ∙ sym as_well
+one_eliminated t a b (inl is) (inr as_well) same = want_by a (same ∙ want_shown b as_well) ∙ sym as_well
+one_eliminated t a b (inr is) (inl as_well) same = is ∙ sym (want_by b (sym same ∙ want_shown a is))
+
+pub one_answer : (asked : Asked) (a b : Answer) → May asked a → May asked b → AreAlike (shown a) (shown b) → a ≡ b
+one_answer (one p) a b first second alike = one_of_one p a b first second (same_want (shown a) (shown b) alike)
+one_answer (reached_from t) a b first second alike = one_eliminated t a b first second (same_want (shown a) (shown b) alike)
+one_answer (satisfiability cs) a b first second alike = one_solution cs a b first second alike
+
+-- where there is one, want of memory tells it
+abbrev IsDetermined : Asked → Type 0
+IsDetermined (one a) = Unit {0}
+IsDetermined (reached_from t) = Unit {0}
+IsDetermined (satisfiability cs) = ⊥
+
+one_by : (asked : Asked) (a b : Answer) → IsDetermined asked → May asked a → May asked b → is_want (shown a) ≡ is_want (shown b) → a ≡ b
+one_by (one p) a b determined first second same = one_of_one p a b first second same
+one_by (reached_from t) a b determined first second same = one_eliminated t a b first second same
+one_by (satisfiability cs) a b determined first second same = absurd determined
+
+eliminates_determined : (f : Found Tree) → IsDetermined (to_eliminate f)
+eliminates_determined (missing r) = tt
+eliminates_determined wanting = tt
+eliminates_determined (found t) = tt
+
+is_determined : (op : Op) (vs : List (Option Value)) → HasOneAnswer op → IsDetermined (run op vs)
+is_determined (ops.Lk list using) vs has = tt
+is_determined (ops.Problem p) vs has = tt
+is_determined (ops.Proves of goal) vs has = tt
+is_determined (ops.Show of) vs has = tt
+is_determined (ops.Measure of) vs has = tt
+is_determined (ops.Subst of m) vs has = tt
+is_determined (ops.Cutelim of n) vs has = tt
+is_determined (ops.Eliminate of) vs has = eliminates_determined (proof_given of (first_of vs))
+is_determined (ops.Define symbol vars body using) vs has = tt
+is_determined (ops.Unfold of) vs has = tt
+is_determined (ops.Sat of) vs has = absurd has
+is_determined (ops.Resolution of list) vs has = tt
+is_determined (ops.Tautology s n) vs has = tt
+is_determined (ops.Expansion flat n) vs has = tt
+is_determined (ops.Expand of n) vs has = tt
+is_determined (ops.Fromexp of n) vs has = tt
+is_determined (ops.Interpolate of first second n) vs has = tt
+is_determined (ops.Herbrand of n) vs has = tt
+is_determined (ops.Cutintro of width n) vs has = tt
+
+pub one_determined : (op : Op) (vs : List (Option Value)) (a b : Answer) → HasOneAnswer op → May (run op vs) a → May (run op vs) b
+    → is_want (shown a) ≡ is_want (shown b) → a ≡ b
+one_determined op vs a b has first second same = one_by (run op vs) a b (is_determined op vs has) first second same

@@ -4,13 +4,22 @@
 --     shown, held      what is replied to the job, and what the job holds
 --     proofs_in      the proofs in a product
 --     Asked, May      what an operation asks for, and what may be answered to it
-use Rattle.std.specs.Prelude.{◌≡◌, ◌⊎◌, ℕ, ◌-◌, ◌^◌, min, length, Bool, List, [], ◌∷◌}
+use Rattle.std.specs.Prelude.{◌≡◌, ◌⊎◌, ℕ, ◌-◌, ◌^◌, min, length, Bool, List, [], ◌∷◌, map, Ok}
+use Rattle.std.specs.List.{All}
+use Rattle.finite.specs.Finite as set
 use Rattle.fol.specs.declared.symbols.Sym.{Sym}
 use Rattle.fol.specs.Syntax.{pred, defined, Formula}
 use Rattle.lk_rules.specs.declared.sequent.Sequent.{Sequent}
+use Rattle.lk_rules.specs.Formulas.{FormulaSet}
 use Rattle.lk_rules.specs.declared.rule.Step.{Step}
 use Rattle.proof_trees.specs.Trees.{Tree, concl, cuts, quants}
 use Rattle.cut_laws.specs.Elimination.{Reaches}
+use Rattle.refutations.specs.declared.clause.Clause.{Clause}
+use Rattle.refutations.specs.declared.step.ResStep.{ResStep}
+use Rattle.refutations.specs.Refutations.{refutation as refutation_of}
+use Rattle.ground_laws.specs.declared.step.SatStep.{SatStep}
+use Rattle.ground_laws.specs.Models.{IsModel}
+use Rattle.ground_laws.specs.Steps.{IsRefutation, res_step, sequents_of}
 use Rattle.expansion_laws.specs.Dependency.{Expansion, strongs_of}
 use Rattle.expansion_laws.specs.Proofs.{shallow_sequent}
 use Rattle.exp_tree.specs.Instances.{instances_of}
@@ -20,17 +29,19 @@ use Rattle.reply_lines.specs.declared.replies.Outcome.{Outcome}
 use Rattle.reply_lines.specs.declared.replies.Outcome.TheVariants as outcomes
 use Rattle.reply_lines.specs.declared.replies.Summary.{Summary}
 use Rattle.reply_lines.specs.declared.replies.ExpSummary.{ExpSummary}
+use Rattle.reply_lines.specs.Shown.{IsShownFormula, IsShownStep}
 use Rattle.operation_laws.specs.declared.refusals.Refusal.{Refusal}
 use Rattle.operation_laws.specs.declared.refusals.Refusal.TheVariants.{UnknownName, Kind, Empty, Step as Faulty}
 use Rattle.operation_laws.specs.declared.refusals.Failure.{Failure}
-use Rattle.operation_laws.specs.declared.refusals.Failure.TheVariants.{Budget, Unproved, Refutation, Quantified, Falsified, Node, Root, EigenTwice, EigenFree, Cycle, Cut, Defined, Partition, NotPrenex, TooMany, DefTwice, DefFree, DefLarge}
+use Rattle.operation_laws.specs.declared.refusals.Failure.TheVariants.{Budget, Unproved, Refutation, Quantified, Falsified, Node, Root, EigenTwice, EigenFree, Cycle, Cut, Defined, Partition, NotPrenex, TooMany, DefTwice, DefFree, DefLarge, NotGround}
 use Rattle.operation_laws.specs.Values.{Value}
 use Rattle.operation_laws.specs.Values as values
 
 -- a proof, a proof that was met after a number of replacements, a problem, whether a proof proves a problem, the steps of a proof, the
 -- numbers of its cuts, of its nodes that differ, of its quantifier rules and of all its nodes, expansion trees, trees as a flat list, an
 -- interpolant with its two proofs, that of the first part first, a Herbrand sequent after the number of its tuples, a proof and whether it is
--- shorter than the given one, or a symbol with the formula that it stands for, closed over its arguments
+-- shorter than the given one, a symbol with the formula that it stands for, closed over its arguments, the atoms that are true in a model, or
+-- the steps of a refutation with the proof that they stand for
 pub data Product : Type 0 where
   proof : Tree → Product
   reduced : Tree → ℕ → Product
@@ -44,6 +55,8 @@ pub data Product : Type 0 where
   herbrand : ℕ → Sequent → Product
   introduced : Tree → Bool → Product
   definition : Sym → Formula → Product
+  model : FormulaSet → Product
+  refutation : List ResStep → Tree → Product
 
 pub data Answer : Type 0 where
   refused : Refusal → Answer
@@ -88,6 +101,7 @@ shown_failure (TooMany k) = outcomes.TooMany k
 shown_failure (DefTwice text) = outcomes.DefTwice text
 shown_failure (DefFree v) = outcomes.DefFree v
 shown_failure DefLarge = outcomes.DefLarge
+shown_failure (NotGround i) = outcomes.NotGround i
 
 abbrev pub shown_product : Product → Outcome
 shown_product (proof t) = outcomes.Proof (summary_of t)
@@ -102,6 +116,8 @@ shown_product (interpolant f t u) = outcomes.Interpolant (summary_of t) f (summa
 shown_product (herbrand k s) = outcomes.Herbrand k s
 shown_product (introduced t b) = outcomes.Introduced (summary_of t) b
 shown_product (definition s f) = outcomes.Definition s.name s.arity f
+shown_product (model atoms) = outcomes.Satisfiable atoms
+shown_product (refutation list t) = outcomes.Unsatisfiable list
 
 -- what is replied
 abbrev pub shown : Answer → Outcome
@@ -123,6 +139,8 @@ held_product (interpolant f t u) = values.pair t u
 held_product (herbrand k s) = values.nothing
 held_product (introduced t b) = values.proof t
 held_product (definition s f) = values.definition (pred s (defined f))
+held_product (model atoms) = values.nothing
+held_product (refutation list t) = values.proof t
 
 -- what the job holds
 abbrev pub held : Answer → Value
@@ -145,12 +163,15 @@ proofs_in (interpolant f t u) = t ∷ u ∷ []
 proofs_in (herbrand k s) = []
 proofs_in (introduced t b) = t ∷ []
 proofs_in (definition s f) = []
+proofs_in (model atoms) = []
+proofs_in (refutation list t) = t ∷ []
 
--- What an operation asks for: one answer, or a proof without cuts that is reached from a proof, after however many replacements. No function
--- of the proof computes that, so a relation says what it is.
+-- What an operation asks for: one answer; a proof without cuts that is reached from a proof, after however many replacements, which no function
+-- of the proof computes; or a model or a refutation of clauses, of which there are several. So relations say what these are.
 pub data Asked : Type 0 where
   one : Answer → Asked
   elimination : Tree → Asked
+  satisfiability : List Clause → Asked
 
 -- A refusal needs no memory; a failure and a product may give way to want of it.
 abbrev pub OrLacking : Answer → Answer → Type 0
@@ -166,7 +187,24 @@ pub record IsReached (t : Tree) (b : Answer) : Type 0 where
   pub reached : Reaches t steps tree
   pub is : b ≡ product (reduced tree (capped steps))
 
+-- it is a model of the clauses, which a line can tell
+pub record IsModelOf (cs : List Clause) (b : Answer) : Type 0 where
+  pub atoms : FormulaSet
+  pub holds : IsModel atoms (sequents_of cs)
+  pub shown : All IsShownFormula (set.listing atoms)
+  pub is : b ≡ product (model atoms)
+
+-- it is a refutation of the clauses, by steps that a line can tell, with the proof that these stand for
+pub record IsRefutationOf (cs : List Clause) (b : Answer) : Type 0 where
+  pub steps : List SatStep
+  pub refutes : IsRefutation (sequents_of cs) steps
+  pub tree : Tree
+  pub stands : refutation_of cs (map res_step steps) ≡ Ok tree
+  pub shown : All IsShownStep (map res_step steps)
+  pub is : b ≡ product (refutation (map res_step steps) tree)
+
 -- what may be answered
 abbrev pub May : Asked → Answer → Type 0
 May (one a) b = OrLacking a b
 May (elimination t) b = IsReached t b ⊎ (b ≡ lacking)
+May (satisfiability cs) b = IsModelOf cs b ⊎ (IsRefutationOf cs b ⊎ (b ≡ lacking))

@@ -3,10 +3,10 @@
 --     IsFoundAnd      something holds of what a field is given
 --     GivenProof, GivenProblem, GivenExpansion, GivenBoth, GivenDefinitions      something holds of what the operation is given
 --     Lists      the product is how a given value is shown
---     AProof, AReducedProof, AnExpansion, AnInterpolant, AHerbrandSequent, AnIntroduction, ADefinition      something holds of what the operation
+--     AProof, AReducedProof, AnExpansion, AnInterpolant, AHerbrandSequent, AnIntroduction, ADefinition, ASolution      something holds of what the operation
 --     makes
 --     Claims      one line an operation
-use Rattle.std.specs.Prelude.{◌≡◌, ℕ, ◌<◌, ◌≤◌, ◌-◌, ◌^◌, Bool, true, false, List, [], ◌∷◌, length, Option}
+use Rattle.std.specs.Prelude.{◌≡◌, ℕ, ◌<◌, ◌≤◌, ◌-◌, ◌^◌, Bool, true, false, List, [], ◌∷◌, length, map, Option, Ok}
 use Rattle.std.specs.FinMap as fin
 use Rattle.fol.specs.declared.symbols.Sym.{Sym}
 use Rattle.fol.specs.declared.symbols.Var.{Var}
@@ -25,7 +25,14 @@ use Rattle.def_laws.specs.Nodes.{nodes_of}
 use Rattle.def_laws.specs.Defining.{max_nodes}
 use Rattle.def_laws.specs.Unfolded.{HasNoBody}
 use Rattle.proof_trees.specs.Conclusions.{EachNode}
+use Rattle.lk_rules.specs.Formulas.{FormulaSet}
+use Rattle.refutations.specs.declared.clause.Clause.{Clause}
+use Rattle.refutations.specs.declared.step.ResStep.{ResStep}
 use Rattle.refutations.specs.Clauses.{closures}
+use Rattle.refutations.specs.Refutations.{refutation as refutation_of}
+use Rattle.ground_laws.specs.declared.step.SatStep.{SatStep}
+use Rattle.ground_laws.specs.Models.{IsModel}
+use Rattle.ground_laws.specs.Steps.{res_step, sequents_of}
 use Rattle.search_laws.specs.Truth.{IsPropositional, IsTautology}
 use Rattle.expansion_laws.specs.Dependency.{Expansion}
 use Rattle.expansion_laws.specs.Proofs.{shallow_sequent, IsExpansionProof}
@@ -42,7 +49,7 @@ use Rattle.tptp_problem.specs.ProblemClauses.{clauses_of}
 use Rattle.job_lang.specs.declared.jobs.Op.{Op}
 use Rattle.job_lang.specs.declared.jobs.Op.TheVariants as ops
 use Rattle.operation_laws.specs.Values.{Value}
-use Rattle.operation_laws.specs.Answers.{Product, proof, reduced, problem, proves, steps, expansion, nodes, interpolant, herbrand, introduced, definition, capped}
+use Rattle.operation_laws.specs.Answers.{Product, proof, reduced, problem, proves, steps, expansion, nodes, interpolant, herbrand, introduced, definition, model, refutation, capped}
 use Rattle.operation_laws.specs.Given.{Found, missing, wanting, found, proof_given, problem_given, expansion_given, ToShow, of_proof, of_expansion, shown_given, definitions_given}
 use Rattle.operation_laws.specs.Running.{sizes_of, steps_with, formula_with}
 
@@ -139,6 +146,12 @@ abbrev pub ADefinition : Product → (Sym → Formula → Type 0) → Type 0
 ADefinition (definition s f) holds = holds s f
 ADefinition p holds = ⊥
 
+-- a model was made, of which the one holds, or a refutation, of which the other does
+abbrev pub ASolution : Product → (FormulaSet → Type 0) → (List ResStep → Tree → Type 0) → Type 0
+ASolution (model atoms) holds refutes = holds atoms
+ASolution (refutation list t) holds refutes = refutes list t
+ASolution p holds refutes = ⊥
+
 -- the tree is a valid proof without cuts of the sequent
 pub record IsCutFreeProofOf (t : Tree) (s : Sequent) : Type 0 where
   pub right : IsProofOf t s
@@ -187,10 +200,18 @@ pub record IsUnfolded (t u : Tree) : Type 0 where
   pub quants : quants u ≡ quants t
   pub primitive : EachNode HasNoBody u
 
+-- The steps take clauses and resolve alone. They have no fault, and stand for the tree, which is a valid proof of the closures of the clauses on
+-- the left.
+pub record IsRefuted (cs : List Clause) (list : List ResStep) (t : Tree) : Type 0 where
+  pub steps : List SatStep
+  pub are : list ≡ map res_step steps
+  pub stands : refutation_of cs list ≡ Ok t
+  pub right : IsProofOf t (closures cs)
+
 -- What an operation claims of its product: of `lk` a valid proof of the last step's sequent, with the definitions that it uses, of `subst` one of the image of the given
 -- proof's sequent, of `cutelim` one without cuts of that sequent itself, reached within the budget, of `eliminate` the same without one, of
 -- `define` a symbol that stands for the formula, of `unfold` a valid proof of the given one's sequent unfolded, of `resolution` one of the
--- closures of the problem's clauses, on the left, of `tautology` one without cuts of the sequent itself, of `expansion` an
+-- closures of the problem's clauses, on the left, of `sat` a model of these, or a refutation with such a proof, of `tautology` one without cuts of the sequent itself, of `expansion` an
 -- expansion proof, of `expand` one of the given proof's sequent, of `fromexp` a valid proof without cuts of the sequent of the given
 -- trees' formulas, of `interpolate` an interpolant of two parts of the given proof's sequent, with its two proofs, of `herbrand` the Herbrand
 -- sequent of the given proof, a tautology, and of `cutintro` a valid proof of the given one's sequent, shorter by a cut, or that proof.
@@ -205,6 +226,8 @@ Claims (ops.Cutelim of n) vs made = GivenProof of vs (λ t. AReducedProof made (
 Claims (ops.Eliminate of) vs made = GivenProof of vs (λ t. AReducedProof made (IsFreed t))
 Claims (ops.Define symbol vars body using) vs made = GivenDefinitions using vs (λ ds. ADefinition made (IsDefinition symbol vars (formula_with using ds body)))
 Claims (ops.Unfold of) vs made = GivenProof of vs (λ t. AProof made (IsUnfolded t))
+Claims (ops.Sat of) vs made =
+    GivenProblem of vs (λ p. ASolution made (λ atoms. IsModel atoms (sequents_of (clauses_of p.entries))) (IsRefuted (clauses_of p.entries)))
 Claims (ops.Resolution of list) vs made = GivenProblem of vs (λ p. AProof made (λ t. IsProofOf t (closures (clauses_of p.entries))))
 Claims (ops.Tautology s n) vs made = AProof made (λ t. IsCutFreeProofOf t s)
 Claims (ops.Expansion flat n) vs made = AnExpansion made (IsExpansionOf flat)

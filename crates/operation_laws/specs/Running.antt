@@ -1,8 +1,9 @@
 -- What each operation comes to, over the values that its names of jobs stand for.
-use Rattle.std.specs.Prelude.{ℕ, ◌^◌, nat_lt, ◌&&◌, length, Bool, true, false, if◌then◌else◌, List, [], ◌∷◌, map, find, slice_get, Option, Some, None, option_map, option_and_then, Result, Ok, Err}
+use Rattle.std.specs.Prelude.{ℕ, suc, ◌^◌, nat_lt, ◌&&◌, length, Bool, true, false, if◌then◌else◌, List, [], ◌∷◌, map, find, slice_get, Option, Some, None, option_map, option_and_then, Result, Ok, Err}
 use Rattle.std.specs.List.{list_all}
 use Rattle.fol.specs.declared.symbols.Var.{Var}
 use Rattle.fol.specs.Syntax.{Pred, Formula, all}
+use Rattle.fol.specs.Facts.{is_open}
 use Rattle.fol.specs.Formed.{is_formed, is_formed_pred}
 use Rattle.finite.specs.Finite as set
 use Rattle.lk_rules.specs.Formulas.{FormulaSet}
@@ -72,9 +73,9 @@ use Rattle.reply_lines.specs.declared.replies.StepShown.TheVariants.{Reference, 
 use Rattle.reply_lines.specs.declared.replies.RefutationShown.{RefutationShown}
 use Rattle.reply_lines.specs.declared.replies.RefutationShown.TheVariants as refutation_shows
 use Rattle.operation_laws.specs.declared.refusals.Refusal.TheVariants.{Empty, Step}
-use Rattle.operation_laws.specs.declared.refusals.Failure.TheVariants.{Budget, Unproved, Refutation, Quantified, Falsified, Node, Root, EigenTwice, EigenFree, Cycle, Cut, Defined, Partition, NotPrenex, TooMany, DefTwice, DefFree, DefLarge}
+use Rattle.operation_laws.specs.declared.refusals.Failure.TheVariants.{Budget, Unproved, Refutation, Quantified, Falsified, Node, Root, EigenTwice, EigenFree, Cycle, Cut, Defined, Partition, NotPrenex, TooMany, DefTwice, DefFree, DefLarge, NotGround}
 use Rattle.operation_laws.specs.Values.{Value}
-use Rattle.operation_laws.specs.Answers.{Product, proof, reduced, problem, proves, steps, sizes, expansion, nodes, interpolant, herbrand, introduced, definition, Answer, refused, failed, lacking, product, capped, Asked, one, elimination as reached_from}
+use Rattle.operation_laws.specs.Answers.{Product, proof, reduced, problem, proves, steps, sizes, expansion, nodes, interpolant, herbrand, introduced, definition, Answer, refused, failed, lacking, product, capped, Asked, one, elimination as reached_from, satisfiability}
 use Rattle.operation_laws.specs.Given.{or_else, Found, missing, wanting, found, proof_given, problem_given, expansion_given, ToShow, of_proof, of_expansion, shown_given, definitions_given, first_of, second_of}
 
 -- what is done with what a field is given
@@ -200,6 +201,21 @@ refutes_clauses cs list = if list_all has_closure cs then refuted (refutation cs
 abbrev pub refutes : List ResStep → Problem → Answer
 refutes list p = refutes_clauses (clauses_of p.entries) list
 
+-- the first clause in which a variable stands
+abbrev pub first_open : List Clause → Option ℕ
+first_open [] = None
+first_open (c ∷ cs) = if is_open c.matrix then Some 0 else option_map suc (first_open cs)
+
+-- A model or a refutation of clauses is asked for, where no variable stands in them. A clause with a variable is found by work.
+abbrev pub solves_ground : Option ℕ → List Clause → Asked
+solves_ground (Some i) cs = one (failed (NotGround i))
+solves_ground None cs = if list_all has_closure cs then satisfiability cs else one lacking
+
+abbrev pub to_solve : Found Problem → Asked
+to_solve (missing r) = one (refused r)
+to_solve wanting = one lacking
+to_solve (found p) = solves_ground (first_open (clauses_of p.entries)) (clauses_of p.entries)
+
 -- the first formula of a side that has a quantifier
 abbrev pub quantified_on : Side → FormulaSet → Option (Formula × Side)
 quantified_on side fs = option_map (λ f. (f, side)) (find has_quantifier (set.listing fs))
@@ -302,6 +318,7 @@ run (ops.Cutelim of n) vs = one (over (proof_given of (first_of vs)) (λ t. elim
 run (ops.Eliminate of) vs = to_eliminate (proof_given of (first_of vs))
 run (ops.Define symbol vars body using) vs = one (over (definitions_given using vs) (defines_with symbol vars body using))
 run (ops.Unfold of) vs = one (over (proof_given of (first_of vs)) unfolds)
+run (ops.Sat of) vs = to_solve (problem_given of (first_of vs))
 run (ops.Resolution of list) vs = one (over (problem_given of (first_of vs)) (refutes list))
 run (ops.Tautology s n) vs = one (searches (quantified_in s) s n)
 run (ops.Expansion flat n) vs = one (reads (reading flat n) n)
@@ -310,3 +327,25 @@ run (ops.Fromexp of n) vs = one (over (expansion_given of (first_of vs)) (λ x. 
 run (ops.Interpolate of first second n) vs = one (over (proof_given of (first_of vs)) (λ t. interpolated (interpolating t first second n)))
 run (ops.Herbrand of n) vs = one (over (proof_given of (first_of vs)) (λ t. instanced (instancing t n)))
 run (ops.Cutintro of width n) vs = one (over (proof_given of (first_of vs)) (λ t. shortened t (introducing width t n)))
+
+-- whether there is one answer to what an operation asks for, want of memory aside: a model or a refutation is one of several
+abbrev pub HasOneAnswer : Op → Type 0
+HasOneAnswer (ops.Lk list using) = Unit {0}
+HasOneAnswer (ops.Problem p) = Unit {0}
+HasOneAnswer (ops.Proves of goal) = Unit {0}
+HasOneAnswer (ops.Show of) = Unit {0}
+HasOneAnswer (ops.Measure of) = Unit {0}
+HasOneAnswer (ops.Subst of m) = Unit {0}
+HasOneAnswer (ops.Cutelim of n) = Unit {0}
+HasOneAnswer (ops.Eliminate of) = Unit {0}
+HasOneAnswer (ops.Define symbol vars body using) = Unit {0}
+HasOneAnswer (ops.Unfold of) = Unit {0}
+HasOneAnswer (ops.Sat of) = ⊥
+HasOneAnswer (ops.Resolution of list) = Unit {0}
+HasOneAnswer (ops.Tautology s n) = Unit {0}
+HasOneAnswer (ops.Expansion flat n) = Unit {0}
+HasOneAnswer (ops.Expand of n) = Unit {0}
+HasOneAnswer (ops.Fromexp of n) = Unit {0}
+HasOneAnswer (ops.Interpolate of first second n) = Unit {0}
+HasOneAnswer (ops.Herbrand of n) = Unit {0}
+HasOneAnswer (ops.Cutintro of width n) = Unit {0}

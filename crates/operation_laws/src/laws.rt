@@ -23,10 +23,11 @@ ghost use Rattle.job_lang.specs.declared.jobs.Op.{Op as Operation};
 ghost use Rattle.job_lang.specs.FormedOps.{IsFormedOp};
 ghost use Rattle.reply_lines.specs.Replies.{is_ok_outcome};
 ghost use Rattle.reply_lines.specs.OneLine.{is_want};
+ghost use Rattle.reply_lines.specs.Shown.{AreAlike};
 ghost use Rattle.operation_laws.specs.Values.{Value, IsSound};
 ghost use Rattle.operation_laws.specs.Answers.{Product as Made, Answer, lacking, product, shown, held, proofs_in, capped, Asked, May};
 ghost use Rattle.operation_laws.specs.Given.{names_in};
-ghost use Rattle.operation_laws.specs.Running.{run};
+ghost use Rattle.operation_laws.specs.Running.{run, HasOneAnswer};
 ghost use Rattle.operation_laws.specs.Claims.{IsInterpolated, IsHerbrandOf, IsUnfolded, Claims};
 
 // What an interpolation of a valid proof by well-formed parts is, where the interpolant is well formed.
@@ -82,10 +83,12 @@ pub fn claims()
     unfoldings();
 }
 
-/// What is replied is want of memory exactly where memory ran out, and no error exactly where it shows a product. So of what may be answered to
-/// an operation the reply tells which it was.
+/// What is replied is want of memory exactly where memory ran out, and no error exactly where it shows a product. Of what may be answered to an
+/// operation the reply's line tells which it was; where the operation has one answer, want of memory tells it alone.
 pub fn replies()
     ensures want { (a : Answer) → (is_want (shown a) ≡ true) ↔ (a ≡ lacking) }
-    ensures one { (asked : Asked) (a b : Answer) → May asked a → May asked b → is_want (shown a) ≡ is_want (shown b) → a ≡ b }
+    ensures one { (asked : Asked) (a b : Answer) → May asked a → May asked b → AreAlike (shown a) (shown b) → a ≡ b }
+    ensures determined { (op : Operation) (vs : List (Option Value)) (a b : Answer) → HasOneAnswer op → May (run op vs) a → May (run op vs) b
+        → is_want (shown a) ≡ is_want (shown b) → a ≡ b }
     ensures ok { (a : Answer) → (is_ok_outcome (shown a) ≡ true) ↔ ((made : Made) × (a ≡ product made)) }
 {}

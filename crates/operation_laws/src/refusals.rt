@@ -57,4 +57,6 @@ pub enum Failure {
     DefFree(FormedVar),
     /// With all defined symbols unfolded the formula of a definition has more nodes than it may have.
     DefLarge,
+    /// The clause of this number, among those of a problem, has a variable.
+    NotGround(u64),
 }

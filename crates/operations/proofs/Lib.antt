@@ -5,6 +5,7 @@ pub mod DefinitionsUsed
 pub mod Unfolded
 pub mod Eliminated
 pub mod Refuted
+pub mod Satisfied
 pub mod Searched
 pub mod StrongVars
 pub mod Expanded

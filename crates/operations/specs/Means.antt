@@ -22,7 +22,7 @@ use Rattle.operations.specs.declared.answers.Made.{Made}
 use Rattle.operations.specs.declared.answers.Made.TheVariants as made
 use Rattle.operations.specs.declared.answers.Ran.{Ran}
 use Rattle.operations.specs.declared.answers.Ran.TheVariants as ran
-use Rattle.operation_laws.specs.Answers.{Product, Answer, Asked, one as answering, elimination, May}
+use Rattle.operation_laws.specs.Answers.{Product, Answer, Asked, one as answering, elimination, satisfiability, May}
 use Rattle.operation_laws.specs.Answers as answers
 use Rattle.operation_laws.specs.Given.{Found}
 use Rattle.operation_laws.specs.Given as given
@@ -46,6 +46,8 @@ made_of (made.Interpolant f r s) = answers.interpolant f r.tree s.tree
 made_of (made.Herbrand k s) = answers.herbrand k s
 made_of (made.Introduced r b) = answers.introduced r.tree b
 made_of (made.Definition s f) = answers.definition s f
+made_of (made.Model atoms) = answers.model atoms
+made_of (made.Refutation list r) = answers.refutation list r.tree
 
 -- its references are of the graph, a problem is such as is read, and a symbol is well formed
 abbrev pub FitsMade : Graph → Made → Type 0
@@ -61,6 +63,8 @@ FitsMade g (made.Interpolant f r s) = IsOf g r × IsOf g s
 FitsMade g (made.Herbrand k s) = Unit {0}
 FitsMade g (made.Introduced r b) = IsOf g r
 FitsMade g (made.Definition s f) = IsFormedPred (pred s (defined f))
+FitsMade g (made.Model atoms) = Unit {0}
+FitsMade g (made.Refutation list r) = IsOf g r
 
 -- the field is given nothing, and refused so, unless there is no memory for the name that the refusal shows
 abbrev pub IsAbsent : Absent → Refusal → Type 0
@@ -122,6 +126,7 @@ needs (ops.Cutelim of n) = a_desk
 needs (ops.Eliminate of) = a_desk
 needs (ops.Define symbol vars body using) = a_graph
 needs (ops.Unfold of) = a_bench
+needs (ops.Sat of) = a_bench
 needs (ops.Resolution of steps) = a_bench
 needs (ops.Tautology s n) = a_bench
 needs (ops.Expansion flat n) = a_graph
@@ -149,6 +154,7 @@ LacksAlways k = (g : Graph) (ds : List Pred) → Comes g ran.Lacking (k ds)
 abbrev pub ComesTo : Graph → Ran → Asked → Type 0
 ComesTo g r (answering a) = Comes g r a
 ComesTo g r (elimination t) = (a : Answer) × May (elimination t) a × Comes g r a
+ComesTo g r (satisfiability cs) = (a : Answer) × May (satisfiability cs) a × Comes g r a
 
 -- whether an operation came to no product though memory didn't run out: it is refused, or it failed
 abbrev pub is_refusal : Ran → Bool

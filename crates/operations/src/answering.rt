@@ -1,5 +1,5 @@
 //! Answering an operation over the values that its names of jobs stand for.
-ghost use Rattle.std.specs.Prelude.{◌≡◌, ◌≢◌, true, length, map};
+ghost use Rattle.std.specs.Prelude.{◌≡◌, ◌≢◌, true, length, map, IfSome};
 ghost use Rattle.std.specs.List.{All};
 ghost use mathlib.Core.List.{IsPrefix};
 ghost use Rattle.proof_graph.specs.declared.graph.Graph.{Graph as GraphMeaning};
@@ -8,12 +8,14 @@ ghost use Rattle.proof_subst.specs.Benches.{graph_of, pass_in, images_in, IsBenc
 ghost use Rattle.cut_elim.specs.Desks.{bench_of, pass_in as bench_pass_in, eliminations_in, IsDeskPassOf, Extends as ExtendsDesk};
 ghost use Rattle.tptp_problem.specs.ProblemClauses.{IsReadProblem};
 ghost use Rattle.job_lang.specs.FormedOps.{IsFormedOp};
+ghost use Rattle.operation_laws.specs.Values.{IsSound};
 ghost use Rattle.operation_laws.specs.Answers.{product, problem as problem_made};
 ghost use Rattle.operation_laws.specs.Given.{names_in};
 ghost use Rattle.operation_laws.specs.Running.{run};
 ghost use Rattle.held_values.specs.Means.{sense, Fits, IsAnsweredTo};
 ghost use Rattle.operations.specs.Means.{a_graph, a_bench, a_desk, needs, Comes, is_refusal, IsShort, ComesTo};
 ghost use Rattle.operations.specs.Noted.{IsNoted, is_done, is_reduced};
+ghost use Rattle.operations.specs.Claimed.{IsClaimedAnswer};
 
 use crate::answers::{Made, Ran};
 use crate::building::build_from;
@@ -28,11 +30,13 @@ use crate::introducing::introduce_in;
 use crate::proofs::{eliminate_all_in, eliminate_in, substitute_in};
 use crate::readings::{measure, prove, show};
 use crate::refuting::refute;
+use crate::satisfying::satisfy;
 use crate::searching::prove_sequent;
 use crate::unfolding::{admit_with, unfold_in};
 use cut_elim::{Desk, DeskPass};
 use held_values::Held;
 use job_lang::Op;
+use operation_laws::laws::claims;
 use proof_graph::Graph;
 use proof_subst::{Bench, BenchPass};
 use reply_lines::Outcome;
@@ -114,6 +118,7 @@ fn run_making<R: Wait + Threads + Sync>(
             let value = first(given);
             refute(rt, alloc, bench, pass, problem, value, steps.as_slice())
         }
+        Op::Sat { problem } => satisfy(rt, alloc, bench, pass, problem, first(given)),
         Op::Tautology { sequent, budget } => {
             prove_sequent(rt, alloc, bench, pass, sequent, budget.get())
         }
@@ -181,6 +186,7 @@ fn run_given<R: Wait + Threads + Sync>(
         | Op::Subst { .. }
         | Op::Unfold { .. }
         | Op::Resolution { .. }
+        | Op::Sat { .. }
         | Op::Tautology { .. }
         | Op::Fromexp { .. }
         | Op::Interpolate { .. }
@@ -189,6 +195,16 @@ fn run_given<R: Wait + Threads + Sync>(
             eliminate_in(rt, alloc, desk, pass, proof, first(given), budget.get())
         }
         Op::Eliminate { proof } => eliminate_all_in(rt, alloc, desk, pass, proof, first(given)),
+    }
+}
+
+// Values that fit the graph are sound.
+fn are_sound(given: &[Held])
+    requires { (g : GraphMeaning) × All (Fits g) given.now }
+    ensures { All (λ v. IfSome v IsSound) (map sense given.now) }
+{
+    for held in given {
+        held.known();
     }
 }
 
@@ -215,6 +231,8 @@ pub fn answer<R: Wait + Threads + Sync>(
     requires op { IsFormedOp op.now }
     requires fits { All (Fits (graph_of (bench_of desk.now))) given.now }
     ensures answered { IsAnsweredTo result.0 (sense result.1) (run op.now (map sense given.now)) }
+    // What it made is what the operation claims.
+    ensures claimed { IsClaimedAnswer op.now (map sense given.now) result.0 (sense result.1) }
     ensures fits { Fits (graph_of (bench_of desk.now)) result.1 }
     // An elimination of cuts that is done has noted the proof that it was given.
     ensures noted { is_reduced result.0 ≡ true → IsNoted op.now given.now pass.new }
@@ -229,6 +247,8 @@ pub fn answer<R: Wait + Threads + Sync>(
     ensures eliminations_grown { IsPrefix (eliminations_in pass.old) (eliminations_in pass.new) }
     ensures extends { ExtendsDesk desk.now pass.old pass.new }
 {
+    claims();
+    are_sound(given);
     let ran = run_given(rt, alloc, desk, pass, op, given);
     conclude(desk.bench().graph(), alloc, ran)
 }

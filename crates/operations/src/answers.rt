@@ -1,8 +1,8 @@
 //! What operations come to.
 use exp_tree::{CheckedExp, FlatExp};
 use fol::{Formula, Sym};
-use job_words::{FormedFormula, Steps};
-use lk_rules::Sequent;
+use job_words::{FormedFormula, RefutationSteps, Steps};
+use lk_rules::{Formulas, Sequent};
 use operation_laws::{Failure, Refusal};
 use proof_graph::ProofRef;
 use tptp_problem::Problem;
@@ -49,6 +49,10 @@ pub enum Made {
     },
     /// A symbol with the formula that it stands for, closed over its arguments.
     Definition(Sym, Formula),
+    /// The atoms that are true in a model of clauses.
+    Model(Formulas),
+    /// The steps of a refutation of clauses, and the proof that they stand for.
+    Refutation(RefutationSteps, ProofRef),
 }
 
 /// Why a field is given nothing that the operation could take.

@@ -56,6 +56,7 @@ fn shown_failure(failure: Failure) -> Outcome
         Failure::DefTwice(text) => Outcome::DefTwice(text),
         Failure::DefFree(var) => Outcome::DefFree(var),
         Failure::DefLarge => Outcome::DefLarge,
+        Failure::NotGround(clause) => Outcome::NotGround(clause),
     }
 }
 
@@ -259,6 +260,8 @@ fn hold(graph: &Graph, alloc: Global, made: Made) -> (Outcome, Held)
         Made::Herbrand { count, sequent } => (Outcome::Herbrand { count, sequent }, Held::Nothing),
         Made::Introduced { proof, shorter } => hold_introduced(graph, alloc, proof, shorter),
         Made::Definition(symbol, body) => hold_definition(symbol, body),
+        Made::Model(atoms) => (Outcome::Satisfiable(atoms), Held::Nothing),
+        Made::Refutation(steps, proof) => (Outcome::Unsatisfiable(steps), Held::Proof(proof)),
     }
 }
 

@@ -15,6 +15,7 @@ mod introducing;
 mod proofs;
 mod readings;
 mod refuting;
+mod satisfying;
 mod searching;
 mod unfolding;
 

@@ -34,8 +34,8 @@ fn refutation_shown(cause: ResCause) -> RefutationShown
     }
 }
 
-// Whether each clause has few enough variables for a closure.
-fn have_closures(clauses: &[Clause]) -> bool
+/// Whether each clause has few enough variables for a closure.
+pub(crate) fn have_closures(clauses: &[Clause]) -> bool
     ensures { result ≡ list_all has_closure clauses.now }
 {
     clauses.iter().all(|clause| (clause.vars.as_slice().len() as u64) < 4_294_967_296)

@@ -2,4 +2,5 @@ pub mod Turns
 pub mod Midway
 pub mod Endings
 pub mod GeneratedLines
+pub mod GeneratedOps
 pub mod GeneratedRuns

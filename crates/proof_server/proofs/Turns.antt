@@ -8,7 +8,7 @@ use Rattle.std.proofs.lemmas.List.Elements.{All-head, All-tail, All-push}
 use Rattle.std.specs.Io.KnownBytes.{Appends}
 use Rattle.std.proofs.KnownBytes.{Appends-trans}
 use Rattle.edge_io.specs.Causes.{Rose}
-use Rattle.operation_laws.specs.Answers.{refused, failed, lacking, product, one as answering, elimination}
+use Rattle.operation_laws.specs.Answers.{refused, failed, lacking, product, one as answering, elimination, satisfiability}
 use Rattle.operation_laws.specs.Values.{Value}
 use Rattle.held_values.specs.declared.held.Held.{Held}
 use Rattle.held_values.specs.Means.{sense}
@@ -41,6 +41,7 @@ some_end (an_operation (answering (failed f))) = (answered_by (failed f), inl re
 some_end (an_operation (answering lacking)) = (answered_by lacking, refl)
 some_end (an_operation (answering (product p))) = (answered_by (product p), inl refl)
 some_end (an_operation (elimination t)) = (answered_by lacking, inr refl)
+some_end (an_operation (satisfiability cs)) = (answered_by lacking, inr (inr refl))
 
 -- nothing of the next reply is a part of it
 part_none : (earlier : List Past) (waiting : List (List ℕ)) → AreAllowed earlier → IsPartOfNext earlier waiting []

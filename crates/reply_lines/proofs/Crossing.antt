@@ -24,7 +24,37 @@ summary_send = search (sendable, std.crosses, rules.crosses) depth 20
 exp_summary_send : IsSend (exp_summary.the_field).row
 exp_summary_send = search (sendable, std.crosses, rules.crosses) depth 20
 
+-- what the parts of an outcome are made of: whole types before the forms of types, so that none is taken apart
+ruleset parts = (
+  tt,
+  plain_send,
+  words.steps_send,
+  words.refutation_send,
+  words.formula_send,
+  summary_send,
+  exp_summary_send,
+  cause.the_field_send,
+  var.the_send,
+  vars.the_send,
+  symbol.the_send,
+  text.the_send,
+  node.the_field_send,
+  root.the_field_send,
+  side.the_field_send,
+  refutation.the_field_send,
+  step.the_field_send,
+  rules.crosses,
+  trees.crosses,
+  such_send,
+  copied_send,
+  fixed_send,
+  view_send,
+  recorded_send,
+  struct_send,
+  enum_send,
+)
+
 pub outcome_send : IsSend (outcome.the_field).row
-outcome_send = search (tt, plain_send, such_send, copied_send, fixed_send, view_send, recorded_send, struct_send, enum_send, rules.crosses, trees.crosses, words.steps_send, words.formula_send, cause.the_field_send, var.the_send, vars.the_send, symbol.the_send, text.the_send, summary_send, exp_summary_send, node.the_field_send, root.the_field_send, side.the_field_send, refutation.the_field_send, step.the_field_send) depth 80 fits 10000
+outcome_send = search parts depth 80 fits 10000
 
 pub ruleset crosses = (outcome_send)

@@ -4,3 +4,6 @@ pub mod ReplyTexts
 pub mod OneLines
 pub mod Wants
 pub mod Crossing
+pub mod Bindings
+pub mod JsonTexts
+pub mod Telling

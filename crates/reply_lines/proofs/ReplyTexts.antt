@@ -1,13 +1,10 @@
 -- The text of a reply, and its line.
-use Rattle.std.proofs.Common.{◌≡◌, ℕ, ◌<◌, true, false, List, [], ◌∷◌, length, refl, ap, ◌∙◌, arith, length-append, Result, Ok, Err}
-use Rattle.std.specs.Prelude.{Some, None, is_ok}
-use Rattle.json.specs.Print.{print}
+use Rattle.std.proofs.Common.{◌≡◌, ℕ, ◌<◌, true, false, [], ◌∷◌, length, refl, arith, length-append, Result, Ok, Err}
+use Rattle.std.specs.Prelude.{is_ok}
 use Rattle.serde_json.specs.Data.{Data}
 use Rattle.serde_json.specs.Written.{compact_text}
-use Rattle.serde_json.proofs.Texts.{print-outline}
 use Rattle.reply_lines.specs.declared.replies.Reply.{Reply}
 use Rattle.reply_lines.specs.Replies.{ok_data, error_data, reply_by, reply_data, line_of}
-use Rattle.json_text.specs.Tokens.{data_tokens, Written, AddsTokens, Adds, IsTextOf}
 use Rattle.reply_lines.specs.Tokens.{said}
 
 -- a reply with an answer, and one with an error

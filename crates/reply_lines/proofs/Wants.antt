@@ -14,7 +14,7 @@ use Rattle.reply_lines.specs.Replies.{answer_data, reply_by, reply_data, name_da
 use Rattle.reply_lines.specs.OneLine.{is_want, reports_want}
 
 -- the text of a reply begins so just where its outcome is want of memory
-text_tells : (outcome : Outcome) (name : Data) (n : ℕ) → reports_want (compact_text (reply_by (answer_data outcome) name n)) ≡ is_want outcome
+pub text_tells : (outcome : Outcome) (name : Data) (n : ℕ) → reports_want (compact_text (reply_by (answer_data outcome) name n)) ≡ is_want outcome
 unfolding reports_want escape_byte
 text_tells (outcomes.Proof summary) name n = refl
 text_tells (outcomes.Reduced summary k) name n = refl
@@ -28,6 +28,8 @@ text_tells (outcomes.Interpolant first f second) name n = refl
 text_tells (outcomes.Herbrand k s) name n = refl
 text_tells (outcomes.Introduced summary shorter) name n = refl
 text_tells (outcomes.Definition symbol k f) name n = refl
+text_tells (outcomes.Satisfiable atoms) name n = refl
+text_tells (outcomes.Unsatisfiable steps) name n = refl
 text_tells outcomes.LineTooLong name n = refl
 text_tells (outcomes.Reading causes.Json) name n = refl
 text_tells (outcomes.Reading (causes.Field field)) name n = refl
@@ -60,6 +62,7 @@ text_tells (outcomes.TooMany k) name n = refl
 text_tells (outcomes.DefTwice text) name n = refl
 text_tells (outcomes.DefFree var) name n = refl
 text_tells outcomes.DefLarge name n = refl
+text_tells (outcomes.NotGround clause) name n = refl
 text_tells outcomes.Budget name n = refl
 text_tells outcomes.Memory name n = refl
 

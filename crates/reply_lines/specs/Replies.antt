@@ -1,8 +1,11 @@
--- The replies to jobs: what each says, and its line. The members of an object stand in the order of their keys' bytes.
-use Rattle.std.specs.Prelude.{ℕ, List, [], ◌∷◌, ◌++◌, map, codes, Option, Some, None, Result, Ok, Err, Bool, is_ok}
+-- The replies to jobs: what each says, and its line. The members of an object stand in the order of their keys' bytes, but for those of a
+-- map, which stand in the order of its variables.
+use Rattle.std.specs.Prelude.{ℕ, List, [], ◌∷◌, ◌++◌, map, codes, Option, Some, None, Result, Ok, Err, Bool, true, false, is_ok}
+use Rattle.std.specs.FinMap as fin
 use Rattle.finite.specs.Finite as set
 use Rattle.fol.specs.declared.symbols.Var.{Var}
 use Rattle.fol.specs.Syntax.{Term, free, app, nil, Formula}
+use Rattle.substitution.specs.Maps.{Map}
 use Rattle.lk_rules.specs.Formulas.{FormulaSet}
 use Rattle.lk_rules.specs.declared.sequent.Sequent.{Sequent}
 use Rattle.lk_rules.specs.declared.sequent.Side.{Side}
@@ -14,6 +17,8 @@ use Rattle.tptp_tokens.specs.declared.tokens.TextKind.{TextKind}
 use Rattle.tptp_tokens.specs.declared.tokens.TextKind.TheVariants.{Token, Expected, Deep, DefinedWord, Number, Distinct, OpenQuote, OpenComment}
 use Rattle.lk_rules.specs.declared.rule.Step.{Step}
 use Rattle.lk_rules.specs.RuleOrder.{formula_of, term_of, variable_of}
+use Rattle.refutations.specs.declared.step.ResStep.{ResStep}
+use Rattle.refutations.specs.declared.step.ResStep.TheVariants as res_steps
 use Rattle.exp_tree.specs.declared.flat.ExpNode.{ExpNode}
 use Rattle.exp_tree.specs.declared.flat.ExpNode.TheVariants as nodes
 use Rattle.exp_tree.specs.declared.flat.FlatExp.{FlatExp}
@@ -22,7 +27,7 @@ use Rattle.exp_tree.specs.declared.flat.NodeCause.TheVariants as node_causes
 use Rattle.exp_tree.specs.declared.flat.RootCause.{RootCause}
 use Rattle.exp_tree.specs.declared.flat.RootCause.TheVariants as root_causes
 use Rattle.tptp_print.specs.Canonical.{canonical, canonical_term}
-use Rattle.serde_json.specs.Data.{Data, null, boolean, number, unsigned, string, array, object, member, no_members}
+use Rattle.serde_json.specs.Data.{Data, null, boolean, number, unsigned, string, array, object, Members, member, no_members}
 use Rattle.serde_json.specs.View.{items_of}
 use Rattle.serde_json.specs.Written.{compact_text}
 use Rattle.job_words.specs.declared.causes.JobCause.{JobCause}
@@ -34,7 +39,7 @@ use Rattle.reply_lines.specs.declared.replies.StepShown.TheVariants.{Reference, 
 use Rattle.reply_lines.specs.declared.replies.RefutationShown.{RefutationShown}
 use Rattle.reply_lines.specs.declared.replies.RefutationShown.TheVariants as refutations
 use Rattle.reply_lines.specs.declared.replies.Outcome.{Outcome}
-use Rattle.reply_lines.specs.declared.replies.Outcome.TheVariants.{Proof, Reduced, Entries, Proves, Steps, Measure, Expansion, Nodes, Interpolant, Herbrand, Introduced, Definition, LineTooLong, Reading, NameTaken, UnknownName, Kind, Empty, Step as Faulty, Refutation, Quantified, Falsified, Node, Root, EigenTwice, EigenFree, Cycle, Cut, Defined, Partition, NotPrenex, TooMany, DefTwice, DefFree, DefLarge, Budget, Memory}
+use Rattle.reply_lines.specs.declared.replies.Outcome.TheVariants.{Proof, Reduced, Entries, Proves, Steps, Measure, Expansion, Nodes, Interpolant, Herbrand, Introduced, Definition, Satisfiable, Unsatisfiable, LineTooLong, Reading, NameTaken, UnknownName, Kind, Empty, Step as Faulty, Refutation, Quantified, Falsified, Node, Root, EigenTwice, EigenFree, Cycle, Cut, Defined, Partition, NotPrenex, TooMany, DefTwice, DefFree, DefLarge, NotGround, Budget, Memory}
 use Rattle.reply_lines.specs.declared.replies.Reply.{Reply}
 use Rattle.job_words.specs.RuleKinds.{kind_of, kind_name}
 use Rattle.job_words.specs.declared.node_kinds.NodeKind.{NodeKind}
@@ -190,6 +195,42 @@ abbrev pub definition_data : List ℕ → ℕ → Formula → Data
 definition_data name n f = object (member (codes "arity") (count_data n) (member (codes "body") (string (canonical f))
     (member (codes "symbol") (symbol_data name) no_members)))
 
+-- clauses that are true together: the atoms that are true, in their order
+abbrev pub satisfiable_data : FormulaSet → Data
+satisfiable_data atoms = object (member (codes "satisfiable") (boolean true) (member (codes "true") (side_data atoms) no_members))
+
+-- a map from variables to terms: a member for each variable, in the order of the variables
+abbrev pub bindings_data : List (Var × Term) → Members
+bindings_data [] = no_members
+bindings_data (b ∷ bs) = member (canonical_term (free b.0)) (term_data b.1) (bindings_data bs)
+
+abbrev pub map_data : Map → Data
+map_data m = object (bindings_data (fin.entries m))
+
+-- A step of a refutation, as a job has it: the place of an input clause; a map and the place of an earlier step; an atom and the places
+-- of two earlier steps, that with the atom among its positive literals first.
+abbrev pub input_data : ℕ → Data
+input_data clause = object (member (codes "input") (count_data clause) no_members)
+
+abbrev pub subst_data : ℕ → Map → Data
+subst_data step m = object (member (codes "map") (map_data m) (member (codes "subst") (count_data step) no_members))
+
+abbrev pub resolve_data : ℕ → ℕ → Formula → Data
+resolve_data positive negative a = object (member (codes "atom") (string (canonical a))
+    (member (codes "resolve") (numbers_data (positive ∷ negative ∷ [])) no_members))
+
+abbrev pub res_step_data : ResStep → Data
+res_step_data (res_steps.Input clause) = input_data clause
+res_step_data (res_steps.Subst step m) = subst_data step m
+res_step_data (res_steps.Resolve positive negative a) = resolve_data positive negative a
+
+abbrev pub res_steps_data : List ResStep → Data
+res_steps_data steps = array (items_of (map res_step_data steps))
+
+-- clauses that are never true together: the steps of a refutation
+abbrev pub unsatisfiable_data : List ResStep → Data
+unsatisfiable_data steps = object (member (codes "satisfiable") (boolean false) (member (codes "steps") (res_steps_data steps) no_members))
+
 -- an error that says no more than its kind
 abbrev pub plain : List ℕ → Data
 plain kind = object (member (codes "kind") (string kind) no_members)
@@ -283,6 +324,10 @@ cut_data step = object (member (codes "kind") (string (codes "cut")) (member (co
 abbrev pub too_many_data : ℕ → Data
 too_many_data n = object (member (codes "count") (count_data n) (member (codes "kind") (string (codes "too_many")) no_members))
 
+-- the first clause with a variable, by its number, where none may have one
+abbrev pub not_ground_data : ℕ → Data
+not_ground_data clause = object (member (codes "clause") (count_data clause) (member (codes "kind") (string (codes "not_ground")) no_members))
+
 -- the atoms that are true where a sequent is false
 abbrev pub falsified_data : FormulaSet → Data
 falsified_data atoms = object (member (codes "kind") (string (codes "falsified")) (member (codes "true") (side_data atoms) no_members))
@@ -339,6 +384,8 @@ answer_data (Interpolant first f second) = Ok (interpolant_data first f second)
 answer_data (Herbrand n s) = Ok (herbrand_data n s)
 answer_data (Introduced summary shorter) = Ok (introduced_data summary shorter)
 answer_data (Definition name n f) = Ok (definition_data name n f)
+answer_data (Satisfiable atoms) = Ok (satisfiable_data atoms)
+answer_data (Unsatisfiable steps) = Ok (unsatisfiable_data steps)
 answer_data LineTooLong = Err (plain (codes "line_too_long"))
 answer_data (Reading cause) = Err (reading_data cause)
 answer_data NameTaken = Err (plain (codes "name_taken"))
@@ -362,6 +409,7 @@ answer_data (TooMany n) = Err (too_many_data n)
 answer_data (DefTwice name) = Err (named (codes "def_twice") name)
 answer_data (DefFree var) = Err (variable_fault (codes "def_free") var)
 answer_data DefLarge = Err (plain (codes "def_large"))
+answer_data (NotGround clause) = Err (not_ground_data clause)
 answer_data Budget = Err (plain (codes "budget"))
 answer_data Memory = Err (plain (codes "memory"))
 

@@ -6,6 +6,7 @@ ghost use Rattle.json_text.specs.Tokens.{data_tokens, Adds};
 ghost use Rattle.reply_lines.specs.Tokens.{said, fault_data};
 ghost use Rattle.reply_lines.specs.declared.replies.StepShown.TheVariants.{Rule};
 
+use crate::certificates::{put_not_ground, put_satisfiable, put_unsatisfiable};
 use crate::expansions::{put_expansion, put_nodes};
 use crate::members::{put_formula, put_number, put_side, put_text};
 use crate::replies::{Outcome, RefutationShown, StepShown, Summary};
@@ -363,6 +364,8 @@ pub fn put_answer(out: &mut JsonText, alloc: Global, texts: &mut CanonicalTexts,
             arity,
             body,
         } => put_definition(out, alloc, texts, symbol, *arity, body.get()),
+        Outcome::Satisfiable(atoms) => put_satisfiable(out, alloc, texts, atoms),
+        Outcome::Unsatisfiable(steps) => put_unsatisfiable(out, alloc, texts, steps.as_slice()),
         Outcome::LineTooLong => put_plain(out, "line_too_long"),
         Outcome::Reading(cause) => put_reading(out, cause),
         Outcome::NameTaken => put_plain(out, "name_taken"),
@@ -394,6 +397,7 @@ pub fn put_answer(out: &mut JsonText, alloc: Global, texts: &mut CanonicalTexts,
         Outcome::DefTwice(name) => put_named(out, "def_twice", name.as_str()),
         Outcome::DefFree(var) => put_variable_fault(out, alloc, "def_free", var),
         Outcome::DefLarge => put_plain(out, "def_large"),
+        Outcome::NotGround(clause) => put_not_ground(out, *clause),
         Outcome::Budget => put_plain(out, "budget"),
         Outcome::Memory => put_plain(out, "memory"),
     }

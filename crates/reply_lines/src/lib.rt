@@ -2,6 +2,7 @@
 #![tactic(auto)]
 
 mod answers;
+mod certificates;
 mod expansions;
 pub mod laws;
 mod lines;

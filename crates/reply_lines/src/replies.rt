@@ -3,7 +3,8 @@ ghost use Rattle.std.specs.Prelude.{◌≡◌};
 
 use exp_tree::{FlatExp, NodeCause, RootCause};
 use job_words::{
-    FormedFormula, FormedVar, FormedVars, JobCause, Name, Steps, SymbolName, Utf8Text,
+    FormedFormula, FormedVar, FormedVars, JobCause, Name, RefutationSteps, Steps, SymbolName,
+    Utf8Text,
 };
 use lk_rules::{Formulas, RuleFault, Sequent, Side};
 
@@ -93,6 +94,10 @@ pub enum Outcome {
         arity: u64,
         body: FormedFormula,
     },
+    /// The ground clauses are true together, where just these atoms are.
+    Satisfiable(Formulas),
+    /// The ground clauses are never true together: the steps of a refutation.
+    Unsatisfiable(RefutationSteps),
     /// The line has more bytes than a job may have.
     LineTooLong,
     /// The line isn't a job.
@@ -164,6 +169,8 @@ pub enum Outcome {
     DefFree(FormedVar),
     /// With all defined symbols unfolded the formula of a definition has more nodes than it may have.
     DefLarge,
+    /// The first clause with a variable, counted from 0, where no clause may have one.
+    NotGround(u64),
     /// The work takes more than the budget allows.
     Budget,
     /// Memory ran out while the job was run.
@@ -207,7 +214,8 @@ impl Drop for Outcome {
                 drop(symbol);
                 drop(body);
             }
-            Outcome::Falsified(atoms) => drop(atoms),
+            Outcome::Falsified(atoms) | Outcome::Satisfiable(atoms) => drop(atoms),
+            Outcome::Unsatisfiable(steps) => drop(steps),
             Outcome::EigenTwice(var) | Outcome::EigenFree(var) | Outcome::DefFree(var) => drop(var),
             Outcome::Cycle(vars) => drop(vars),
             Outcome::Reading(cause) => drop(cause),
@@ -227,6 +235,7 @@ impl Drop for Outcome {
             | Outcome::Root { root: _, cause: _ }
             | Outcome::Cut(_)
             | Outcome::TooMany(_)
+            | Outcome::NotGround(_)
             | Outcome::LineTooLong
             | Outcome::NameTaken
             | Outcome::Empty
@@ -258,6 +267,8 @@ impl Outcome {
                 | Outcome::Herbrand { .. }
                 | Outcome::Introduced { .. }
                 | Outcome::Definition { .. }
+                | Outcome::Satisfiable(_)
+                | Outcome::Unsatisfiable(_)
         )
     }
 }

@@ -32,7 +32,7 @@ read_by lookup name (Ok op) asked is = by_test (is_taken lookup name) is
     by_test true h = cc
     by_test false h = let same : run op (values_for lookup op) ≡ asked = cc in (op, refl, same)
 
-line_by : (lookup : Lookup) (line : List ℕ) (asked : Asked) → run_line lookup line ≡ an_operation asked
+pub line_by : (lookup : Lookup) (line : List ℕ) (asked : Asked) → run_line lookup line ≡ an_operation asked
     → (op : Op) × ((reads_job line).op ≡ Ok op) × (run op (values_for lookup op) ≡ asked)
 unfolding run_line
 line_by lookup line asked is = by_test (is_too_long line) is

@@ -4,6 +4,7 @@
 --     values_for      the values that the names in an operation stand for
 --     Request, run_line      what a line asks for
 --     IsAllowed      what a line may come to
+--     AsksOne      a line asks for what has one answer
 --     Past      a job that has been answered
 --     held_of      what the jobs hold, by name
 --     AreAllowed      each job came to what its line may come to
@@ -19,7 +20,7 @@ use Rattle.reply_lines.specs.OneLine.{is_want}
 use Rattle.operation_laws.specs.Values.{Value, refused}
 use Rattle.operation_laws.specs.Answers.{Answer, shown, held, Asked, May}
 use Rattle.operation_laws.specs.Given.{or_else, base_name, names_in}
-use Rattle.operation_laws.specs.Running.{run}
+use Rattle.operation_laws.specs.Running.{run, HasOneAnswer}
 use Rattle.session_laws.specs.Jobs.{is_too_long}
 
 -- The line is too long, or isn't a job, or an earlier line has the job's name.
@@ -70,6 +71,10 @@ abbrev pub IsAllowed : Request → Came → Type 0
 IsAllowed (no_operation f) c = c ≡ faulty f
 IsAllowed (an_operation asked) (faulty f) = ⊥
 IsAllowed (an_operation asked) (answered a) = May asked a
+
+-- the operation that the line asks for has one answer, want of memory aside
+abbrev pub AsksOne : List ℕ → Type 0
+AsksOne line = (op : Op) → (reads_job line).op ≡ Ok op → HasOneAnswer op
 
 abbrev pub shown_fault : JobFault → Outcome
 shown_fault too_long = outcomes.LineTooLong

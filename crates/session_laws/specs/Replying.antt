@@ -32,6 +32,8 @@ reductions_in (outcomes.Interpolant first formula second) = 0
 reductions_in (outcomes.Herbrand count sequent) = 0
 reductions_in (outcomes.Introduced summary shorter) = 0
 reductions_in (outcomes.Definition symbol arity body) = 0
+reductions_in (outcomes.Satisfiable atoms) = 0
+reductions_in (outcomes.Unsatisfiable steps) = 0
 reductions_in outcomes.LineTooLong = 0
 reductions_in (outcomes.Reading cause) = 0
 reductions_in outcomes.NameTaken = 0
@@ -55,6 +57,7 @@ reductions_in (outcomes.TooMany tuples) = 0
 reductions_in (outcomes.DefTwice name) = 0
 reductions_in (outcomes.DefFree var) = 0
 reductions_in outcomes.DefLarge = 0
+reductions_in (outcomes.NotGround clause) = 0
 reductions_in outcomes.Budget = 0
 reductions_in outcomes.Memory = 0
 

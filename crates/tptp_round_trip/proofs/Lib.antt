@@ -6,3 +6,4 @@ pub mod Texts
 pub mod Names
 pub mod Exact
 pub mod RoundTrip
+pub mod Telling

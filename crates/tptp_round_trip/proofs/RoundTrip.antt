@@ -33,7 +33,7 @@ use Rattle.tptp_round_trip.proofs.Texts.{term_spelt, formula_spelt}
 use Rattle.tptp_round_trip.proofs.Exact.{term_within, formula_within}
 use Rattle.tptp_round_trip.proofs.Names.{at_most, names_rise, names_apart}
 
-formula_lexes : (names : ℕ → ℕ) (f : Formula) → IsFormed f → ((n : ℕ) → is_free_in (Num n) f ≡ true → n < 2 ^ 64) → ((d : ℕ) → d < quantifier_depth f → names d < 2 ^ 64) → Lexes (formula_text names 0 f) (formula_tokens names 0 f [])
+pub formula_lexes : (names : ℕ → ℕ) (f : Formula) → IsFormed f → ((n : ℕ) → is_free_in (Num n) f ≡ true → n < 2 ^ 64) → ((d : ℕ) → d < quantifier_depth f → names d < 2 ^ 64) → Lexes (formula_text names 0 f) (formula_tokens names 0 f [])
 formula_lexes names f formed short few =
     subst (λ (w : List ℕ). Lexes w (formula_tokens names 0 f [])) (append-nil (formula_text names 0 f))
     ((formula_spelt names (quantifier_depth f) few 0 f (omega arith) formed short).lexes [] [] refl nothing_lexes)
@@ -51,7 +51,7 @@ formula_is_read f plain formed fits short =
           (formula_reads LIMITS names (names_rise f) (lit≤ tt) 0 f formed (names_apart f) fits.1 200 [] fits.0);
     }
 
-term_lexes : (names : ℕ → ℕ) (t : Term) → IsFormedTerm t → AreTermNumbersInRange t → Lexes (term_text names 0 t) (term_tokens names 0 t [])
+pub term_lexes : (names : ℕ → ℕ) (t : Term) → IsFormedTerm t → AreTermNumbersInRange t → Lexes (term_text names 0 t) (term_tokens names 0 t [])
 term_lexes names t formed short =
     subst (λ (w : List ℕ). Lexes w (term_tokens names 0 t [])) (append-nil (term_text names 0 t))
     ((term_spelt names 0 (λ d l. absurd (omega arith)) 0 (omega arith) t formed short).lexes [] [] refl nothing_lexes)
@@ -70,7 +70,7 @@ term_is_read t formed fits short =
 
 -- what is read shows that the formula is within the limits
 
-same_tokens : (st rest rest' : Stream) (ts us : List Token) (n m : ℕ) → Begins st ts rest → Begins st us rest' → rest ≡ ends n → rest' ≡ ends m → ts ≡ us
+pub same_tokens : (st rest rest' : Stream) (ts us : List Token) (n m : ℕ) → Begins st ts rest → Begins st us rest' → rest ≡ ends n → rest' ≡ ends m → ts ≡ us
 same_tokens st rest rest' ts us n m (here st') (here st'') is is' = refl
 same_tokens st rest rest' ts us n m (here st') (behind at t x y vs more) is is' = cc
 same_tokens st rest rest' ts us n m (behind at t x y vs more) (here st') is is' = cc

@@ -31,3 +31,9 @@ pub fn few_variables_have_numbers_in_range()
     ensures { (f : Formula) → IsWithinLimits f → length (set.listing (vars_formula f set.empty)) < 2 ^ 63
         → ((n : ℕ) → is_free_in (Num n) f ≡ true → n < 2 ^ 64) → AreNumbersInRange f }
 {}
+
+/// Canonical texts tell formulas and terms apart, however deep they are: no limit of a reader is asked for.
+pub fn canonical_texts_tell_apart()
+    ensures formula { (f g : Formula) → has_body f ≡ false → has_body g ≡ false → IsFormed f → IsFormed g → AreNumbersInRange f → AreNumbersInRange g → canonical f ≡ canonical g → f ≡ g }
+    ensures term { (t u : Term) → IsFormedTerm t → IsFormedTerm u → AreTermNumbersInRange t → AreTermNumbersInRange u → canonical_term t ≡ canonical_term u → t ≡ u }
+{}
