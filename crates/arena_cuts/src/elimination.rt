@@ -1,5 +1,6 @@
 //! The elimination of cuts.
-ghost use Rattle.std.specs.Prelude.{◌≡◌, ◌+◌, ◌<◌, ◌≤◌, false, Some, None, IfOk};
+ghost use Rattle.std.specs.Prelude.{◌≡◌, ◌+◌, ◌<◌, ◌≤◌, true, false, nat_eq, Some, None, is_some, IfOk};
+ghost use Rattle.std.specs.HashMap as hash;
 ghost use Rattle.proof_trees.specs.Trees.{none, more, rule_of, is_cut, IsValid, AllValid};
 ghost use Rattle.cut_laws.specs.Elimination.{elimination};
 ghost use Rattle.cut_laws.specs.Budgets.{contracted, elimination_all};
@@ -59,6 +60,9 @@ pub fn eliminate_in<L: Ledger>(
     ensures grown { Extends arena.old arena.new }
     ensures counted_ok { IfOk result (λ made. steps.new ≤ steps.old + made.reductions) }
     ensures counted { steps.new ≤ steps.old + budget }
+
+    // So no proof is worked on whose elimination is known, wherever it stands.
+    ensures known { is_some (hash.get nat_eq table.old proof) ≡ true → (table.new ≡ table.old) × (arena.new ≡ arena.old) × (steps.new ≡ steps.old) }
 {
     if let Some(known) = look_up(arena, table, proof, budget) {
         return known;

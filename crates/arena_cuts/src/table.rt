@@ -1,5 +1,6 @@
 //! Eliminations that are known.
-ghost use Rattle.std.specs.Prelude.{◌≡◌, Some, None, IfOk, IfSome};
+ghost use Rattle.std.specs.Prelude.{◌≡◌, true, nat_eq, Some, None, is_some, IfOk, IfSome};
+ghost use Rattle.std.specs.HashMap as hash;
 ghost use Rattle.cut_laws.specs.Elimination.{elimination};
 ghost use Rattle.arena_cells.specs.Standing.{tree_at, IsTreeAt};
 ghost use Rattle.arena_cuts.specs.Tables.{IsEliminated, AreEliminated};
@@ -44,6 +45,7 @@ pub(crate) fn look_up(
     ensures there { IfSome result (λ known. IfOk known (λ made. IsTreeAt arena.now made.proof)) }
     ensures ok { IfSome result (λ known. IfOk known (λ made. elimination (tree_at arena.now proof) budget ≡ Some (tree_at arena.now made.proof, made.reductions))) }
     ensures budget { result ≡ Some (Err ElimFault.Budget) → elimination (tree_at arena.now proof) budget ≡ None }
+    ensures found { is_some (hash.get nat_eq table.now proof) ≡ true → is_some result ≡ true }
 {
     match table.get(&proof) {
         Some(entry) => Some(answer(arena, proof, *entry, budget)),

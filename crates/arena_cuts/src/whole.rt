@@ -1,5 +1,6 @@
 //! The elimination of cuts without a budget.
-ghost use Rattle.std.specs.Prelude.{◌≡◌, false, Some, IfOk, IfSome};
+ghost use Rattle.std.specs.Prelude.{◌≡◌, true, false, nat_eq, Some, is_some, IfOk, IfSome};
+ghost use Rattle.std.specs.HashMap as hash;
 ghost use Rattle.proof_trees.specs.Trees.{more, none, rule_of, is_cut, IsValid, AllValid};
 ghost use Rattle.cut_laws.specs.Contraction.{con};
 ghost use Rattle.arena_cells.specs.Standing.{Extends, sequent_at, formula_at, tree_at, IsSequentAt, IsFormulaAt, IsTreeAt};
@@ -30,6 +31,7 @@ fn look_up(arena: &Arena, table: &HashMap<u32, u32, ByNumber>, proof: u32) -> Op
     requires { AreReduced arena.now table.now }
     ensures there { IfSome result (λ made. IsTreeAt arena.now made) }
     ensures reduced { IfSome result (λ made. ReducesTo (tree_at arena.now proof) (tree_at arena.now made)) }
+    ensures found { is_some (hash.get nat_eq table.now proof) ≡ true → is_some result ≡ true }
 {
     let _arena = arena;
     match table.get(&proof) {
@@ -75,6 +77,9 @@ pub fn eliminate_whole_in<L: Ledger>(
     ensures reduced { IfOk result (λ made. ReducesTo (tree_at arena.old proof) (tree_at arena.new made)) }
     ensures table { AreReduced arena.new table.new }
     ensures grown { Extends arena.old arena.new }
+
+    // So no proof is worked on that is known, wherever it stands.
+    ensures known { is_some (hash.get nat_eq table.old proof) ≡ true → (table.new ≡ table.old) × (arena.new ≡ arena.old) × (steps.new ≡ steps.old) }
 {
     if let Some(made) = look_up(arena, table, proof) {
         return Ok(made);

@@ -5,6 +5,7 @@ use Rattle.lk_rules.specs.declared.sequent.Sequent.{Sequent}
 use Rattle.lk_rules.specs.declared.sequent.Side.TheVariants.{Left, Right}
 use Rattle.proof_trees.specs.Trees.{Tree, node, none, more, rule_of, concl, below, is_cut, IsValid, AllValid}
 use Rattle.cut_laws.specs.Contraction.{cut, con}
+use Rattle.cut_laws.specs.Elimination.{elimination}
 use Rattle.cut_laws.specs.Budgets.{contracted, work, work_all}
 use Rattle.cut_laws.proofs.ValidCuts.{cut_valid_with}
 use Rattle.arena_cells.specs.declared.key.Parts.{Parts}
@@ -272,3 +273,17 @@ eliminate_other-returns-then-reductions-eq0-clause-ok g t c =
     untouched tree n (c.big_steps.ensures.other (rule_of tree) (concl tree) (below tree) n c.requires.other) _ _ made.reductions c.premises-above.ensures.trees c.in-Ok.ensures.ok c.if-reductions-eq0.true
     (λ u found. ((c.least.ensures tree n u 0).0 found).0)
     ∙ ap (λ (u : Tree). Some (u, made.reductions)) (sym (tree_stays a b c.in-Ok.ensures.grown c.args.proof c.requires.proof))
+
+pub eliminate_both-returns-in-Ok-eliminate_in-clause-both : goal.eliminate_both-returns-in-Ok-eliminate_in-clause-both
+eliminate_both-returns-in-Ok-eliminate_in-clause-both g t c =
+    let a = c.eliminate_in.new.arena in
+    let b = c.eliminate_in-2.new.arena in
+    let first = c.in-Ok.first in
+    let grown = c.in-Ok-eliminate_in.ensures.grown in
+    let right = tree_stays c.args.arena.now a c.in-Ok.ensures.grown c.args.right c.requires.right in
+    record {
+      left_there = tree_there a b grown first.proof c.in-Ok.ensures.there;
+      right_there = c.in-Ok-eliminate_in.ensures.there;
+      left = c.in-Ok.ensures.ok ∙ ap (λ (u : Tree). Some (u, first.reductions)) (sym (tree_stays a b grown first.proof c.in-Ok.ensures.there));
+      right = ap (λ (u : Tree). elimination u (c.args.budget - first.reductions)) (sym right) ∙ c.in-Ok-eliminate_in.ensures.ok;
+    }
