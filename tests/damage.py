@@ -8,8 +8,8 @@ from typing import Callable, Iterator, List, Match
 
 from judging import EXAMPLES, LINE_LIMIT
 
-# Examples that take long with another budget or step, whose lines are long, or that memory is wanting for.
-LEFT_OUT = ("chains", "herbrand", "larger_cuts", "two_halves", "patterns", "text_limits", "too_large", "want_of_memory")
+# Examples that take long with another budget, number of rounds or step, whose lines are long, or that memory is wanting for.
+LEFT_OUT = ("chains", "from_clauses", "herbrand", "larger_cuts", "two_halves", "patterns", "rounds", "text_limits", "too_large", "want_of_memory")
 STOCK = [path.read_bytes().split(b"\n") for path in sorted(EXAMPLES.glob("*.jobs")) if path.stem not in LEFT_OUT]
 NEIGHBOURS = 40
 

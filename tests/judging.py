@@ -25,12 +25,14 @@ LATE = frozenset(("empty", "step"))
 # The fields of each operation that name jobs, in the order in which they are looked up, with what they take. `using` is a list of names.
 PROOF, PROBLEM, TREES, DEFINITION = frozenset(["proof"]), frozenset(["problem"]), frozenset(["trees"]), frozenset(["definition"])
 FIELDS: Dict[str, Sequence[Tuple[str, FrozenSet[str]]]] = {
-    "proves": (("proof", PROOF), ("problem", PROBLEM)), "resolution": (("problem", PROBLEM),), "sat": (("problem", PROBLEM),),
+    "proves": (("proof", PROOF), ("problem", PROBLEM)), **{op: (("problem", PROBLEM),) for op in ("resolution", "sat", "prove")},
     "fromexp": (("expansion", TREES),), "show": (("of", PROOF | TREES),), "lk": (("using", DEFINITION),), "define": (("using", DEFINITION),),
     **{op: (("proof", PROOF),) for op in ("subst", "cutelim", "eliminate", "unfold", "expand", "interpolate", "herbrand", "cutintro", "measure")},
 }
 HOLDS = {"problem": "problem", "define": "definition", "expansion": "trees", "expand": "trees", "interpolate": "pair",
          **{op: "proof" for op in ("lk", "subst", "resolution", "cutelim", "eliminate", "unfold", "tautology", "fromexp", "cutintro")}}
+# Operations that look for a refutation.
+SEARCHES = ("sat", "prove")
 
 
 class Run(NamedTuple):
@@ -110,9 +112,9 @@ class Exchange:
         return line_of({"error": error, "job": self.replies[place]["job"], "n": place + 1})
 
     def holds(self, place: int) -> Optional[str]:
-        """What a job holds that is no error: a refutation that `sat` found is held as a proof, and a model isn't."""
+        """What a job holds that is no error: a refutation that a search found is held as a proof; a model, or saturated clauses, aren't."""
         op, ok = self.jobs[place]["op"], self.replies[place]["ok"]
-        return ("proof" if "steps" in ok else None) if op == "sat" else HOLDS.get(op)
+        return ("proof" if "steps" in ok else None) if op in SEARCHES else HOLDS.get(op)
 
     def named(self, place: int, name: str) -> Tuple[Optional[int], Optional[str]]:
         """The earlier job that a name stands for, and what it holds with ample memory."""

@@ -15,7 +15,7 @@ use Rattle.operation_laws.specs.declared.refusals.Refusal.TheVariants.{UnknownNa
 use Rattle.held_values.specs.declared.held.Held.{Held}
 use Rattle.held_values.specs.declared.held.Held.TheVariants as held
 use Rattle.operation_laws.specs.Values.{Value, nothing, refused, lacking, proof, pair, problem, expansion, definition}
-use Rattle.operation_laws.specs.Answers.{Answer, shown_refusal, shown_failure, shown_product, held_product, Asked, one, elimination, satisfiability, May}
+use Rattle.operation_laws.specs.Answers.{Answer, shown_refusal, shown_failure, shown_product, held_product, Asked, one, elimination, satisfiability, saturation, May}
 use Rattle.operation_laws.specs.Answers as answers
 
 abbrev pub sense : Held → Option Value
@@ -65,3 +65,4 @@ abbrev pub IsAnsweredTo : Outcome → Option Value → Asked → Type 0
 IsAnsweredTo outcome meant (one a) = IsAnswered outcome meant a
 IsAnsweredTo outcome meant (elimination t) = (a : Answer) × May (elimination t) a × IsAnswered outcome meant a
 IsAnsweredTo outcome meant (satisfiability cs) = (a : Answer) × May (satisfiability cs) a × IsAnswered outcome meant a
+IsAnsweredTo outcome meant (saturation cs n) = (a : Answer) × May (saturation cs n) a × IsAnswered outcome meant a

@@ -26,6 +26,7 @@ pub fn name_at(op: &Op, place: usize) -> Option<&str>
         | Op::Eliminate { proof: text }
         | Op::Unfold { proof: text }
         | Op::Sat { problem: text }
+        | Op::Prove { problem: text, .. }
         | Op::Expand { proof: text, .. }
         | Op::Fromexp {
             expansion: text,

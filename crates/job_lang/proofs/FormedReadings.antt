@@ -32,7 +32,7 @@ use Rattle.job_words.specs.declared.causes.JobCause.TheVariants.{Field}
 use Rattle.job_words.specs.declared.kinds.RuleKind.{RuleKind}
 use Rattle.job_words.specs.declared.kinds.RuleKind.TheVariants as kinds
 use Rattle.job_lang.specs.declared.jobs.Op.{Op}
-use Rattle.job_lang.specs.declared.jobs.Op.TheVariants.{Lk, Problem, Proves, Show, Measure, Subst, Cutelim, Eliminate, Define, Unfold, Sat, Resolution, Tautology, Expansion, Expand, Fromexp, Interpolate, Herbrand, Cutintro}
+use Rattle.job_lang.specs.declared.jobs.Op.TheVariants.{Lk, Problem, Proves, Show, Measure, Subst, Cutelim, Eliminate, Define, Unfold, Sat, Prove, Resolution, Tautology, Expansion, Expand, Fromexp, Interpolate, Herbrand, Cutintro}
 use Rattle.job_lang.specs.Places.{path}
 use Rattle.job_lang.specs.Fields.{Reading, ◌>>=◌, or_fault, text_at, list_at}
 use Rattle.job_lang.specs.Formulas.{in_field, formula_at, term_at, variable_at, side_at}
@@ -45,6 +45,7 @@ use Rattle.job_lang.specs.Sequents.{sequent_at, part_of, part_at}
 use Rattle.job_lang.specs.Maps.{member_path, binding_of, map_of, map_at}
 use Rattle.job_lang.specs.Budgets.{budget_at}
 use Rattle.job_lang.specs.Widths.{width_at}
+use Rattle.job_lang.specs.RoundNumbers.{rounds_at}
 use Rattle.job_lang.specs.Numbers.{number_at, numbers_at, pair_at}
 use Rattle.job_lang.specs.Expansions.{flat_at}
 use Rattle.job_lang.specs.Resolutions.{input_step, subst_step, resolve_step, wrong_step, res_step_at, res_steps_of, res_steps_at}
@@ -53,7 +54,7 @@ use Rattle.job_lang.proofs.FormedFields.{both_read, same_value, in_text, both_tr
 use Rattle.job_lang.proofs.FormedExpansions.{flat_formed}
 use Rattle.job_lang.proofs.FormedDefinitions.{name_formed, variables_formed}
 use Rattle.job_lang.specs.Definitions.{name_at, variables_at, using_at}
-use Rattle.job_lang.specs.Jobs.{value_of, name_of, lk_of, define_of, eliminate_of, unfold_of, sat_of, proves_of, subst_of, cutelim_of, resolution_of, tautology_of, expansion_of, expand_of, fromexp_of, interpolate_of, herbrand_of, cutintro_of, Reader, unbudgeted, budgeted, op_among, op_named, op_of, reads_named, reads_value, reads_job}
+use Rattle.job_lang.specs.Jobs.{value_of, name_of, lk_of, define_of, eliminate_of, unfold_of, sat_of, prove_of, proves_of, subst_of, cutelim_of, resolution_of, tautology_of, expansion_of, expand_of, fromexp_of, interpolate_of, herbrand_of, cutintro_of, Reader, unbudgeted, budgeted, op_among, op_named, op_of, reads_named, reads_value, reads_job}
 
 module _ (place : Place) (d : Data) where
   -- a rule that names its main formula alone, and one that names a term or a variable too
@@ -239,6 +240,12 @@ module _ (d : Data) (op : Op) where
       let read = both_read (text_at places.Top (codes "problem") d) (λ x. Ok (Sat x)) op is in
       subst IsFormedOp (same_value (Sat read.0) op read.1.1) tt
 
+  in_prove : prove_of d ≡ Ok op → IsFormedOp op
+  in_prove is =
+      let problem = both_read (text_at places.Top (codes "problem") d) _ op is in
+      let rounds = both_read (rounds_at d) (λ x. Ok (Prove problem.0 x)) op problem.1.1 in
+      subst IsFormedOp (same_value (Prove problem.0 rounds.0) op rounds.1.1) tt
+
   in_problem : (problem_at d >>= λ problem. Ok (Problem problem)) ≡ Ok op → IsFormedOp op
   in_problem is =
       let read = both_read (problem_at d) (λ x. Ok (Problem x)) op is in
@@ -354,7 +361,7 @@ module _ (d : Data) (op : Op) where
                     in_define,
                     (
                       in_unfold,
-                      (in_sat, (in_cutelim, (in_tautology, (in_expansion, (in_expand, (in_fromexp, (in_interpolate, (in_herbrand, (in_cutintro, tt))))))))),
+                      (in_sat, (in_prove, (in_cutelim, (in_tautology, (in_expansion, (in_expand, (in_fromexp, (in_interpolate, (in_herbrand, (in_cutintro, tt)))))))))),
                     ),
                   ),
                 ),

@@ -11,7 +11,7 @@ use Rattle.refutations.specs.Refutations.{AreFormedSteps}
 use Rattle.exp_tree.specs.FlatLists.{is_formed_node}
 use Rattle.tptp_problem.specs.ProblemClauses.{IsReadProblem}
 use Rattle.job_lang.specs.declared.jobs.Op.{Op}
-use Rattle.job_lang.specs.declared.jobs.Op.TheVariants.{Lk, Problem, Proves, Show, Measure, Subst, Cutelim, Eliminate, Define, Unfold, Sat, Resolution, Tautology, Expansion, Expand, Fromexp, Interpolate, Herbrand, Cutintro}
+use Rattle.job_lang.specs.declared.jobs.Op.TheVariants.{Lk, Problem, Proves, Show, Measure, Subst, Cutelim, Eliminate, Define, Unfold, Sat, Prove, Resolution, Tautology, Expansion, Expand, Fromexp, Interpolate, Herbrand, Cutintro}
 
 -- the formulas of both sides are well formed
 abbrev pub AreFormedSides : Sequent → Type 0
@@ -31,6 +31,7 @@ IsFormedOp (Eliminate of) = Unit {0}
 IsFormedOp (Define symbol vars body using) = (is_name symbol ≡ true) × (All IsFormedVar vars × IsFormed body)
 IsFormedOp (Unfold of) = Unit {0}
 IsFormedOp (Sat of) = Unit {0}
+IsFormedOp (Prove of n) = Unit {0}
 IsFormedOp (Resolution of steps) = AreFormedSteps steps
 IsFormedOp (Tautology s n) = AreFormedSides s
 IsFormedOp (Expansion flat n) = list_all is_formed_node flat.nodes ≡ true

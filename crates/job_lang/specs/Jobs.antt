@@ -8,7 +8,7 @@ use Rattle.job_words.specs.declared.causes.JobCause.TheVariants.{Json, Field, Op
 use Rattle.job_lang.specs.declared.reading.ReadError.{ReadError}
 use Rattle.job_lang.specs.declared.reading.ReadError.TheVariants.{Fault as ReadFault, Memory as ReadMemory}
 use Rattle.job_lang.specs.declared.jobs.Op.{Op}
-use Rattle.job_lang.specs.declared.jobs.Op.TheVariants.{Lk, Problem, Proves, Show, Measure, Subst, Cutelim, Eliminate, Define, Unfold, Sat, Resolution, Tautology, Expansion, Expand, Fromexp, Interpolate, Herbrand, Cutintro}
+use Rattle.job_lang.specs.declared.jobs.Op.TheVariants.{Lk, Problem, Proves, Show, Measure, Subst, Cutelim, Eliminate, Define, Unfold, Sat, Prove, Resolution, Tautology, Expansion, Expand, Fromexp, Interpolate, Herbrand, Cutintro}
 use Rattle.job_lang.specs.declared.jobs.Job.{Job}
 use Rattle.job_lang.specs.declared.jobs.JobError.{JobError}
 use Rattle.job_lang.specs.declared.jobs.JobError.TheVariants.{Memory, Fault}
@@ -20,6 +20,7 @@ use Rattle.job_lang.specs.Sequents.{sequent_at, part_at}
 use Rattle.job_lang.specs.Maps.{map_at}
 use Rattle.job_lang.specs.Budgets.{budget_at}
 use Rattle.job_lang.specs.Widths.{width_at}
+use Rattle.job_lang.specs.RoundNumbers.{rounds_at}
 use Rattle.job_lang.specs.Problems.{problem_at}
 use Rattle.job_words.specs.RuleKinds.{is_text}
 use Rattle.job_lang.specs.Steps.{steps_at}
@@ -64,6 +65,13 @@ unfold_of d = text_at Top (codes "proof") d >>= λ proof. Ok (Unfold proof)
 -- a problem, by the name of its job
 abbrev pub sat_of : Data → Reading Op
 sat_of d = text_at Top (codes "problem") d >>= λ problem. Ok (Sat problem)
+
+-- a problem, by the name of its job, and a number of rounds
+abbrev pub prove_of : Data → Reading Op
+prove_of d = do
+  problem ← text_at Top (codes "problem") d
+  rounds ← rounds_at d
+  Ok (Prove problem rounds)
 
 -- a symbol, the variables for its arguments, the formula that it stands for, and the definitions that are used in that
 abbrev pub define_of : Data → Reading Op
@@ -163,7 +171,7 @@ abbrev pub unbudgeted : List Reader
 unbudgeted =
     (codes "lk", lk_of) ∷ (codes "problem", problem_of) ∷ (codes "proves", proves_of) ∷ (codes "show", show_of) ∷ (codes "measure", measure_of)
     ∷ (codes "subst", subst_of) ∷ (codes "resolution", resolution_of) ∷ (codes "eliminate", eliminate_of) ∷ (codes "define", define_of)
-    ∷ (codes "unfold", unfold_of) ∷ (codes "sat", sat_of) ∷ []
+    ∷ (codes "unfold", unfold_of) ∷ (codes "sat", sat_of) ∷ (codes "prove", prove_of) ∷ []
 
 abbrev pub budgeted : List Reader
 budgeted =

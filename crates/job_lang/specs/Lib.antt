@@ -6,6 +6,7 @@ pub mod Sequents
 pub mod Maps
 pub mod Budgets
 pub mod Widths
+pub mod RoundNumbers
 pub mod Problems
 pub mod Rules
 pub mod Steps

@@ -2,7 +2,7 @@
 ghost use Rattle.std.specs.Prelude.{◌≡◌, IfOk};
 ghost use Rattle.line_values.specs.View.{view};
 ghost use Rattle.job_lang.specs.Fields.{Gives};
-ghost use Rattle.job_lang.specs.Jobs.{error_with, value_of as line_value, name_of as name_data, lk_of as lk_data, define_of as define_data, subst_of as subst_data, cutelim_of as cutelim_data, resolution_of as resolution_data, tautology_of as tautology_data, expansion_of as expansion_data, expand_of as expand_data, fromexp_of as fromexp_data, interpolate_of as interpolate_data, herbrand_of as herbrand_data, cutintro_of as cutintro_data, op_among, budgeted, op_named as named_op, op_of as op_data, reads_job, GivesJob};
+ghost use Rattle.job_lang.specs.Jobs.{error_with, value_of as line_value, name_of as name_data, lk_of as lk_data, define_of as define_data, subst_of as subst_data, cutelim_of as cutelim_data, prove_of as prove_data, resolution_of as resolution_data, tautology_of as tautology_data, expansion_of as expansion_data, expand_of as expand_data, fromexp_of as fromexp_data, interpolate_of as interpolate_data, herbrand_of as herbrand_data, cutintro_of as cutintro_data, op_among, budgeted, op_named as named_op, op_of as op_data, reads_job, GivesJob};
 
 use crate::budgets::{Budget, budget_at};
 use crate::definitions::{name_at, using_at, variables_at};
@@ -13,6 +13,7 @@ use crate::places::Place;
 use crate::problems::problem_at;
 use crate::reading::{ReadError, field_fault, text_at, written_at};
 use crate::resolutions::{ResSteps, res_steps_at};
+use crate::round_numbers::{RoundNumber, rounds_at};
 use crate::sequents::{part_at, sequent_at};
 use crate::steps::steps_at;
 use crate::widths::{Width, width_at};
@@ -83,6 +84,11 @@ pub enum Op {
     /// A model of the clauses of a problem, which is named by its job and has no variables in them, or a refutation.
     Sat {
         problem: Utf8Text,
+    },
+    /// A refutation of the clauses of a problem, which is named by its job, or the clauses that rounds of resolution end with.
+    Prove {
+        problem: Utf8Text,
+        rounds: RoundNumber,
     },
     /// The steps of a refutation of the clauses of a problem, which is named by its job.
     Resolution {
@@ -162,6 +168,10 @@ impl Drop for Op {
             | Op::Eliminate { proof: name }
             | Op::Unfold { proof: name }
             | Op::Sat { problem: name }
+            | Op::Prove {
+                problem: name,
+                rounds: _,
+            }
             | Op::Cutelim {
                 proof: name,
                 budget: _,
@@ -270,6 +280,14 @@ fn cutelim_of(alloc: Global, value: &Value<'_>) -> Result<Op, ReadError>
     let proof = written_at(alloc, value, Place::Top, "proof")?;
     let budget = budget_at(alloc, value)?;
     Ok(Op::Cutelim { proof, budget })
+}
+
+fn prove_of(alloc: Global, value: &Value<'_>) -> Result<Op, ReadError>
+    ensures { Gives (λ op. op) result (prove_data (view value.now)) }
+{
+    let problem = written_at(alloc, value, Place::Top, "problem")?;
+    let rounds = rounds_at(alloc, value)?;
+    Ok(Op::Prove { problem, rounds })
 }
 
 fn resolution_of(
@@ -440,6 +458,9 @@ fn op_named(
     if name == "sat" {
         let problem = written_at(alloc, value, Place::Top, "problem")?;
         return Ok(Op::Sat { problem });
+    }
+    if name == "prove" {
+        return prove_of(alloc, value);
     }
     budgeted_op_named(alloc, texts, name, value)
 }

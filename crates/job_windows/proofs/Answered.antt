@@ -1,11 +1,11 @@
 -- What is answered to an operation, said of what its value means.
 use Rattle.std.proofs.Common.{◌≡◌, ◌⊎◌, refl, sym, subst, inl, inr}
-use Rattle.std.specs.Prelude.{List, Some}
+use Rattle.std.specs.Prelude.{ℕ, List, Some}
 use Rattle.proof_trees.specs.Trees.{Tree}
 use Rattle.refutations.specs.declared.clause.Clause.{Clause}
 use Rattle.reply_lines.specs.declared.replies.Outcome.{Outcome}
 use Rattle.operation_laws.specs.Values.{refused}
-use Rattle.operation_laws.specs.Answers.{Answer, OrLacking, Asked, one, elimination, satisfiability, May}
+use Rattle.operation_laws.specs.Answers.{Answer, OrLacking, Asked, one, elimination, satisfiability, saturation, May}
 use Rattle.operation_laws.specs.Answers as answers
 use Rattle.held_values.specs.declared.held.Held.{Held}
 use Rattle.held_values.specs.declared.held.Held.TheVariants as held
@@ -52,6 +52,10 @@ solved_or_lacking : (cs : List Clause) (a b : Answer) → May (satisfiability cs
 solved_or_lacking cs a b may (inl is) = subst (May (satisfiability cs)) (sym is) may
 solved_or_lacking cs a b may (inr is) = inr (inr is)
 
+ended_or_lacking : (cs : List Clause) (n : ℕ) (a b : Answer) → May (saturation cs n) a → (b ≡ a) ⊎ (b ≡ answers.lacking) → May (saturation cs n) b
+ended_or_lacking cs n a b may (inl is) = subst (May (saturation cs n)) (sym is) may
+ended_or_lacking cs n a b may (inr is) = inr (inr (inr is))
+
 pub concluded : (outcome : Outcome) (h : Held) (asked : Asked) → IsAnsweredTo outcome (sense h) asked
     → IsUnnamed outcome h ⊎ ((came : Came) × IsConclusion outcome h (an_operation asked) came)
 concluded outcome h (one a) is = concluded_as outcome h (an_operation (one a)) a (λ b may. may) is
@@ -59,3 +63,5 @@ concluded outcome h (elimination t) is =
     concluded_as outcome h (an_operation (elimination t)) is.0 (λ b may. reached_or_lacking t is.0 b is.1 (or_lacking is.0 b may)) is.2
 concluded outcome h (satisfiability cs) is =
     concluded_as outcome h (an_operation (satisfiability cs)) is.0 (λ b may. solved_or_lacking cs is.0 b is.1 (or_lacking is.0 b may)) is.2
+concluded outcome h (saturation cs n) is =
+    concluded_as outcome h (an_operation (saturation cs n)) is.0 (λ b may. ended_or_lacking cs n is.0 b is.1 (or_lacking is.0 b may)) is.2

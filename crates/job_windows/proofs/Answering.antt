@@ -72,21 +72,21 @@ as_many_dues : (answers : List (Outcome × Held)) (seats : List Seat) (dues : Li
 as_many_dues answers seats dues made = sym (length-map dues Some) ∙ sym (ap length made) ∙ length-map seats (due_by (slice_get answers))
 
 -- the answers of the tasks make what is due for each job
-pub pending_after : (old new : Store) (window : Window) (earlier : List Past) (lines : List (List ℕ)) (answers : List (Outcome × Held)) (dues : List Due)
-    → IsGathered old window earlier lines → HasPass new → new.desk ≡ old.desk → new.names ≡ old.names → new.held.items ≡ old.held.items
+pub pending_after : (desk : Desk) (old new : Store) (window : Window) (earlier : List Past) (lines : List (List ℕ)) (answers : List (Outcome × Held)) (dues : List Due)
+    → IsGathered desk old window earlier lines → HasPass desk new → new.names ≡ old.names → new.held.items ≡ old.held.items
     → length new.held.items + length window.seats.items ≤ vec_capacity new.held
-    → AreAnswers sense Belongs window.tasks.items (slice_get answers) → length answers ≡ length window.tasks.items → All (λ (answer : Outcome × Held). FitsDesk old.desk answer.1) answers
-    → map (due_by (slice_get answers)) window.seats.items ≡ map Some dues → IsPending new earlier lines dues
-pending_after old new window earlier lines answers dues gathered pass desk names held room belong sized fits made =
+    → AreAnswers sense Belongs window.tasks.items (slice_get answers) → length answers ≡ length window.tasks.items → All (λ (answer : Outcome × Held). FitsDesk desk answer.1) answers
+    → map (due_by (slice_get answers)) window.seats.items ≡ map Some dues → IsPending desk new earlier lines dues
+pending_after desk old new window earlier lines answers dues gathered pass names held room belong sized fits made =
     let promised = gathered.promised (slice_get answers) (all_answered window.tasks.items answers belong sized) in
     let same : promised.dues ≡ dues = given_once promised.dues dues (sym promised.found ∙ made) in
     record {
       holds = record {
         pass = pass;
         sized = ap length held ∙ gathered.holds.sized;
-        fits = subst (λ d. All (FitsDesk d) new.held.items) (sym desk) (subst (All (FitsDesk old.desk)) (sym held) gathered.holds.fits);
+        fits = subst (All (FitsDesk desk)) (sym held) gathered.holds.fits;
       };
-      fits = subst (λ d. All (λ (due : Due). FitsDesk d due.held) dues) (sym desk) (dues_fit old.desk answers fits window.seats.items dues made);
+      fits = dues_fit desk answers fits window.seats.items dues made;
       room = λ some. let many = as_many_dues answers window.seats.items dues made in omega (arith, room, many);
       due = subst (λ ns. AreDue ns (map sense new.held.items) earlier lines dues) (sym names)
           (subst (λ (hs : List Held). AreDue old.names (map sense hs) earlier lines dues) (sym held)
@@ -94,9 +94,9 @@ pending_after old new window earlier lines answers dues gathered pass desk names
     }
 
 -- where nothing is due any more, an empty window has no job
-pub empty_gathered : (store : Store) (window : Window) (earlier : List Past) (lines : List (List ℕ)) → IsPending store earlier lines [] → lines ≡ []
-    → window.seats.items ≡ [] → window.tasks.items ≡ [] → IsGathered store window earlier lines
-empty_gathered store window earlier lines pending none seats tasks = record {
+pub empty_gathered : (desk : Desk) (store : Store) (window : Window) (earlier : List Past) (lines : List (List ℕ)) → IsPending desk store earlier lines [] → lines ≡ []
+    → window.seats.items ≡ [] → window.tasks.items ≡ [] → IsGathered desk store window earlier lines
+empty_gathered desk store window earlier lines pending none seats tasks = record {
   holds = pending.holds;
   runnable = λ place task within. absurd (omega (arith, within, ap length tasks));
   ordered = subst (λ (ss : List Seat). AreInOrder 0 ss (length window.tasks.items)) (sym seats) (sym (ap length tasks));
@@ -105,5 +105,5 @@ empty_gathered store window earlier lines pending none seats tasks = record {
 }
 
 -- nothing is due behind a store
-pub nothing_due : (store : Store) (earlier : List Past) → IsStore store earlier → IsPending store earlier [] []
-nothing_due store earlier is = record { holds = is.holds; fits = λ k d within. absurd (omega arith); room = λ some. absurd (omega (arith, some)); due = is.known }
+pub nothing_due : (desk : Desk) (store : Store) (earlier : List Past) → IsStore desk store earlier → IsPending desk store earlier [] []
+nothing_due desk store earlier is = record { holds = is.holds; fits = λ k d within. absurd (omega arith); room = λ some. absurd (omega (arith, some)); due = is.known }

@@ -2,6 +2,7 @@
 --     IsStore      the store stands behind jobs
 --     IsGathered      the window has the jobs of these lines after them
 --     IsPending      these answers are due for the jobs of these lines
+-- A desk is given, whose passes and proofs are those of the store.
 use Rattle.std.specs.Prelude.{◌≡◌, ℕ, ◌+◌, ◌<◌, ◌≤◌, List, length, map, Option, vec_capacity}
 use Rattle.std.specs.List.{All}
 use Rattle.cut_elim.specs.declared.desk.Desk.{Desk}
@@ -23,19 +24,19 @@ use Rattle.job_windows.specs.declared.seats.Seat.{Seat}
 use Rattle.job_windows.specs.declared.seats.Window.{Window}
 use Rattle.job_windows.specs.declared.seats.Due.{Due}
 
--- the pass of a store is of its desk
-abbrev pub HasPass : Store → Type 0
-HasPass store = IsDeskPassOf store.desk store.pass
+-- the pass of a store is of the desk
+abbrev pub HasPass : Desk → Store → Type 0
+HasPass desk store = IsDeskPassOf desk store.pass
 
--- the store keeps what so many jobs hold, and all of it may be given to the operations of its desk
-pub record Holds (store : Store) (earlier : List Past) : Type 0 where
-  pub pass : HasPass store
+-- the store keeps what so many jobs hold, and all of it may be given to the operations of the desk
+pub record Holds (desk : Desk) (store : Store) (earlier : List Past) : Type 0 where
+  pub pass : HasPass desk store
   pub sized : length store.held.items ≡ length earlier
-  pub fits : All (FitsDesk store.desk) store.held.items
+  pub fits : All (FitsDesk desk) store.held.items
 
 -- the store stands behind these jobs
-pub record IsStore (store : Store) (earlier : List Past) : Type 0 where
-  pub holds : Holds store earlier
+pub record IsStore (desk : Desk) (store : Store) (earlier : List Past) : Type 0 where
+  pub holds : Holds desk store earlier
   pub known : Knows store.names (map sense store.held.items) earlier
 
 -- the tasks may be run by the desk as a window
@@ -48,18 +49,18 @@ pub record AreRunnable (desk : Desk) (held : List Held) (seats : List Seat) (tas
   pub ordered : AreInOrder 0 seats (length tasks)
   pub tasks_are : AreTasks desk tasks
 
--- The window has the jobs of these lines, which come after earlier ones. Its tasks may be run by the store's desk, and whatever belongs to
--- them, each job is answered by it.
-pub record IsGathered (store : Store) (window : Window) (earlier : List Past) (lines : List (List ℕ)) : Type 0 where
-  pub holds : Holds store earlier
-  pub runnable : AreTasks store.desk window.tasks.items
+-- The window has the jobs of these lines, which come after earlier ones. Its tasks may be run by the desk, and whatever belongs to them,
+-- each job is answered by it.
+pub record IsGathered (desk : Desk) (store : Store) (window : Window) (earlier : List Past) (lines : List (List ℕ)) : Type 0 where
+  pub holds : Holds desk store earlier
+  pub runnable : AreTasks desk window.tasks.items
   pub ordered : AreInOrder 0 window.seats.items (length window.tasks.items)
   pub counted : length window.seats.items ≡ length lines
   pub promised : (done : ℕ → Option (Outcome × Held)) → AreAnswered done window.tasks.items → IsPromised done store.names store.held.items earlier lines window.seats.items
 
 -- These answers are due for the jobs of these lines, which come after earlier ones, and there is room in the store for what the jobs hold.
-pub record IsPending (store : Store) (earlier : List Past) (lines : List (List ℕ)) (dues : List Due) : Type 0 where
-  pub holds : Holds store earlier
-  pub fits : All (λ due. FitsDesk store.desk due.held) dues
+pub record IsPending (desk : Desk) (store : Store) (earlier : List Past) (lines : List (List ℕ)) (dues : List Due) : Type 0 where
+  pub holds : Holds desk store earlier
+  pub fits : All (λ due. FitsDesk desk due.held) dues
   pub room : 0 < length dues → length store.held.items + length dues ≤ vec_capacity store.held
   pub due : AreDue store.names (map sense store.held.items) earlier lines dues

@@ -6,6 +6,7 @@ mod reading;
 mod replying;
 mod seats;
 mod store;
+mod weights;
 
 pub use replying::ReplyLine;
 pub use seats::{Asks, Due, Seat, Window, dues};

@@ -5,6 +5,7 @@ ghost use Rattle.reply_lines.specs.declared.replies.Outcome.{Outcome as OutcomeM
 ghost use Rattle.job_windows.specs.declared.seats.Seat.{Seat as SeatMeaning};
 ghost use Rattle.job_windows.specs.Windows.{need_by, AreInOrder, due_by};
 
+use crate::weights::{WORK_OF_A_WORKER, work_of};
 use held_values::Held;
 use job_lang::Op;
 use job_words::Name;
@@ -13,8 +14,8 @@ use reply_lines::Outcome;
 use std::alloc::Global;
 use std::collections::VecDeque;
 
-// So many bytes of lines are worth a worker of their own: the work that they tell of takes several times as long as starting a thread.
-const BYTES_OF_A_WORKER: u64 = 16_384;
+// To read so many bytes of a line and what they tell of is a unit of work.
+const BYTES_OF_A_UNIT: u64 = 16;
 
 /// What the line of a job asks for.
 #[derive(Drop)]
@@ -47,11 +48,6 @@ pub struct Due {
     pub held: Held,
 }
 
-// Whether the length of the line tells how much work there is at most: the operation reads what its line has, or compares two sequents.
-fn is_told_by_length(op: &Op) -> bool {
-    matches!(op, Op::Lk { .. } | Op::Problem { .. } | Op::Proves { .. })
-}
-
 impl Asks {
     /// What an operation is given that names the job.
     pub fn need(&self) -> Need<Held>
@@ -82,16 +78,14 @@ impl Window {
         self.seats.len()
     }
 
-    /// How many workers may be worth their threads, where the jobs' lines have so many bytes in all: one, and one more for each 16 KiB, and for
-    /// each job whose work can be any amount. The threads for a window of a few small proofs would take longer than its jobs.
+    /// How many workers may be worth their threads, where the jobs' lines have so many bytes in all: one, and one more for each 16 KiB and for
+    /// as much other work. The threads for a window of a few small proofs would take longer than its jobs.
     pub fn worthwhile_workers(&self, bytes: u64) -> u64 {
-        let mut workers = (bytes / BYTES_OF_A_WORKER).saturating_add(1);
+        let mut work = bytes / BYTES_OF_A_UNIT;
         for task in &self.tasks {
-            if !is_told_by_length(&task.job) {
-                workers = workers.saturating_add(1);
-            }
+            work = work.saturating_add(work_of(&self.tasks, task));
         }
-        workers
+        (work / WORK_OF_A_WORKER).saturating_add(1)
     }
 }
 

@@ -1,16 +1,19 @@
 //! The store of a session, and gathering the lines that are read into windows of jobs.
 ghost use Rattle.std.specs.Prelude.{◌≡◌, ◌+◌, ◌∷◌, ◌++◌, [], ℕ, List, IfOk, OnOk, Some, map, length, Ok, option_copied, ◌<◌, vec_capacity};
+ghost use Rattle.cut_elim.specs.declared.desk.Desk.{Desk};
+ghost use Rattle.cut_elim.specs.Desks.{IsDeskPassOf};
 ghost use Rattle.session_laws.specs.Answers.{Past, Lookup, name_of, run_read, run_line};
 ghost use Rattle.job_lang.specs.FormedOps.{IsFormedOp};
 ghost use Rattle.operation_laws.specs.Given.{names_in, base_name as base_of};
 ghost use Rattle.session_laws.specs.Jobs.{IsKept};
 ghost use Rattle.job_windows.specs.Windows.{needs_at, need_at as need_of_place, need_named, Adds, IsAsked};
-ghost use Rattle.job_windows.specs.Means.{HasPass, AreTasks, AreRunnable, IsStore, IsGathered, IsPending};
+ghost use Rattle.job_windows.specs.Means.{AreTasks, AreRunnable, IsStore, IsGathered};
 
 use crate::names::Names;
 use crate::reading::{Reading, read};
 use crate::seats::{Asks, Seat, Window};
-use cut_elim::{Desk, DeskPass};
+use crate::weights::same_elimination;
+use cut_elim::DeskPass;
 use held_values::{Held, base_name, name_at};
 use job_lang::{Job, Op};
 use job_words::Name;
@@ -18,58 +21,48 @@ use job_workers::{Need, Task};
 use reply_lines::Outcome;
 use std::alloc::{AllocError, Global};
 use std::mem::forget;
-use std::sync::Wait;
 use text_tables::FormulaTexts;
 
-/// The proofs of a session: the desk with the graph that they share, the names of jobs, and what each job holds, in their order. It can't be
-/// dropped, and is ended by `close` or `leave`.
+/// The proofs of a session over a desk, which others may work on too: a pass of the desk, the names of jobs, and what each job holds, in their
+/// order. It is ended by `close` or `leave`, which give the pass back.
 pub struct Store {
-    pub desk: Desk,
     pub pass: DeskPass,
     pub names: Names,
     pub held: Vec<Held>,
 }
 
 impl Store {
-    /// A store with no proof and no name. It takes a runtime since a desk that is given up where memory ran out has to be closed.
-    pub fn new<R: Wait>(rt: &R, alloc: Global) -> Result<Store, AllocError>
-        ensures { IfOk result (λ store. IsStore store []) }
+    /// A store with no name and nothing held, over the desk that the pass is of.
+    pub fn new(alloc: Global, pass: DeskPass) -> Store
+        ensures { (desk : Desk) → IsDeskPassOf desk pass → IsStore desk result [] }
     {
-        let (desk, pass) = Desk::new(rt, alloc)?;
-        Ok(Store {
-            desk,
+        Store {
             pass,
             names: Names::new(alloc),
             held: Vec::new(alloc),
-        })
+        }
     }
 
-    /// Ends the store with its desk.
-    pub fn close<R: Wait>(self, rt: &R)
-        requires { HasPass self }
+    /// Ends the store, and gives its pass back.
+    pub fn close(self) -> DeskPass
+        ensures { result ≡ self.pass }
     {
         let Store {
-            desk,
             pass,
             names: _names,
             held: _held,
         } = self;
-        desk.close(rt, pass);
+        pass
     }
 
     /// Ends the store as `close` does, but gives no memory back: for a process that ends next, which the system takes all memory from.
-    pub fn leave<R: Wait>(self, rt: &R)
-        requires { HasPass self }
+    pub fn leave(self) -> DeskPass
+        ensures { result ≡ self.pass }
     {
-        let Store {
-            desk,
-            pass,
-            names,
-            held,
-        } = self;
-        desk.leave(rt, pass);
+        let Store { pass, names, held } = self;
         forget(names);
         forget(held);
+        pass
     }
 
     // What stands for the job at a place: what it holds, or its task in the window.
@@ -125,8 +118,8 @@ impl Store {
             → IfOk result (λ asks. IsAsked self.now.names self.now.held.items window.old.seats.items window.new.tasks.items line asks) }
         ensures seats { window.new.seats ≡ window.old.seats }
         ensures adds { IfOk result (λ asks. Adds window.old.tasks.items window.new.tasks.items asks) }
-        ensures runs { AreRunnable self.now.desk self.now.held.items window.old.seats.items window.old.tasks.items → IsFormedOp op
-            → OnOk result (AreTasks self.now.desk window.new.tasks.items) }
+        ensures runs { (desk : Desk) → AreRunnable desk self.now.held.items window.old.seats.items window.old.tasks.items → IsFormedOp op
+            → OnOk result (AreTasks desk window.new.tasks.items) }
     {
         if self.names.is_taken(name.as_str()) {
             return Ok(Asks::Refused(Outcome::NameTaken));
@@ -134,7 +127,13 @@ impl Store {
         let place = window.tasks.len() as u64;
         let n = (self.held.len() + window.seats.len()) as u64 + 1;
         let needs = self.needs(alloc, window, &op)?;
-        window.tasks.push(Task { n, job: op, needs })?;
+        let after = same_elimination(&window.tasks, &op, &needs);
+        window.tasks.push(Task {
+            n,
+            job: op,
+            needs,
+            after,
+        })?;
         Ok(Asks::Run(place))
     }
 
@@ -152,8 +151,8 @@ impl Store {
             → IfOk result (λ seat. IsAsked self.now.names self.now.held.items window.old.seats.items window.new.tasks.items text seat.asks) }
         ensures seats { window.new.seats ≡ window.old.seats }
         ensures adds { IfOk result (λ seat. Adds window.old.tasks.items window.new.tasks.items seat.asks) }
-        ensures runs { AreRunnable self.now.desk self.now.held.items window.old.seats.items window.old.tasks.items
-            → OnOk result (AreTasks self.now.desk window.new.tasks.items) }
+        ensures runs { (desk : Desk) → AreRunnable desk self.now.held.items window.old.seats.items window.old.tasks.items
+            → OnOk result (AreTasks desk window.new.tasks.items) }
     {
         match read(alloc, texts, line)? {
             Reading::Job(Job { name, op }) => {
@@ -179,11 +178,11 @@ impl Store {
         line: Option<&[u8]>,
     ) -> Result<(), AllocError>
         requires kept { (text : List ℕ) × IsKept (option_copied line) text }
-        ensures gathered { (earlier : List Past) (lines : List (List ℕ)) (text : List ℕ) → IsGathered self.old window.old earlier lines
-            → IsKept (option_copied line.entry) text
-            → OnOk result (IsGathered self.new window.new earlier (lines ++ text ∷ [])) }
+        ensures gathered { (desk : Desk) (earlier : List Past) (lines : List (List ℕ)) (text : List ℕ)
+            → IsGathered desk self.old window.old earlier lines → IsKept (option_copied line.entry) text
+            → OnOk result (IsGathered desk self.new window.new earlier (lines ++ text ∷ [])) }
         ensures seats { OnOk result (length window.new.seats.items ≡ length window.old.seats.items + 1) }
-        ensures pass { HasPass self.old → HasPass self.new }
+        ensures pass { self.new.pass ≡ self.old.pass }
     {
         let place = self.held.len() + window.seats.len();
         let seat = self.seat(alloc, texts, window, line)?;
@@ -197,7 +196,7 @@ impl Store {
         requires room { length self.old.held.items < vec_capacity self.old.held }
         ensures kept { self.new.held.items ≡ self.old.held.items ++ held ∷ [] }
         ensures room { vec_capacity self.new.held ≡ vec_capacity self.old.held }
-        ensures same { (self.new.desk ≡ self.old.desk) × (self.new.pass ≡ self.old.pass) × (self.new.names ≡ self.old.names) }
+        ensures same { (self.new.pass ≡ self.old.pass) × (self.new.names ≡ self.old.names) }
     {
         self.held.push_reserved(held);
     }

@@ -8,6 +8,7 @@ use Rattle.job_words.proofs.names.Name.TheSendSync as name
 use Rattle.job_words.proofs.formed.SymbolName.TheSendSync as symbol
 use Rattle.job_words.proofs.texts.Utf8Text.TheSendSync as text
 use Rattle.job_words.proofs.texts.Utf8Texts.TheSendSync as texts
+use Rattle.job_words.specs.contracts.clauses.ClauseList as clauses
 use Rattle.job_words.specs.contracts.formed.FormedFormula as formula
 use Rattle.job_words.specs.contracts.steps.RefutationSteps as refutation
 use Rattle.job_words.specs.contracts.steps.Steps as steps
@@ -39,6 +40,12 @@ refutation_send = search (sendable, std.crosses, res_step_send) depth 20
 pub refutation_sync : IsSync refutation.the_row
 refutation_sync = search (sendable, std.crosses, res_step_sync) depth 20
 
+pub clauses_send : IsSend clauses.the_row
+clauses_send = search (sendable, std.crosses, rules.crosses) depth 20
+
+pub clauses_sync : IsSync clauses.the_row
+clauses_sync = search (sendable, std.crosses, rules.crosses) depth 20
+
 pub formula_send : IsSend formula.the_row
 formula_send = search (sendable, rules.crosses) depth 20
 
@@ -50,6 +57,8 @@ pub ruleset crosses = (
   steps_sync,
   refutation_send,
   refutation_sync,
+  clauses_send,
+  clauses_sync,
   formula_send,
   formula_sync,
   cause.the_field_send,

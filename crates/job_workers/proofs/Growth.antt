@@ -11,7 +11,7 @@ use Rattle.job_workers.specs.declared.tasks.Need.{Need}
 use Rattle.job_workers.specs.declared.tasks.Need.TheVariants.{Value, Task as OfTask}
 use Rattle.job_workers.specs.declared.tasks.Task.{Task}
 use Rattle.job_workers.specs.Events.{takes, is_taken, put_of, is_done}
-use Rattle.job_workers.specs.Needs.{is_met, meaning_of, AreGiven, IsAnswerAt}
+use Rattle.job_workers.specs.Needs.{is_met, follows, meaning_of, AreGiven, IsAnswerAt}
 use Rattle.job_workers.specs.Machine.{IsMet}
 
 -- the first of two answers
@@ -64,6 +64,11 @@ met_stays old new more (OfTask place ∷ needs) h = both (old place) (new place)
     both true b c d first rest h = rw (first refl) (rest h)
     both false b c d first rest h = absurd cc
 
+-- so does what a task follows
+follows_stays : (old new : ℕ → Bool) → ((place : ℕ) → old place ≡ true → new place ≡ true) → (after : Option ℕ) → follows old after ≡ true → follows new after ≡ true
+follows_stays old new more None h = h
+follows_stays old new more (Some place) h = more place h
+
 -- what is given stays where each answer does
 module _ {H P S : Type 0} (sense : H → S) (old new : ℕ → Option (P × H)) (more : (place : ℕ) (answer : P × H) → old place ≡ Some answer → new place ≡ Some answer) where
   meaning_stays : (need : Need H) (s : S) → meaning_of sense old need ≡ Some s → meaning_of sense new need ≡ Some s
@@ -101,4 +106,5 @@ module _ {J H P : Type 0} (tasks : List (Task J H)) (events rest : List (Event P
     task = h.task;
     there = h.there;
     met = met_stays (λ n. is_done n events) (λ n. is_done n (events ++ rest)) (done_stays events rest) h.task.needs.items h.met;
+    followed = follows_stays (λ n. is_done n events) (λ n. is_done n (events ++ rest)) (done_stays events rest) h.task.after h.followed;
   }

@@ -6,16 +6,17 @@ use Rattle.job_workers.specs.declared.events.Event.{Event}
 use Rattle.job_workers.specs.declared.events.Event.TheVariants.{Take, Put}
 use Rattle.job_workers.specs.declared.tasks.Task.{Task}
 use Rattle.job_workers.specs.Events.{is_taken, is_done, put_of}
-use Rattle.job_workers.specs.Needs.{is_met, IsAnswerAt, AreAnswers}
+use Rattle.job_workers.specs.Needs.{is_met, follows, IsAnswerAt, AreAnswers}
 
 module _ {J H P : Type 0} (tasks : List (Task J H)) where
-  -- all needs of the task are done
+  -- all needs of the task are done, and so is the task that it follows
   pub record IsMet (events : List (Event P H)) (place : ℕ) : Type 0 where
     pub task : Task J H
     pub there : slice_get tasks place ≡ Some task
     pub met : list_all (is_met (λ n. is_done n events)) task.needs.items ≡ true
+    pub followed : follows (λ n. is_done n events) task.after ≡ true
 
-  -- the task waits, and all its needs are done
+  -- the task waits, and may begin
   abbrev pub IsReady : List (Event P H) → ℕ → Type 0
   IsReady events place = (is_taken place events ≡ false) × IsMet events place
 

@@ -1,16 +1,25 @@
 -- What a task is given, and which answers belong to it.
-use Rattle.std.specs.Prelude.{◌≡◌, ℕ, ◌<◌, Bool, true, List, length, map, slice_get, slice_index_or, Option, Some}
+use Rattle.std.specs.Prelude.{◌≡◌, ℕ, ◌<◌, ◌&&◌, Bool, true, List, length, map, slice_get, slice_index_or, Option, Some, None}
 use Rattle.std.specs.Option.{option_map}
-use Rattle.std.specs.List.{All}
+use Rattle.std.specs.List.{All, list_all}
 use Rattle.job_workers.specs.declared.tasks.Need.{Need}
 use Rattle.job_workers.specs.declared.tasks.Need.TheVariants.{Value, Task as OfTask}
 use Rattle.job_workers.specs.declared.tasks.Task.{Task}
+
+-- the task that a task follows is done, where it follows one
+abbrev pub follows : (ℕ → Bool) → Option ℕ → Bool
+follows done None = true
+follows done (Some place) = done place
 
 module _ {H : Type 0} where
   -- a need by value is met, and a need by task is where that task is done
   abbrev pub is_met : (ℕ → Bool) → Need H → Bool
   is_met done (Value held) = true
   is_met done (OfTask place) = done place
+
+  -- all needs of a task are met, and the task that it follows is done
+  abbrev pub may_begin : {J : Type 0} → (ℕ → Bool) → Task J H → Bool
+  may_begin done task = list_all (is_met done) task.needs.items && follows done task.after
 
   -- the task at this place needs earlier tasks alone
   abbrev pub IsBefore : ℕ → Need H → Type 0

@@ -69,8 +69,8 @@ impl<R: Runner> BoardOf<R::Job, R::Held, TurnLog<Desk<R>>> {
         Ok((BoardOf { tasks, log }, pass))
     }
 
-    /// Takes the first waiting task all of whose needs are done, with copies of the values that it is given. `None` where no waiting task
-    /// is ready at this turn. Without memory for the copies the turn changes nothing.
+    /// Takes the first waiting task all of whose needs are done, and the task that it follows, with copies of the values that it is given.
+    /// `None` where no waiting task is ready at this turn. Without memory for the copies the turn changes nothing.
     pub fn take<W: Wait>(
         &self,
         rt: &W,

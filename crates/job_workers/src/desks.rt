@@ -84,7 +84,7 @@ impl<R: Runner> Desk<R> {
         })
     }
 
-    // Takes the first waiting task all of whose needs are done.
+    // Takes the first waiting task that may begin.
     pub(crate) fn take_ready(
         &mut self,
         alloc: Global,
@@ -106,7 +106,12 @@ impl<R: Runner> Desk<R> {
         };
         let given = gather(alloc, runner, self.records.slots(), &tasks[place].needs)?;
         self.records.take(place);
-        Ok(Some(Ticket { place, given }))
+        let has_more = self.records.first_ready(tasks).is_some();
+        Ok(Some(Ticket {
+            place,
+            given,
+            has_more,
+        }))
     }
 
     // Marks the ticket's task as done, unless it is.
@@ -120,7 +125,11 @@ impl<R: Runner> Desk<R> {
         ensures done { is_done (place_of ticket) self.new.events ≡ true }
         ensures put { MatchBool (is_done (place_of ticket) self.old.events) (self.new.events ≡ self.old.events) (self.new.events ≡ self.old.events ++ Put (place_of ticket) reply held ∷ []) }
     {
-        let Ticket { place, given: _ } = ticket;
+        let Ticket {
+            place,
+            given: _,
+            has_more: _,
+        } = ticket;
         self.records.put(place, reply, held);
     }
 

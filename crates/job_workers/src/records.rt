@@ -2,7 +2,7 @@
 ghost use Rattle.std.specs.Prelude.{◌≡◌, ◌≢◌, ℕ, ◌+◌, ◌*◌, ◌<◌, ◌≤◌, ◌^◌, false, List, [], ◌∷◌, ◌++◌, length, map, None, IfOk, MatchBool, MatchOption, replicate, vec_capacity};
 ghost use Rattle.job_workers.specs.Events.{is_taken, is_done, put_of};
 
-use crate::given::are_met;
+use crate::given::may_begin;
 use crate::tasks::Task;
 use std::alloc::{AllocError, Global};
 use std::marker::Model;
@@ -100,13 +100,13 @@ impl<P: Drop, H: Drop> Records<P, H> {
         slots
     }
 
-    // The first waiting task all of whose needs are done.
+    // The first waiting task that may begin.
     pub fn first_ready<J>(&self, tasks: &[Task<J, H>]) -> Option<usize>
         requires { length tasks.now ≡ self.now.tasks }
         ensures { MatchOption result (IsIdle tasks.now self.now.events) (IsFirstReady tasks.now self.now.events) }
     {
         for (place, task) in tasks.iter().enumerate() {
-            if !self.is_taken(place) && are_met(self.slots(), &task.needs) {
+            if !self.is_taken(place) && may_begin(self.slots(), task) {
                 return Some(place);
             }
         }

@@ -18,4 +18,7 @@ pub struct Task<J, H> {
     pub job: J,
     /// What the job is given, in order.
     pub needs: Vec<Need<H>>,
+    /// The place of an earlier task whose work this one finds done, if there is one. It isn't begun before that one is done, so that no two
+    /// workers do the same at the same time.
+    pub after: Option<u64>,
 }

@@ -5,6 +5,8 @@ ghost use Rattle.std.specs.Prelude.{◌≡◌};
 pub struct Ticket<H> {
     pub(crate) place: usize,
     pub(crate) given: Vec<H>,
+    // Whether another task was ready when this one was taken.
+    pub(crate) has_more: bool,
 }
 
 impl<H> Ticket<H> {

@@ -97,8 +97,8 @@ fn unwrap_all<T: Drop>(slots: Vec<Option<T>>, mut answers: Vec<T>) -> Vec<T>
 }
 
 /// Runs the tasks of a window by so many workers at most, and answers each task's reply and the value that it holds, in the order of the
-/// tasks. A worker takes the first task whose needs are done. Where there is none, or no memory to take it, it waits until another worker has
-/// done a task, and leaves once no other one is at work or it has waited often. What the workers have left the caller runs in the end, in
+/// tasks. A worker takes the first task that may begin. Where there is none, or no memory to take it, it rests until another worker has
+/// seen one that is ready, and leaves once no other one is at work. What the workers have left the caller runs in the end, in
 /// order. Whoever runs a job passes the gate first. One worker is the caller with its own pass, and each other one has a pass that is split
 /// from its starter's, and a thread with a large stack. Before a worker takes its first task it starts the next worker, where a task waits
 /// that nobody has taken: so cheap tasks are done before many threads have begun, and costly ones soon have all workers. Where no thread can

@@ -21,9 +21,8 @@ const STACK_SIZE: usize = 1 << 30;
 // The bytes of stack where the system refuses a thread with that many.
 const SMALL_STACK_SIZE: usize = 64 << 20;
 
-// How often a worker waits in a window before it leaves. The bound keeps the cost of waking workers small where each task needs the one before
-// it, so that more than one can't be run at a time.
-const MOST_WAITS: u64 = 4;
+// How often, for each task of a window, a worker looks for a task before it leaves: more often than it is woken.
+const ROUNDS_OF_A_TASK: usize = 4;
 
 // What a worker promises: the passes that it gives back are of the board, and fit the runner's home.
 #[derive(Drop)]
@@ -55,6 +54,7 @@ fn step<W: Threads + Wait + Sync, R: Runner, G: Gate>(
     board: &Board<R>,
     runner: &R,
     gate: &G,
+    progress: &Progress,
     mine: &mut BoardPass<R>,
     pass: &mut R::Pass,
 ) -> bool
@@ -67,6 +67,7 @@ fn step<W: Threads + Wait + Sync, R: Runner, G: Gate>(
     let Ok(Some(ticket)) = board.take(rt, alloc, runner, mine) else {
         return false;
     };
+    progress.note_taken(rt, ticket.has_more);
     let task = board.task(&ticket);
     gate.pass(task.n);
     let (reply, held) = runner.run(rt, alloc, pass, &task.job, ticket.given());
@@ -74,7 +75,7 @@ fn step<W: Threads + Wait + Sync, R: Runner, G: Gate>(
     true
 }
 
-// One worker. Where it finds no task ready it waits until another worker has done one, and leaves once none is busy or it has waited often.
+// One worker. Where it finds no task ready it rests until another worker has seen one that is, and leaves once none is busy.
 fn work<W: Threads + Wait + Sync, R: Runner, G: Gate>(
     rt: &W,
     alloc: Global,
@@ -91,18 +92,16 @@ fn work<W: Threads + Wait + Sync, R: Runner, G: Gate>(
     ensures mine { IsPassOf R.sense R.Belongs board.now result.0 }
     ensures pass { R.PassFits (R.home runner.now) result.1 }
 {
-    let mut waits = 0;
-    for _ in 0..board.count() {
-        let seen = progress.begin(rt);
-        let has_done = step(rt, alloc, board, runner, gate, &mut mine, &mut pass);
-        progress.end(rt, has_done);
-        if !has_done {
-            if waits >= MOST_WAITS || !progress.wait(rt, seen) {
-                break;
-            }
-            waits += 1;
+    progress.begin(rt);
+    for _ in 0..board.count().saturating_mul(ROUNDS_OF_A_TASK) {
+        let has_done = step(
+            rt, alloc, board, runner, gate, progress, &mut mine, &mut pass,
+        );
+        if !has_done && !progress.rest(rt) {
+            return (mine, pass);
         }
     }
+    progress.end(rt);
     (mine, pass)
 }
 

@@ -11,14 +11,16 @@ use Rattle.job_lang.specs.declared.jobs.Op.{Op}
 use Rattle.job_lang.specs.declared.jobs.Op.TheVariants as ops
 use Rattle.job_lang.specs.FormedOps.{IsFormedOp}
 use Rattle.operation_laws.specs.Values.{Value, IsSound}
-use Rattle.operation_laws.specs.Answers.{Product, problem, steps, nodes, product, Asked, one as answering, elimination as reached_from, satisfiability, May}
+use Rattle.operation_laws.specs.Answers.{Product, problem, steps, nodes, product, Asked, one as answering, elimination as reached_from, satisfiability, saturation, May}
 use Rattle.operation_laws.specs.Given.{names_in, Found, found, ToShow, of_proof, of_expansion, shown_given, proof_given, problem_given, expansion_given, definitions_given, first_of, second_of}
 use Rattle.operation_laws.specs.Running.{lists, run}
 use Rattle.operation_laws.specs.Claims.{IsFoundAnd, GivenProof, GivenProblem, GivenExpansion, GivenBoth, IsListOf, Lists, Claims}
 use Rattle.operation_laws.proofs.Making.{found_valid, found_read, over_made, over_both_made, subst_made, cutelim_made, resolution_made, tautology_made, expansion_made, first_sound}
 use Rattle.operation_laws.proofs.Defined.{lk_made, define_made, unfold_made}
-use Rattle.operation_laws.proofs.Solved.{asks_solution, solves_unanswered, solved}
-use Rattle.operation_laws.proofs.Freed.{of_one, inside, eliminates_unanswered, asks_elimination, freed}
+use Rattle.operation_laws.proofs.Solved.{solves_unanswered, solved}
+use Rattle.operation_laws.proofs.Saturated.{saturates_unanswered, ended}
+use Rattle.operation_laws.proofs.Asking.{IsAskedBy, asked_by}
+use Rattle.operation_laws.proofs.Freed.{of_one, inside, eliminates_unanswered, freed}
 use Rattle.operation_laws.proofs.Interpolated.{interpolation_made}
 use Rattle.operation_laws.proofs.Trees.{expand_made, fromexp_made}
 use Rattle.operation_laws.proofs.Introduced.{herbrand_made, cutintro_made}
@@ -88,6 +90,7 @@ answer_claimed rightly (ops.Define symbol vars body using) vs made formed count 
 answer_claimed rightly (ops.Unfold of) vs made formed count sound is =
     let it = unfold_made rightly.unfolds of (first_of vs) made (first_sound vs sound) (inside _ _ is) in given_proof of vs it.0 _ count it.1 it.2
 answer_claimed rightly (ops.Sat of) vs made formed count sound is = absurd (solves_unanswered (problem_given of (first_of vs)) made is)
+answer_claimed rightly (ops.Prove of n) vs made formed count sound is = absurd (saturates_unanswered n (problem_given of (first_of vs)) made is)
 answer_claimed rightly (ops.Resolution of list) vs made formed count sound is =
     let it = resolution_made of list (first_of vs) made formed (first_sound vs sound) (inside _ _ is) in given_problem of vs it.0 _ count it.1 it.2
 answer_claimed rightly (ops.Tautology s n) vs made formed count sound is = tautology_made s n made formed (inside _ _ is)
@@ -110,17 +113,25 @@ claimed rightly op vs made formed count sound may = by_asked (run op vs) refl ma
     by_asked : (asked : Asked) → run op vs ≡ asked → May asked (product made) → Claims op vs made
     by_asked (answering a) is may = answer_claimed rightly op vs made formed count sound (is ∙ ap answering (of_one a made may))
     by_asked (reached_from t) is (inl reached) =
-        let asked = asks_elimination op vs t is in
+        let asked = subst (IsAskedBy op vs) is (asked_by op vs) in
         let of = asked.0 in
         let counted : length vs ≡ 1 = count ∙ ap (λ (o : Op). length (names_in o)) asked.1 in
         subst (λ (o : Op). Claims o vs made) (sym asked.1)
         (given_proof of vs t _ counted asked.2 (freed t made (found_valid of (first_of vs) t (first_sound vs sound) asked.2) reached))
     by_asked (reached_from t) is (inr none) = cc
     by_asked (satisfiability cs) is may =
-        let asked = asks_solution op vs cs is in
+        let asked = subst (IsAskedBy op vs) is (asked_by op vs) in
         let of = asked.0 in
         let given = asked.2 in
         let p = given.0 in
         let counted : length vs ≡ 1 = count ∙ ap (λ (o : Op). length (names_in o)) asked.1 in
         let it = solved p made (found_read of (first_of vs) p (first_sound vs sound) given.1) given.2.closed (subst (λ ds. May (satisfiability ds) (product made)) (sym given.2.are) may) in
+        subst (λ (o : Op). Claims o vs made) (sym asked.1) (given_problem of vs p _ counted given.1 it)
+    by_asked (saturation cs n) is may =
+        let asked = subst (IsAskedBy op vs) is (asked_by op vs) in
+        let of = asked.0 in
+        let given = asked.2 in
+        let p = given.0 in
+        let counted : length vs ≡ 1 = count ∙ ap (λ (o : Op). length (names_in o)) asked.1 in
+        let it = ended p n made (found_read of (first_of vs) p (first_sound vs sound) given.1) given.2.closed (subst (λ ds. May (saturation ds n) (product made)) (sym given.2.are) may) in
         subst (λ (o : Op). Claims o vs made) (sym asked.1) (given_problem of vs p _ counted given.1 it)

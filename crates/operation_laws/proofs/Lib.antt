@@ -11,4 +11,6 @@ pub mod OneAnswer
 pub mod Defined
 pub mod Freed
 pub mod Solved
+pub mod Saturated
+pub mod Asking
 pub mod Examples

@@ -1,5 +1,5 @@
 -- What may be answered to an operation is one answer, beside want of memory.
-use Rattle.std.proofs.Common.{◌≡◌, ◌⊎◌, ℕ, ◌+◌, true, List, map, Option, Some, Result, Ok, sym, ap, ◌∙◌, subst, inl, inr, arith}
+use Rattle.std.proofs.Common.{◌≡◌, ◌⊎◌, ℕ, ◌+◌, true, false, List, map, Option, Some, Result, Ok, sym, ap, ◌∙◌, subst, inl, inr, arith}
 use Rattle.proof_trees.specs.Trees.{Tree}
 use Rattle.cut_laws.specs.Elimination.{Reaches, elimination}
 use Rattle.cut_laws.proofs.Reached.{least_reached}
@@ -10,14 +10,17 @@ use Rattle.ground_laws.specs.Steps.{res_step}
 use Rattle.job_lang.specs.declared.jobs.Op.{Op}
 use Rattle.job_lang.specs.declared.jobs.Op.TheVariants as ops
 use Rattle.reply_lines.specs.declared.replies.Outcome.{Outcome}
+use Rattle.reply_lines.specs.Replies.{is_ok_outcome}
 use Rattle.reply_lines.specs.OneLine.{is_want}
 use Rattle.reply_lines.specs.Shown.{AreAlike}
 use Rattle.reply_lines.proofs.Telling.{same_want, same_model, same_refutation, kept_apart}
+use Rattle.reply_lines.proofs.TellingRounds.{same_ok, same_saturated, same_refuted, kept_unsaturated}
+use Rattle.operation_laws.specs.declared.refusals.Failure.TheVariants.{Rounds}
 use Rattle.operation_laws.specs.Values.{Value}
-use Rattle.operation_laws.specs.Answers.{reduced, model, refutation, Answer, refused, failed, lacking, product, shown, capped, Asked, one, elimination as reached_from, satisfiability, OrLacking, IsModelOf, IsRefutationOf, May}
+use Rattle.operation_laws.specs.Answers.{Product, reduced, model, refutation, derivation, saturated, Answer, refused, failed, lacking, product, shown, capped, Asked, one, elimination as reached_from, satisfiability, saturation, OrLacking, IsModelOf, IsRefutationOf, IsRefutedIn, IsSaturatedIn, May}
 use Rattle.operation_laws.specs.Given.{Found, missing, wanting, found, proof_given, first_of}
 use Rattle.operation_laws.specs.Running.{to_eliminate, run, HasOneAnswer}
-use Rattle.operation_laws.proofs.Shows.{want_by, want_shown}
+use Rattle.operation_laws.proofs.Shows.{want_by, want_shown, product_ok}
 
 -- where it is one answer or want of memory, that tells which
 either : (p b c : Answer) → (b ≡ p) ⊎ (b ≡ lacking) → (c ≡ p) ⊎ (c ≡ lacking) → is_want (shown b) ≡ is_want (shown c) → b ≡ c
@@ -86,6 +89,44 @@ one_solution cs a b first (inr (inr none)) alike = lacks_both a b none alike
 one_solution cs a b (inr (inr none)) (inl m) alike = sym (lacks_both b a none (turned (shown a) (shown b) alike))
 one_solution cs a b (inr (inr none)) (inr (inl r)) alike = sym (lacks_both b a none (turned (shown a) (shown b) alike))
 
+-- the same of refutations that rounds reach and of clauses that they end with; and neither is alike to the failure of rounds
+one_refuted : (cs : List Clause) (n : ℕ) (a b : Answer) (r : IsRefutedIn cs n a) (q : IsRefutedIn cs n b) → AreAlike (shown a) (shown b) → a ≡ b
+one_refuted cs n a b r q alike =
+    let same : r.steps ≡ q.steps = same_refuted r.steps q.steps r.shown q.shown (moved a b (product (derivation r.steps r.tree)) (product (derivation q.steps q.tree)) r.is q.is alike) in
+    let trees : r.tree ≡ q.tree = one_tree r.tree q.tree (sym r.stands ∙ (ap (refutation_of cs) same ∙ q.stands)) in
+    let both : product (derivation r.steps r.tree) ≡ product (derivation q.steps q.tree) = λ i. product (derivation (same i) (trees i)) in
+    r.is ∙ (both ∙ sym q.is)
+
+one_saturated : (cs : List Clause) (n : ℕ) (a b : Answer) (k : IsSaturatedIn cs n a) (j : IsSaturatedIn cs n b) → AreAlike (shown a) (shown b) → a ≡ b
+one_saturated cs n a b k j alike =
+    let same = same_saturated k.clauses j.clauses k.shown j.shown (moved a b (product (saturated k.clauses)) (product (saturated j.clauses)) k.is j.is alike) in
+    k.is ∙ (ap (λ x. product (saturated x)) same ∙ sym j.is)
+
+not_saturated : (cs : List Clause) (n : ℕ) (a b : Answer) → IsSaturatedIn cs n a → IsRefutedIn cs n b → AreAlike (shown a) (shown b) → ⊥
+not_saturated cs n a b k r alike =
+    kept_unsaturated k.clauses r.steps r.shown (moved a b (product (saturated k.clauses)) (product (derivation r.steps r.tree)) k.is r.is alike)
+
+not_failed : (a b : Answer) (p : Product) → a ≡ product p → b ≡ failed Rounds → AreAlike (shown a) (shown b) → ⊥
+not_failed a b p is as_well alike = let ok = sym (product_ok a p is) ∙ (same_ok (shown a) (shown b) alike ∙ ap (λ c. is_ok_outcome (shown c)) as_well) in no_ok ok
+  where
+    no_ok : true ≡ false → ⊥
+    no_ok e = cc
+
+one_saturation : (cs : List Clause) (n : ℕ) (a b : Answer) → May (saturation cs n) a → May (saturation cs n) b → AreAlike (shown a) (shown b) → a ≡ b
+one_saturation cs n a b (inl r) (inl q) alike = one_refuted cs n a b r q alike
+one_saturation cs n a b (inl r) (inr (inl k)) alike = absurd (not_saturated cs n b a k r (turned (shown a) (shown b) alike))
+one_saturation cs n a b (inl r) (inr (inr (inl u))) alike = absurd (not_failed a b (derivation r.steps r.tree) r.is u.is alike)
+one_saturation cs n a b (inr (inl k)) (inl r) alike = absurd (not_saturated cs n a b k r alike)
+one_saturation cs n a b (inr (inl k)) (inr (inl j)) alike = one_saturated cs n a b k j alike
+one_saturation cs n a b (inr (inl k)) (inr (inr (inl u))) alike = absurd (not_failed a b (saturated k.clauses) k.is u.is alike)
+one_saturation cs n a b (inr (inr (inl u))) (inl r) alike = absurd (not_failed b a (derivation r.steps r.tree) r.is u.is (turned (shown a) (shown b) alike))
+one_saturation cs n a b (inr (inr (inl u))) (inr (inl k)) alike = absurd (not_failed b a (saturated k.clauses) k.is u.is (turned (shown a) (shown b) alike))
+one_saturation cs n a b (inr (inr (inl u))) (inr (inr (inl w))) alike = u.is ∙ sym w.is
+one_saturation cs n a b first (inr (inr (inr none))) alike = lacks_both a b none alike
+one_saturation cs n a b (inr (inr (inr none))) (inl r) alike = sym (lacks_both b a none (turned (shown a) (shown b) alike))
+one_saturation cs n a b (inr (inr (inr none))) (inr (inl k)) alike = sym (lacks_both b a none (turned (shown a) (shown b) alike))
+one_saturation cs n a b (inr (inr (inr none))) (inr (inr (inl u))) alike = sym (lacks_both b a none (turned (shown a) (shown b) alike))
+
 one_eliminated : (t : Tree) (a b : Answer) → May (reached_from t) a → May (reached_from t) b → is_want (shown a) ≡ is_want (shown b) → a ≡ b
 one_eliminated t a b (inl is) (inl as_well) same = is.is ∙ one_reached t is.tree as_well.tree is.steps as_well.steps is.reached as_well.reached ∙ sym as_well.is
 one_eliminated t a b (inr is) (inr as_well) same = is ∙ sym as_well
@@ -96,17 +137,20 @@ pub one_answer : (asked : Asked) (a b : Answer) → May asked a → May asked b 
 one_answer (one p) a b first second alike = one_of_one p a b first second (same_want (shown a) (shown b) alike)
 one_answer (reached_from t) a b first second alike = one_eliminated t a b first second (same_want (shown a) (shown b) alike)
 one_answer (satisfiability cs) a b first second alike = one_solution cs a b first second alike
+one_answer (saturation cs n) a b first second alike = one_saturation cs n a b first second alike
 
 -- where there is one, want of memory tells it
 abbrev IsDetermined : Asked → Type 0
 IsDetermined (one a) = Unit {0}
 IsDetermined (reached_from t) = Unit {0}
 IsDetermined (satisfiability cs) = ⊥
+IsDetermined (saturation cs n) = ⊥
 
 one_by : (asked : Asked) (a b : Answer) → IsDetermined asked → May asked a → May asked b → is_want (shown a) ≡ is_want (shown b) → a ≡ b
 one_by (one p) a b determined first second same = one_of_one p a b first second same
 one_by (reached_from t) a b determined first second same = one_eliminated t a b first second same
 one_by (satisfiability cs) a b determined first second same = absurd determined
+one_by (saturation cs n) a b determined first second same = absurd determined
 
 eliminates_determined : (f : Found Tree) → IsDetermined (to_eliminate f)
 eliminates_determined (missing r) = tt
@@ -125,6 +169,7 @@ is_determined (ops.Eliminate of) vs has = eliminates_determined (proof_given of 
 is_determined (ops.Define symbol vars body using) vs has = tt
 is_determined (ops.Unfold of) vs has = tt
 is_determined (ops.Sat of) vs has = absurd has
+is_determined (ops.Prove of n) vs has = absurd has
 is_determined (ops.Resolution of list) vs has = tt
 is_determined (ops.Tautology s n) vs has = tt
 is_determined (ops.Expansion flat n) vs has = tt

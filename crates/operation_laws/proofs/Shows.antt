@@ -4,8 +4,8 @@ use Rattle.reply_lines.specs.Replies.{is_ok_outcome}
 use Rattle.reply_lines.specs.OneLine.{is_want}
 use Rattle.operation_laws.specs.declared.refusals.Refusal.{Refusal}
 use Rattle.operation_laws.specs.declared.refusals.Refusal.TheVariants.{UnknownName, Kind, Empty, Step}
-use Rattle.operation_laws.specs.declared.refusals.Failure.TheVariants.{Budget, Unproved, Refutation, Quantified, Falsified, Node, Root, EigenTwice, EigenFree, Cycle, Cut, Defined, Partition, NotPrenex, TooMany, DefTwice, DefFree, DefLarge, NotGround}
-use Rattle.operation_laws.specs.Answers.{Product, proof, reduced, problem, proves, steps, sizes, expansion, nodes, interpolant, herbrand, introduced, definition, model, refutation, Answer, refused, failed, lacking, product, shown_refusal, shown}
+use Rattle.operation_laws.specs.declared.refusals.Failure.TheVariants.{Budget, Unproved, Refutation, Quantified, Falsified, Node, Root, EigenTwice, EigenFree, Cycle, Cut, Defined, Partition, NotPrenex, TooMany, DefTwice, DefFree, DefLarge, NotGround, Rounds}
+use Rattle.operation_laws.specs.Answers.{Product, proof, reduced, problem, proves, steps, sizes, expansion, nodes, interpolant, herbrand, introduced, definition, model, refutation, derivation, saturated, Answer, refused, failed, lacking, product, shown_refusal, shown}
 
 -- no refusal is want of memory
 refusal_is : (r : Refusal) → is_want (shown_refusal r) ≡ false
@@ -36,6 +36,7 @@ want_by (failed (DefTwice text)) want = cc
 want_by (failed (DefFree v)) want = cc
 want_by (failed DefLarge) want = cc
 want_by (failed (NotGround i)) want = cc
+want_by (failed Rounds) want = cc
 want_by lacking want = refl
 want_by (product (proof t)) want = cc
 want_by (product (reduced t n)) want = cc
@@ -51,6 +52,8 @@ want_by (product (introduced t b)) want = cc
 want_by (product (definition s f)) want = cc
 want_by (product (model atoms)) want = cc
 want_by (product (refutation list t)) want = cc
+want_by (product (derivation list t)) want = cc
+want_by (product (saturated ks)) want = cc
 
 pub want_shown : (a : Answer) → a ≡ lacking → is_want (shown a) ≡ true
 want_shown a is = ap (λ b. is_want (shown b)) is
@@ -84,6 +87,7 @@ ok_by (failed (DefTwice text)) ok = cc
 ok_by (failed (DefFree v)) ok = cc
 ok_by (failed DefLarge) ok = cc
 ok_by (failed (NotGround i)) ok = cc
+ok_by (failed Rounds) ok = cc
 ok_by lacking ok = cc
 ok_by (product p) ok = (p, refl)
 
@@ -102,6 +106,8 @@ shown_ok (introduced t b) = refl
 shown_ok (definition s f) = refl
 shown_ok (model atoms) = refl
 shown_ok (refutation list t) = refl
+shown_ok (derivation list t) = refl
+shown_ok (saturated ks) = refl
 
 pub product_ok : (a : Answer) (p : Product) → a ≡ product p → is_ok_outcome (shown a) ≡ true
 product_ok a p is = ap (λ b. is_ok_outcome (shown b)) is ∙ shown_ok p

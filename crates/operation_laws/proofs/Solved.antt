@@ -20,59 +20,12 @@ use Rattle.operation_laws.specs.Running.{has_closure, first_open, solves_ground,
 use Rattle.operation_laws.specs.Claims.{IsProofOf, ASolution, IsRefuted}
 use Rattle.operation_laws.proofs.Making.{read_clauses, closures_formed}
 
--- no other request is for a solution
-another : (a : Answer) (cs : List Clause) → one a ≡ satisfiability cs → ⊥
-another a cs is = cc
-
-eliminates_no_solution : (f : Found Tree) (cs : List Clause) → to_eliminate f ≡ satisfiability cs → ⊥
-eliminates_no_solution (missing r) cs is = cc
-eliminates_no_solution wanting cs is = cc
-eliminates_no_solution (found t) cs is = cc
-
--- a solution is asked for just where clauses without variables are found
-closed_by : (b : Bool) (cs ds : List Clause) → list_all has_closure cs ≡ b → cond b (satisfiability cs) (one lacking) ≡ satisfiability ds
-    → (cs ≡ ds) × (list_all has_closure cs ≡ true)
-closed_by true cs ds closed is = let same : cs ≡ ds = cc in (same, closed)
-closed_by false cs ds closed is = cc
-
-ground_by : (o : Option ℕ) (cs ds : List Clause) → solves_ground o cs ≡ satisfiability ds → (cs ≡ ds) × (list_all has_closure cs ≡ true)
-ground_by (Some i) cs ds is = cc
-ground_by None cs ds is = closed_by (list_all has_closure cs) cs ds refl is
-
--- the clauses of a problem
+-- the clauses of a problem, which have closures
 pub record AreClausesOf (p : Problem) (cs : List Clause) : Type 0 where
   pub are : clauses_of p.entries ≡ cs
   pub closed : list_all has_closure (clauses_of p.entries) ≡ true
 
-solves_found : (f : Found Problem) (cs : List Clause) → to_solve f ≡ satisfiability cs → (p : Problem) × (f ≡ found p) × AreClausesOf p cs
-solves_found (missing r) cs is = cc
-solves_found wanting cs is = cc
-solves_found (found p) cs is =
-    let by = ground_by (first_open (clauses_of p.entries)) (clauses_of p.entries) cs is in (p, refl, record { are = by.0; closed = by.1 })
-
-pub asks_solution : (op : Op) (vs : List (Option Value)) (cs : List Clause) → run op vs ≡ satisfiability cs
-    → (of : List ℕ) × (op ≡ ops.Sat of) × ((p : Problem) × (problem_given of (first_of vs) ≡ found p) × AreClausesOf p cs)
-asks_solution (ops.Lk list using) vs cs is = absurd (another _ _ is)
-asks_solution (ops.Problem p) vs cs is = absurd (another _ _ is)
-asks_solution (ops.Proves of goal) vs cs is = absurd (another _ _ is)
-asks_solution (ops.Show of) vs cs is = absurd (another _ _ is)
-asks_solution (ops.Measure of) vs cs is = absurd (another _ _ is)
-asks_solution (ops.Subst of m) vs cs is = absurd (another _ _ is)
-asks_solution (ops.Cutelim of n) vs cs is = absurd (another _ _ is)
-asks_solution (ops.Eliminate of) vs cs is = absurd (eliminates_no_solution (proof_given of (first_of vs)) cs is)
-asks_solution (ops.Define symbol vars body using) vs cs is = absurd (another _ _ is)
-asks_solution (ops.Unfold of) vs cs is = absurd (another _ _ is)
-asks_solution (ops.Sat of) vs cs is = (of, refl, solves_found (problem_given of (first_of vs)) cs is)
-asks_solution (ops.Resolution of list) vs cs is = absurd (another _ _ is)
-asks_solution (ops.Tautology s n) vs cs is = absurd (another _ _ is)
-asks_solution (ops.Expansion flat n) vs cs is = absurd (another _ _ is)
-asks_solution (ops.Expand of n) vs cs is = absurd (another _ _ is)
-asks_solution (ops.Fromexp of n) vs cs is = absurd (another _ _ is)
-asks_solution (ops.Interpolate of first second n) vs cs is = absurd (another _ _ is)
-asks_solution (ops.Herbrand of n) vs cs is = absurd (another _ _ is)
-asks_solution (ops.Cutintro of width n) vs cs is = absurd (another _ _ is)
-
--- what asks for a solution is no product, and no elimination
+-- what asks for a solution is no product
 ground_unanswered : (o : Option ℕ) (b : Bool) (cs : List Clause) (made : Product) → list_all has_closure cs ≡ b → solves_ground o cs ≡ one (product made) → ⊥
 ground_unanswered (Some i) b cs made closed is = cc
 ground_unanswered None true cs made closed is = let same : satisfiability cs ≡ one (product made) = sym (ap (λ c. cond c (satisfiability cs) (one lacking)) closed) ∙ is in cc
@@ -82,16 +35,6 @@ pub solves_unanswered : (f : Found Problem) (made : Product) → to_solve f ≡ 
 solves_unanswered (missing r) made is = cc
 solves_unanswered wanting made is = cc
 solves_unanswered (found p) made is = ground_unanswered (first_open (clauses_of p.entries)) (list_all has_closure (clauses_of p.entries)) (clauses_of p.entries) made refl is
-
-ground_no_elimination : (o : Option ℕ) (b : Bool) (cs : List Clause) (t : Tree) → list_all has_closure cs ≡ b → solves_ground o cs ≡ elimination t → ⊥
-ground_no_elimination (Some i) b cs t closed is = cc
-ground_no_elimination None true cs t closed is = let same : satisfiability cs ≡ elimination t = sym (ap (λ c. cond c (satisfiability cs) (one lacking)) closed) ∙ is in cc
-ground_no_elimination None false cs t closed is = let same : one lacking ≡ elimination t = sym (ap (λ c. cond c (satisfiability cs) (one lacking)) closed) ∙ is in cc
-
-pub solves_no_elimination : (f : Found Problem) (t : Tree) → to_solve f ≡ elimination t → ⊥
-solves_no_elimination (missing r) t is = cc
-solves_no_elimination wanting t is = cc
-solves_no_elimination (found p) t is = ground_no_elimination (first_open (clauses_of p.entries)) (list_all has_closure (clauses_of p.entries)) (clauses_of p.entries) t refl is
 
 -- a solution is what is claimed of it
 same_tree : (t u : Tree) → ◌≡◌ {A = Result Tree (ℕ × ResCause)} (Ok t) (Ok u) → t ≡ u

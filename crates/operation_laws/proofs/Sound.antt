@@ -19,14 +19,16 @@ use Rattle.job_lang.specs.declared.jobs.Op.TheVariants as ops
 use Rattle.job_lang.specs.FormedOps.{IsFormedOp}
 use Rattle.operation_laws.specs.Values.{Value, IsSound}
 use Rattle.operation_laws.specs.Values as values
-use Rattle.operation_laws.specs.Answers.{Product, proof, reduced, problem, proves, steps, sizes, expansion, nodes, interpolant, herbrand, introduced, definition, model, refutation, Answer, refused, failed, lacking, product, held_product, held, proofs_in, Asked, one as answering, elimination as reached_from, satisfiability, May}
+use Rattle.operation_laws.specs.Answers.{Product, proof, reduced, problem, proves, steps, sizes, expansion, nodes, interpolant, herbrand, introduced, definition, model, refutation, derivation, saturated, Answer, refused, failed, lacking, product, held_product, held, proofs_in, Asked, one as answering, elimination as reached_from, satisfiability, saturation, May}
 use Rattle.operation_laws.specs.Given.{ToShow, of_proof, of_expansion, shown_given, proof_given, problem_given, first_of, second_of}
 use Rattle.operation_laws.specs.Running.{lists, run}
-use Rattle.operation_laws.specs.Claims.{AProof, AReducedProof, AnExpansion, AnInterpolant, AHerbrandSequent, AnIntroduction, ADefinition, ASolution}
+use Rattle.operation_laws.specs.Claims.{AProof, AReducedProof, AnExpansion, AnInterpolant, AHerbrandSequent, AnIntroduction, ADefinition, ASolution, ASaturation}
 use Rattle.operation_laws.proofs.Making.{found_valid, found_read, over_made, over_both_made, subst_made, cutelim_made, resolution_made, tautology_made, expansion_made, first_sound}
 use Rattle.operation_laws.proofs.Defined.{lk_made, define_made, unfold_made}
-use Rattle.operation_laws.proofs.Solved.{asks_solution, solves_unanswered, solved}
-use Rattle.operation_laws.proofs.Freed.{of_one, inside, eliminates_unanswered, asks_elimination, freed}
+use Rattle.operation_laws.proofs.Solved.{solves_unanswered, solved}
+use Rattle.operation_laws.proofs.Saturated.{saturates_unanswered, ended}
+use Rattle.operation_laws.proofs.Asking.{IsAskedBy, asked_by}
+use Rattle.operation_laws.proofs.Freed.{of_one, inside, eliminates_unanswered, freed}
 use Rattle.operation_laws.proofs.Interpolated.{interpolation_made}
 use Rattle.operation_laws.proofs.Trees.{expand_made, fromexp_made}
 use Rattle.operation_laws.proofs.Introduced.{herbrand_made, cutintro_made}
@@ -51,6 +53,8 @@ proof_sound (introduced t b) P valid h = absurd h
 proof_sound (definition d f) P valid h = absurd h
 proof_sound (model atoms) P valid h = absurd h
 proof_sound (refutation list u) P valid h = absurd h
+proof_sound (derivation list u) P valid h = absurd h
+proof_sound (saturated ks) P valid h = absurd h
 
 reduced_sound : (made : Product) (P : Tree → ℕ → Type 0) → ((t : Tree) (n : ℕ) → P t n → IsValid t) → AReducedProof made P → IsSound (held_product made)
 reduced_sound (reduced t n) P valid h = valid t n h
@@ -67,6 +71,8 @@ reduced_sound (introduced t b) P valid h = absurd h
 reduced_sound (definition d f) P valid h = absurd h
 reduced_sound (model atoms) P valid h = absurd h
 reduced_sound (refutation list u) P valid h = absurd h
+reduced_sound (derivation list u) P valid h = absurd h
+reduced_sound (saturated ks) P valid h = absurd h
 
 -- expansion trees that are made are an expansion proof
 expansion_sound : (made : Product) (P : Expansion → Type 0) → ((x : Expansion) → P x → IsSound (values.expansion x)) → AnExpansion made P → IsSound (held_product made)
@@ -84,6 +90,8 @@ expansion_sound (introduced t b) P sound h = absurd h
 expansion_sound (definition d f) P sound h = absurd h
 expansion_sound (model atoms) P sound h = absurd h
 expansion_sound (refutation list u) P sound h = absurd h
+expansion_sound (derivation list u) P sound h = absurd h
+expansion_sound (saturated ks) P sound h = absurd h
 
 -- both proofs of an interpolant that is made are valid
 interpolant_sound : (made : Product) (P : Formula → Tree → Tree → Type 0) → ((f : Formula) (t u : Tree) → P f t u → IsValid t × IsValid u) → AnInterpolant made P
@@ -102,6 +110,8 @@ interpolant_sound (introduced t b) P valid h = absurd h
 interpolant_sound (definition d f) P valid h = absurd h
 interpolant_sound (model atoms) P valid h = absurd h
 interpolant_sound (refutation list u) P valid h = absurd h
+interpolant_sound (derivation list u) P valid h = absurd h
+interpolant_sound (saturated ks) P valid h = absurd h
 
 -- a Herbrand sequent is held by no job
 herbrand_sound : (made : Product) (P : ℕ → Sequent → Type 0) → AHerbrandSequent made P → IsSound (held_product made)
@@ -119,6 +129,8 @@ herbrand_sound (introduced t b) P h = absurd h
 herbrand_sound (definition d f) P h = absurd h
 herbrand_sound (model atoms) P h = absurd h
 herbrand_sound (refutation list u) P h = absurd h
+herbrand_sound (derivation list u) P h = absurd h
+herbrand_sound (saturated ks) P h = absurd h
 
 introduced_sound : (made : Product) (P : Tree → Bool → Type 0) → ((t : Tree) (b : Bool) → P t b → IsValid t) → AnIntroduction made P → IsSound (held_product made)
 introduced_sound (introduced t b) P valid h = valid t b h
@@ -135,6 +147,8 @@ introduced_sound (herbrand k s) P valid h = absurd h
 introduced_sound (definition d f) P valid h = absurd h
 introduced_sound (model atoms) P valid h = absurd h
 introduced_sound (refutation list u) P valid h = absurd h
+introduced_sound (derivation list u) P valid h = absurd h
+introduced_sound (saturated ks) P valid h = absurd h
 
 -- a symbol that is defined is well formed
 definition_sound : (made : Product) (P : Sym → Formula → Type 0) → ((s : Sym) (f : Formula) → P s f → IsFormedPred (pred s (defined f))) → ADefinition made P
@@ -153,12 +167,16 @@ definition_sound (herbrand k s) P formed h = absurd h
 definition_sound (introduced t b) P formed h = absurd h
 definition_sound (model atoms) P formed h = absurd h
 definition_sound (refutation list u) P formed h = absurd h
+definition_sound (derivation list u) P formed h = absurd h
+definition_sound (saturated ks) P formed h = absurd h
 
 -- the proof of a refutation that is made is valid
 solution_sound : (made : Product) (P : FormulaSet → Type 0) (Q : List ResStep → Tree → Type 0) → ((list : List ResStep) (t : Tree) → Q list t → IsValid t) → ASolution made P Q
     → IsSound (held_product made)
 solution_sound (model atoms) P Q valid h = tt
 solution_sound (refutation list t) P Q valid h = valid list t h
+solution_sound (derivation list t) P Q valid h = absurd h
+solution_sound (saturated ks) P Q valid h = absurd h
 solution_sound (proof t) P Q valid h = absurd h
 solution_sound (reduced t n) P Q valid h = absurd h
 solution_sound (problem p) P Q valid h = absurd h
@@ -171,6 +189,26 @@ solution_sound (interpolant f t u) P Q valid h = absurd h
 solution_sound (herbrand k s) P Q valid h = absurd h
 solution_sound (introduced t b) P Q valid h = absurd h
 solution_sound (definition s f) P Q valid h = absurd h
+
+-- the proof of a refutation that rounds reach is valid
+saturation_sound : (made : Product) (P : List Sequent → Type 0) (Q : List ResStep → Tree → Type 0) → ((list : List ResStep) (t : Tree) → Q list t → IsValid t) → ASaturation made P Q
+    → IsSound (held_product made)
+saturation_sound (derivation list t) P Q valid h = valid list t h
+saturation_sound (saturated ks) P Q valid h = tt
+saturation_sound (model atoms) P Q valid h = absurd h
+saturation_sound (refutation list t) P Q valid h = absurd h
+saturation_sound (proof t) P Q valid h = absurd h
+saturation_sound (reduced t n) P Q valid h = absurd h
+saturation_sound (problem p) P Q valid h = absurd h
+saturation_sound (proves b) P Q valid h = absurd h
+saturation_sound (steps list) P Q valid h = absurd h
+saturation_sound (sizes cuts distinct quants size) P Q valid h = absurd h
+saturation_sound (expansion x) P Q valid h = absurd h
+saturation_sound (nodes flat) P Q valid h = absurd h
+saturation_sound (interpolant f t u) P Q valid h = absurd h
+saturation_sound (herbrand k s) P Q valid h = absurd h
+saturation_sound (introduced t b) P Q valid h = absurd h
+saturation_sound (definition s f) P Q valid h = absurd h
 
 -- the product is this one
 is_sound : (this made : Product) → product this ≡ product made → IsSound (held_product this) → IsSound (held_product made)
@@ -200,6 +238,7 @@ answer_sound rightly (ops.Define symbol vars body using) vs made formed sound is
 answer_sound rightly (ops.Unfold of) vs made formed sound is =
     let it = unfold_made rightly.unfolds of (first_of vs) made (first_sound vs sound) (inside _ _ is) in proof_sound made _ (λ t h. h.right.valid) it.2
 answer_sound rightly (ops.Sat of) vs made formed sound is = absurd (solves_unanswered (problem_given of (first_of vs)) made is)
+answer_sound rightly (ops.Prove of n) vs made formed sound is = absurd (saturates_unanswered n (problem_given of (first_of vs)) made is)
 answer_sound rightly (ops.Resolution of list) vs made formed sound is =
     let it = resolution_made of list (first_of vs) made formed (first_sound vs sound) (inside _ _ is) in proof_sound made _ (λ t h. h.valid) it.2
 answer_sound rightly (ops.Tautology s n) vs made formed sound is = proof_sound made _ (λ t h. h.right.valid) (tautology_made s n made formed (inside _ _ is))
@@ -222,15 +261,21 @@ made_sound rightly op vs made formed sound may = by_asked (run op vs) refl may
     by_asked : (asked : Asked) → run op vs ≡ asked → May asked (product made) → IsSound (held_product made)
     by_asked (answering a) is may = answer_sound rightly op vs made formed sound (is ∙ ap answering (of_one a made may))
     by_asked (reached_from t) is (inl reached) =
-        let asked = asks_elimination op vs t is in
+        let asked = subst (IsAskedBy op vs) is (asked_by op vs) in
         reduced_sound made _ (λ u k h. h.right.valid) (freed t made (found_valid asked.0 (first_of vs) t (first_sound vs sound) asked.2) reached)
     by_asked (reached_from t) is (inr none) = cc
     by_asked (satisfiability cs) is may =
-        let asked = asks_solution op vs cs is in
+        let asked = subst (IsAskedBy op vs) is (asked_by op vs) in
         let given = asked.2 in
         let p = given.0 in
         solution_sound made _ _ (λ list t h. h.right.valid)
         (solved p made (found_read asked.0 (first_of vs) p (first_sound vs sound) given.1) given.2.closed (subst (λ ds. May (satisfiability ds) (product made)) (sym given.2.are) may))
+    by_asked (saturation cs n) is may =
+        let asked = subst (IsAskedBy op vs) is (asked_by op vs) in
+        let given = asked.2 in
+        let p = given.0 in
+        saturation_sound made _ _ (λ list t h. h.right.valid)
+        (ended p n made (found_read asked.0 (first_of vs) p (first_sound vs sound) given.1) given.2.closed (subst (λ ds. May (saturation ds n) (product made)) (sym given.2.are) may))
 
 -- each proof in what is made is valid
 pub proofs_valid : (made : Product) → IsSound (held_product made) → All IsValid (proofs_in made)
@@ -247,6 +292,8 @@ proofs_valid (herbrand k s) done = All-nil IsValid
 proofs_valid (definition d f) done = All-nil IsValid
 proofs_valid (model atoms) done = All-nil IsValid
 proofs_valid (refutation list t) valid = All-cons IsValid t [] valid (All-nil IsValid)
+proofs_valid (derivation list t) valid = All-cons IsValid t [] valid (All-nil IsValid)
+proofs_valid (saturated ks) done = All-nil IsValid
 proofs_valid (introduced t b) valid = All-cons IsValid t [] valid (All-nil IsValid)
 
 -- what is held is sound

@@ -12,14 +12,17 @@ use Rattle.fol.specs.Syntax.{pred, defined, Formula}
 use Rattle.lk_rules.specs.declared.sequent.Sequent.{Sequent}
 use Rattle.lk_rules.specs.Formulas.{FormulaSet}
 use Rattle.lk_rules.specs.declared.rule.Step.{Step}
+use Rattle.lk_rules.specs.Sequents.{empty}
 use Rattle.proof_trees.specs.Trees.{Tree, concl, cuts, quants}
 use Rattle.cut_laws.specs.Elimination.{Reaches}
 use Rattle.refutations.specs.declared.clause.Clause.{Clause}
 use Rattle.refutations.specs.declared.step.ResStep.{ResStep}
-use Rattle.refutations.specs.Refutations.{refutation as refutation_of}
+use Rattle.refutations.specs.Refutations.{refutation as refutation_of, AreFormedSteps}
 use Rattle.ground_laws.specs.declared.step.SatStep.{SatStep}
 use Rattle.ground_laws.specs.Models.{IsModel}
 use Rattle.ground_laws.specs.Steps.{IsRefutation, res_step, sequents_of}
+use Rattle.clause_laws.specs.Rounds.{IsClosed, Level}
+use Rattle.clause_laws.specs.Saturation.{IsSaturation}
 use Rattle.expansion_laws.specs.Dependency.{Expansion, strongs_of}
 use Rattle.expansion_laws.specs.Proofs.{shallow_sequent}
 use Rattle.exp_tree.specs.Instances.{instances_of}
@@ -29,19 +32,19 @@ use Rattle.reply_lines.specs.declared.replies.Outcome.{Outcome}
 use Rattle.reply_lines.specs.declared.replies.Outcome.TheVariants as outcomes
 use Rattle.reply_lines.specs.declared.replies.Summary.{Summary}
 use Rattle.reply_lines.specs.declared.replies.ExpSummary.{ExpSummary}
-use Rattle.reply_lines.specs.Shown.{IsShownFormula, IsShownStep}
+use Rattle.reply_lines.specs.Shown.{IsShownFormula, IsShownStep, IsShownClause}
 use Rattle.operation_laws.specs.declared.refusals.Refusal.{Refusal}
 use Rattle.operation_laws.specs.declared.refusals.Refusal.TheVariants.{UnknownName, Kind, Empty, Step as Faulty}
 use Rattle.operation_laws.specs.declared.refusals.Failure.{Failure}
-use Rattle.operation_laws.specs.declared.refusals.Failure.TheVariants.{Budget, Unproved, Refutation, Quantified, Falsified, Node, Root, EigenTwice, EigenFree, Cycle, Cut, Defined, Partition, NotPrenex, TooMany, DefTwice, DefFree, DefLarge, NotGround}
+use Rattle.operation_laws.specs.declared.refusals.Failure.TheVariants.{Budget, Unproved, Refutation, Quantified, Falsified, Node, Root, EigenTwice, EigenFree, Cycle, Cut, Defined, Partition, NotPrenex, TooMany, DefTwice, DefFree, DefLarge, NotGround, Rounds}
 use Rattle.operation_laws.specs.Values.{Value}
 use Rattle.operation_laws.specs.Values as values
 
 -- a proof, a proof that was met after a number of replacements, a problem, whether a proof proves a problem, the steps of a proof, the
 -- numbers of its cuts, of its nodes that differ, of its quantifier rules and of all its nodes, expansion trees, trees as a flat list, an
 -- interpolant with its two proofs, that of the first part first, a Herbrand sequent after the number of its tuples, a proof and whether it is
--- shorter than the given one, a symbol with the formula that it stands for, closed over its arguments, the atoms that are true in a model, or
--- the steps of a refutation with the proof that they stand for
+-- shorter than the given one, a symbol with the formula that it stands for, closed over its arguments, the atoms that are true in a model,
+-- the steps of a refutation of ground clauses, or of any clauses, with the proof that they stand for, or clauses that rounds of resolution end with
 pub data Product : Type 0 where
   proof : Tree → Product
   reduced : Tree → ℕ → Product
@@ -57,6 +60,8 @@ pub data Product : Type 0 where
   definition : Sym → Formula → Product
   model : FormulaSet → Product
   refutation : List ResStep → Tree → Product
+  derivation : List ResStep → Tree → Product
+  saturated : List Sequent → Product
 
 pub data Answer : Type 0 where
   refused : Refusal → Answer
@@ -102,6 +107,7 @@ shown_failure (DefTwice text) = outcomes.DefTwice text
 shown_failure (DefFree v) = outcomes.DefFree v
 shown_failure DefLarge = outcomes.DefLarge
 shown_failure (NotGround i) = outcomes.NotGround i
+shown_failure Rounds = outcomes.Rounds
 
 abbrev pub shown_product : Product → Outcome
 shown_product (proof t) = outcomes.Proof (summary_of t)
@@ -118,6 +124,8 @@ shown_product (introduced t b) = outcomes.Introduced (summary_of t) b
 shown_product (definition s f) = outcomes.Definition s.name s.arity f
 shown_product (model atoms) = outcomes.Satisfiable atoms
 shown_product (refutation list t) = outcomes.Unsatisfiable list
+shown_product (derivation list t) = outcomes.Refuted list
+shown_product (saturated ks) = outcomes.Saturated ks
 
 -- what is replied
 abbrev pub shown : Answer → Outcome
@@ -141,6 +149,8 @@ held_product (introduced t b) = values.proof t
 held_product (definition s f) = values.definition (pred s (defined f))
 held_product (model atoms) = values.nothing
 held_product (refutation list t) = values.proof t
+held_product (derivation list t) = values.proof t
+held_product (saturated ks) = values.nothing
 
 -- what the job holds
 abbrev pub held : Answer → Value
@@ -165,13 +175,17 @@ proofs_in (introduced t b) = t ∷ []
 proofs_in (definition s f) = []
 proofs_in (model atoms) = []
 proofs_in (refutation list t) = t ∷ []
+proofs_in (derivation list t) = t ∷ []
+proofs_in (saturated ks) = []
 
 -- What an operation asks for: one answer; a proof without cuts that is reached from a proof, after however many replacements, which no function
--- of the proof computes; or a model or a refutation of clauses, of which there are several. So relations say what these are.
+-- of the proof computes; a model or a refutation of clauses, of which there are several; or a refutation of clauses that a number of rounds of
+-- resolution reach, or clauses that these end with. So relations say what these are.
 pub data Asked : Type 0 where
   one : Answer → Asked
   elimination : Tree → Asked
   satisfiability : List Clause → Asked
+  saturation : List Clause → ℕ → Asked
 
 -- A refusal needs no memory; a failure and a product may give way to want of it.
 abbrev pub OrLacking : Answer → Answer → Type 0
@@ -203,8 +217,32 @@ pub record IsRefutationOf (cs : List Clause) (b : Answer) : Type 0 where
   pub shown : All IsShownStep (map res_step steps)
   pub is : b ≡ product (refutation (map res_step steps) tree)
 
+-- the rounds reach the empty clause, and it is a refutation, by steps that a line can tell, with the proof that these stand for
+pub record IsRefutedIn (cs : List Clause) (n : ℕ) (b : Answer) : Type 0 where
+  pub reached : Level (sequents_of cs) n empty
+  pub steps : List ResStep
+  pub formed : AreFormedSteps steps
+  pub tree : Tree
+  pub stands : refutation_of cs steps ≡ Ok tree
+  pub shown : All IsShownStep steps
+  pub is : b ≡ product (derivation steps tree)
+
+-- a further round adds nothing to these clauses, which a line can tell
+pub record IsSaturatedIn (cs : List Clause) (n : ℕ) (b : Answer) : Type 0 where
+  pub clauses : List Sequent
+  pub holds : IsSaturation (sequents_of cs) n clauses
+  pub shown : All IsShownClause clauses
+  pub is : b ≡ product (saturated clauses)
+
+-- the rounds don't reach the empty clause, and a further round would add clauses
+pub record IsUnfinished (cs : List Clause) (n : ℕ) (b : Answer) : Type 0 where
+  pub not_empty : ¬ Level (sequents_of cs) n empty
+  pub not_closed : ¬ IsClosed (Level (sequents_of cs) n)
+  pub is : b ≡ failed Rounds
+
 -- what may be answered
 abbrev pub May : Asked → Answer → Type 0
 May (one a) b = OrLacking a b
 May (elimination t) b = IsReached t b ⊎ (b ≡ lacking)
 May (satisfiability cs) b = IsModelOf cs b ⊎ (IsRefutationOf cs b ⊎ (b ≡ lacking))
+May (saturation cs n) b = IsRefutedIn cs n b ⊎ (IsSaturatedIn cs n b ⊎ (IsUnfinished cs n b ⊎ (b ≡ lacking)))

@@ -3,7 +3,7 @@
 --     IsFoundAnd      something holds of what a field is given
 --     GivenProof, GivenProblem, GivenExpansion, GivenBoth, GivenDefinitions      something holds of what the operation is given
 --     Lists      the product is how a given value is shown
---     AProof, AReducedProof, AnExpansion, AnInterpolant, AHerbrandSequent, AnIntroduction, ADefinition, ASolution      something holds of what the operation
+--     AProof, AReducedProof, AnExpansion, AnInterpolant, AHerbrandSequent, AnIntroduction, ADefinition, ASolution, ASaturation      something holds of what the operation
 --     makes
 --     Claims      one line an operation
 use Rattle.std.specs.Prelude.{◌≡◌, ℕ, ◌<◌, ◌≤◌, ◌-◌, ◌^◌, Bool, true, false, List, [], ◌∷◌, length, map, Option, Ok}
@@ -16,7 +16,7 @@ use Rattle.free_variables.specs.Occurrence.{is_free_in, is_pred_in}
 use Rattle.substitution.specs.Closing.{closed_over}
 use Rattle.lk_rules.specs.declared.sequent.Sequent.{Sequent}
 use Rattle.lk_rules.specs.declared.sequent.Side.TheVariants.{Left, Right}
-use Rattle.lk_rules.specs.Sequents.{is_subsequent, image_sequent, adds_to, union_sequent, is_free_in_sequent}
+use Rattle.lk_rules.specs.Sequents.{is_subsequent, image_sequent, adds_to, union_sequent, is_free_in_sequent, empty}
 use Rattle.proof_trees.specs.Trees.{Tree, concl, cuts, quants, IsValid, IsCutFree}
 use Rattle.proof_trees.specs.Occurrence.{is_pred_in_sequent}
 use Rattle.cut_laws.specs.Elimination.{Reaches}
@@ -33,6 +33,8 @@ use Rattle.refutations.specs.Refutations.{refutation as refutation_of}
 use Rattle.ground_laws.specs.declared.step.SatStep.{SatStep}
 use Rattle.ground_laws.specs.Models.{IsModel}
 use Rattle.ground_laws.specs.Steps.{res_step, sequents_of}
+use Rattle.clause_laws.specs.Rounds.{Level}
+use Rattle.clause_laws.specs.Saturation.{IsSaturation}
 use Rattle.search_laws.specs.Truth.{IsPropositional, IsTautology}
 use Rattle.expansion_laws.specs.Dependency.{Expansion}
 use Rattle.expansion_laws.specs.Proofs.{shallow_sequent, IsExpansionProof}
@@ -49,7 +51,7 @@ use Rattle.tptp_problem.specs.ProblemClauses.{clauses_of}
 use Rattle.job_lang.specs.declared.jobs.Op.{Op}
 use Rattle.job_lang.specs.declared.jobs.Op.TheVariants as ops
 use Rattle.operation_laws.specs.Values.{Value}
-use Rattle.operation_laws.specs.Answers.{Product, proof, reduced, problem, proves, steps, expansion, nodes, interpolant, herbrand, introduced, definition, model, refutation, capped}
+use Rattle.operation_laws.specs.Answers.{Product, proof, reduced, problem, proves, steps, expansion, nodes, interpolant, herbrand, introduced, definition, model, refutation, derivation, saturated, capped}
 use Rattle.operation_laws.specs.Given.{Found, missing, wanting, found, proof_given, problem_given, expansion_given, ToShow, of_proof, of_expansion, shown_given, definitions_given}
 use Rattle.operation_laws.specs.Running.{sizes_of, steps_with, formula_with}
 
@@ -152,6 +154,12 @@ ASolution (model atoms) holds refutes = holds atoms
 ASolution (refutation list t) holds refutes = refutes list t
 ASolution p holds refutes = ⊥
 
+-- a refutation was made, of which the one holds, or clauses that rounds of resolution end with, of which the other does
+abbrev pub ASaturation : Product → (List Sequent → Type 0) → (List ResStep → Tree → Type 0) → Type 0
+ASaturation (derivation list t) holds refutes = refutes list t
+ASaturation (saturated ks) holds refutes = holds ks
+ASaturation p holds refutes = ⊥
+
 -- the tree is a valid proof without cuts of the sequent
 pub record IsCutFreeProofOf (t : Tree) (s : Sequent) : Type 0 where
   pub right : IsProofOf t s
@@ -208,10 +216,18 @@ pub record IsRefuted (cs : List Clause) (list : List ResStep) (t : Tree) : Type 
   pub stands : refutation_of cs list ≡ Ok t
   pub right : IsProofOf t (closures cs)
 
+-- So many rounds of resolution reach the empty clause, and the steps have no fault, and stand for the tree, which is a valid proof of the closures
+-- of the clauses on the left.
+pub record IsRefutedBy (cs : List Clause) (n : ℕ) (list : List ResStep) (t : Tree) : Type 0 where
+  pub reached : Level (sequents_of cs) n empty
+  pub stands : refutation_of cs list ≡ Ok t
+  pub right : IsProofOf t (closures cs)
+
 -- What an operation claims of its product: of `lk` a valid proof of the last step's sequent, with the definitions that it uses, of `subst` one of the image of the given
 -- proof's sequent, of `cutelim` one without cuts of that sequent itself, reached within the budget, of `eliminate` the same without one, of
 -- `define` a symbol that stands for the formula, of `unfold` a valid proof of the given one's sequent unfolded, of `resolution` one of the
--- closures of the problem's clauses, on the left, of `sat` a model of these, or a refutation with such a proof, of `tautology` one without cuts of the sequent itself, of `expansion` an
+-- closures of the problem's clauses, on the left, of `sat` a model of these, or a refutation with such a proof, of `prove` a
+-- refutation of them with such a proof, or clauses that rounds of resolution over them end with, of `tautology` one without cuts of the sequent itself, of `expansion` an
 -- expansion proof, of `expand` one of the given proof's sequent, of `fromexp` a valid proof without cuts of the sequent of the given
 -- trees' formulas, of `interpolate` an interpolant of two parts of the given proof's sequent, with its two proofs, of `herbrand` the Herbrand
 -- sequent of the given proof, a tautology, and of `cutintro` a valid proof of the given one's sequent, shorter by a cut, or that proof.
@@ -228,6 +244,8 @@ Claims (ops.Define symbol vars body using) vs made = GivenDefinitions using vs (
 Claims (ops.Unfold of) vs made = GivenProof of vs (λ t. AProof made (IsUnfolded t))
 Claims (ops.Sat of) vs made =
     GivenProblem of vs (λ p. ASolution made (λ atoms. IsModel atoms (sequents_of (clauses_of p.entries))) (IsRefuted (clauses_of p.entries)))
+Claims (ops.Prove of n) vs made =
+    GivenProblem of vs (λ p. ASaturation made (IsSaturation (sequents_of (clauses_of p.entries)) n) (IsRefutedBy (clauses_of p.entries) n))
 Claims (ops.Resolution of list) vs made = GivenProblem of vs (λ p. AProof made (λ t. IsProofOf t (closures (clauses_of p.entries))))
 Claims (ops.Tautology s n) vs made = AProof made (λ t. IsCutFreeProofOf t s)
 Claims (ops.Expansion flat n) vs made = AnExpansion made (IsExpansionOf flat)

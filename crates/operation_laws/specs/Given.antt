@@ -28,6 +28,7 @@ names_in (ops.Eliminate of) = of ∷ []
 names_in (ops.Define symbol vars body using) = using
 names_in (ops.Unfold of) = of ∷ []
 names_in (ops.Sat of) = of ∷ []
+names_in (ops.Prove of n) = of ∷ []
 names_in (ops.Resolution of steps) = of ∷ []
 names_in (ops.Tautology s n) = []
 names_in (ops.Expansion flat n) = []

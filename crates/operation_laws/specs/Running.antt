@@ -75,7 +75,7 @@ use Rattle.reply_lines.specs.declared.replies.RefutationShown.TheVariants as ref
 use Rattle.operation_laws.specs.declared.refusals.Refusal.TheVariants.{Empty, Step}
 use Rattle.operation_laws.specs.declared.refusals.Failure.TheVariants.{Budget, Unproved, Refutation, Quantified, Falsified, Node, Root, EigenTwice, EigenFree, Cycle, Cut, Defined, Partition, NotPrenex, TooMany, DefTwice, DefFree, DefLarge, NotGround}
 use Rattle.operation_laws.specs.Values.{Value}
-use Rattle.operation_laws.specs.Answers.{Product, proof, reduced, problem, proves, steps, sizes, expansion, nodes, interpolant, herbrand, introduced, definition, Answer, refused, failed, lacking, product, capped, Asked, one, elimination as reached_from, satisfiability}
+use Rattle.operation_laws.specs.Answers.{Product, proof, reduced, problem, proves, steps, sizes, expansion, nodes, interpolant, herbrand, introduced, definition, Answer, refused, failed, lacking, product, capped, Asked, one, elimination as reached_from, satisfiability, saturation}
 use Rattle.operation_laws.specs.Given.{or_else, Found, missing, wanting, found, proof_given, problem_given, expansion_given, ToShow, of_proof, of_expansion, shown_given, definitions_given, first_of, second_of}
 
 -- what is done with what a field is given
@@ -216,6 +216,15 @@ to_solve (missing r) = one (refused r)
 to_solve wanting = one lacking
 to_solve (found p) = solves_ground (first_open (clauses_of p.entries)) (clauses_of p.entries)
 
+-- A refutation of clauses, or clauses that so many rounds end with, are asked for.
+abbrev pub saturates : List Clause → ℕ → Asked
+saturates cs n = if list_all has_closure cs then saturation cs n else one lacking
+
+abbrev pub to_saturate : ℕ → Found Problem → Asked
+to_saturate n (missing r) = one (refused r)
+to_saturate n wanting = one lacking
+to_saturate n (found p) = saturates (clauses_of p.entries) n
+
 -- the first formula of a side that has a quantifier
 abbrev pub quantified_on : Side → FormulaSet → Option (Formula × Side)
 quantified_on side fs = option_map (λ f. (f, side)) (find has_quantifier (set.listing fs))
@@ -319,6 +328,7 @@ run (ops.Eliminate of) vs = to_eliminate (proof_given of (first_of vs))
 run (ops.Define symbol vars body using) vs = one (over (definitions_given using vs) (defines_with symbol vars body using))
 run (ops.Unfold of) vs = one (over (proof_given of (first_of vs)) unfolds)
 run (ops.Sat of) vs = to_solve (problem_given of (first_of vs))
+run (ops.Prove of n) vs = to_saturate n (problem_given of (first_of vs))
 run (ops.Resolution of list) vs = one (over (problem_given of (first_of vs)) (refutes list))
 run (ops.Tautology s n) vs = one (searches (quantified_in s) s n)
 run (ops.Expansion flat n) vs = one (reads (reading flat n) n)
@@ -328,7 +338,8 @@ run (ops.Interpolate of first second n) vs = one (over (proof_given of (first_of
 run (ops.Herbrand of n) vs = one (over (proof_given of (first_of vs)) (λ t. instanced (instancing t n)))
 run (ops.Cutintro of width n) vs = one (over (proof_given of (first_of vs)) (λ t. shortened t (introducing width t n)))
 
--- whether there is one answer to what an operation asks for, want of memory aside: a model or a refutation is one of several
+-- whether there is one answer to what an operation asks for, want of memory aside: a model, a refutation and clauses that rounds end with are
+-- one of several
 abbrev pub HasOneAnswer : Op → Type 0
 HasOneAnswer (ops.Lk list using) = Unit {0}
 HasOneAnswer (ops.Problem p) = Unit {0}
@@ -341,6 +352,7 @@ HasOneAnswer (ops.Eliminate of) = Unit {0}
 HasOneAnswer (ops.Define symbol vars body using) = Unit {0}
 HasOneAnswer (ops.Unfold of) = Unit {0}
 HasOneAnswer (ops.Sat of) = ⊥
+HasOneAnswer (ops.Prove of n) = ⊥
 HasOneAnswer (ops.Resolution of list) = Unit {0}
 HasOneAnswer (ops.Tautology s n) = Unit {0}
 HasOneAnswer (ops.Expansion flat n) = Unit {0}

@@ -59,4 +59,6 @@ pub enum Failure {
     DefLarge,
     /// The clause of this number, among those of a problem, has a variable.
     NotGround(u64),
+    /// The rounds of resolution end before there is a refutation, and a further round would add clauses.
+    Rounds,
 }

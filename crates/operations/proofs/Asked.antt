@@ -7,7 +7,7 @@ use Rattle.proof_graph.specs.declared.graph.Graph.{Graph}
 use Rattle.job_lang.specs.declared.jobs.Op.{Op}
 use Rattle.reply_lines.specs.declared.replies.Outcome.{Outcome}
 use Rattle.operation_laws.specs.Values.{Value}
-use Rattle.operation_laws.specs.Answers.{Product, Answer, refused, failed, lacking, product, proofs_in, Asked, one, elimination, satisfiability, OrLacking, May}
+use Rattle.operation_laws.specs.Answers.{Product, Answer, refused, failed, lacking, product, proofs_in, Asked, one, elimination, satisfiability, saturation, OrLacking, May}
 use Rattle.operation_laws.specs.Running.{run}
 use Rattle.operation_laws.specs.Claims.{Claims}
 use Rattle.held_values.specs.Means.{IsAnswered, IsAnsweredTo}
@@ -26,12 +26,14 @@ pub some_answer : (g : Graph) (r : Ran) (asked : Asked) → ComesTo g r asked �
 some_answer g r (one a) is = (a, itself a, is)
 some_answer g r (elimination t) is = is
 some_answer g r (satisfiability cs) is = is
+some_answer g r (saturation cs n) is = is
 
 pub answered_to : (outcome : Outcome) (meant : Option Value) (g : Graph) (r : Ran) (asked : Asked) → ((a : Answer) → Comes g r a → IsAnswered outcome meant a)
     → ComesTo g r asked → IsAnsweredTo outcome meant asked
 answered_to outcome meant g r (one a) answered is = answered a is
 answered_to outcome meant g r (elimination t) answered is = (is.0, is.1, answered is.0 is.2)
 answered_to outcome meant g r (satisfiability cs) answered is = (is.0, is.1, answered is.0 is.2)
+answered_to outcome meant g r (saturation cs n) answered is = (is.0, is.1, answered is.0 is.2)
 
 -- what it came to is claimed, where that is claimed of each product that may be answered
 pub claimed_to : (op : Op) (vs : List (Option Value)) (outcome : Outcome) (meant : Option Value) (g : Graph) (r : Ran) → ((a : Answer) → Comes g r a → IsAnswered outcome meant a)

@@ -6,6 +6,8 @@ pub mod Unfolded
 pub mod Eliminated
 pub mod Refuted
 pub mod Satisfied
+pub mod Saturated
+pub mod ShownParts
 pub mod Searched
 pub mod StrongVars
 pub mod Expanded

@@ -22,7 +22,7 @@ use Rattle.operations.specs.declared.answers.Made.{Made}
 use Rattle.operations.specs.declared.answers.Made.TheVariants as made
 use Rattle.operations.specs.declared.answers.Ran.{Ran}
 use Rattle.operations.specs.declared.answers.Ran.TheVariants as ran
-use Rattle.operation_laws.specs.Answers.{Product, Answer, Asked, one as answering, elimination, satisfiability, May}
+use Rattle.operation_laws.specs.Answers.{Product, Answer, Asked, one as answering, elimination, satisfiability, saturation, May}
 use Rattle.operation_laws.specs.Answers as answers
 use Rattle.operation_laws.specs.Given.{Found}
 use Rattle.operation_laws.specs.Given as given
@@ -48,6 +48,8 @@ made_of (made.Introduced r b) = answers.introduced r.tree b
 made_of (made.Definition s f) = answers.definition s f
 made_of (made.Model atoms) = answers.model atoms
 made_of (made.Refutation list r) = answers.refutation list r.tree
+made_of (made.Derivation list r) = answers.derivation list r.tree
+made_of (made.Saturated clauses) = answers.saturated clauses
 
 -- its references are of the graph, a problem is such as is read, and a symbol is well formed
 abbrev pub FitsMade : Graph → Made → Type 0
@@ -65,6 +67,8 @@ FitsMade g (made.Introduced r b) = IsOf g r
 FitsMade g (made.Definition s f) = IsFormedPred (pred s (defined f))
 FitsMade g (made.Model atoms) = Unit {0}
 FitsMade g (made.Refutation list r) = IsOf g r
+FitsMade g (made.Derivation list r) = IsOf g r
+FitsMade g (made.Saturated clauses) = Unit {0}
 
 -- the field is given nothing, and refused so, unless there is no memory for the name that the refusal shows
 abbrev pub IsAbsent : Absent → Refusal → Type 0
@@ -127,6 +131,7 @@ needs (ops.Eliminate of) = a_desk
 needs (ops.Define symbol vars body using) = a_graph
 needs (ops.Unfold of) = a_bench
 needs (ops.Sat of) = a_bench
+needs (ops.Prove of n) = a_bench
 needs (ops.Resolution of steps) = a_bench
 needs (ops.Tautology s n) = a_bench
 needs (ops.Expansion flat n) = a_graph
@@ -155,6 +160,7 @@ abbrev pub ComesTo : Graph → Ran → Asked → Type 0
 ComesTo g r (answering a) = Comes g r a
 ComesTo g r (elimination t) = (a : Answer) × May (elimination t) a × Comes g r a
 ComesTo g r (satisfiability cs) = (a : Answer) × May (satisfiability cs) a × Comes g r a
+ComesTo g r (saturation cs n) = (a : Answer) × May (saturation cs n) a × Comes g r a
 
 -- whether an operation came to no product though memory didn't run out: it is refused, or it failed
 abbrev pub is_refusal : Ran → Bool

@@ -31,6 +31,7 @@ use crate::proofs::{eliminate_all_in, eliminate_in, substitute_in};
 use crate::readings::{measure, prove, show};
 use crate::refuting::refute;
 use crate::satisfying::satisfy;
+use crate::saturating::prove_in;
 use crate::searching::prove_sequent;
 use crate::unfolding::{admit_with, unfold_in};
 use cut_elim::{Desk, DeskPass};
@@ -119,6 +120,9 @@ fn run_making<R: Wait + Threads + Sync>(
             refute(rt, alloc, bench, pass, problem, value, steps.as_slice())
         }
         Op::Sat { problem } => satisfy(rt, alloc, bench, pass, problem, first(given)),
+        Op::Prove { problem, rounds } => {
+            prove_in(rt, alloc, bench, pass, problem, first(given), rounds.get())
+        }
         Op::Tautology { sequent, budget } => {
             prove_sequent(rt, alloc, bench, pass, sequent, budget.get())
         }
@@ -187,6 +191,7 @@ fn run_given<R: Wait + Threads + Sync>(
         | Op::Unfold { .. }
         | Op::Resolution { .. }
         | Op::Sat { .. }
+        | Op::Prove { .. }
         | Op::Tautology { .. }
         | Op::Fromexp { .. }
         | Op::Interpolate { .. }

@@ -1,7 +1,7 @@
 //! What operations come to.
 use exp_tree::{CheckedExp, FlatExp};
 use fol::{Formula, Sym};
-use job_words::{FormedFormula, RefutationSteps, Steps};
+use job_words::{ClauseList, FormedFormula, RefutationSteps, Steps};
 use lk_rules::{Formulas, Sequent};
 use operation_laws::{Failure, Refusal};
 use proof_graph::ProofRef;
@@ -51,8 +51,12 @@ pub enum Made {
     Definition(Sym, Formula),
     /// The atoms that are true in a model of clauses.
     Model(Formulas),
-    /// The steps of a refutation of clauses, and the proof that they stand for.
+    /// The steps of a refutation of ground clauses, and the proof that they stand for.
     Refutation(RefutationSteps, ProofRef),
+    /// The steps of a refutation of clauses, and the proof that they stand for.
+    Derivation(RefutationSteps, ProofRef),
+    /// Clauses that rounds of resolution end with.
+    Saturated(ClauseList),
 }
 
 /// Why a field is given nothing that the operation could take.

@@ -57,6 +57,7 @@ fn shown_failure(failure: Failure) -> Outcome
         Failure::DefFree(var) => Outcome::DefFree(var),
         Failure::DefLarge => Outcome::DefLarge,
         Failure::NotGround(clause) => Outcome::NotGround(clause),
+        Failure::Rounds => Outcome::Rounds,
     }
 }
 
@@ -262,6 +263,8 @@ fn hold(graph: &Graph, alloc: Global, made: Made) -> (Outcome, Held)
         Made::Definition(symbol, body) => hold_definition(symbol, body),
         Made::Model(atoms) => (Outcome::Satisfiable(atoms), Held::Nothing),
         Made::Refutation(steps, proof) => (Outcome::Unsatisfiable(steps), Held::Proof(proof)),
+        Made::Derivation(steps, proof) => (Outcome::Refuted(steps), Held::Proof(proof)),
+        Made::Saturated(clauses) => (Outcome::Saturated(clauses), Held::Nothing),
     }
 }
 

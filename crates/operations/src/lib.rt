@@ -16,7 +16,9 @@ mod proofs;
 mod readings;
 mod refuting;
 mod satisfying;
+mod saturating;
 mod searching;
+mod shown;
 mod unfolding;
 
 pub use answering::answer;

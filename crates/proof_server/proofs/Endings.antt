@@ -5,6 +5,7 @@ use Rattle.std.specs.Io.KnownBytes.{Consumes, Appends, IsAtEnd}
 use Rattle.std.proofs.KnownBytes.{Consumes-nil, Consumes-trans, Appends-nil, Appends-trans}
 use Rattle.std.proofs.Math.Seq.{take-append-add}
 use Rattle.std.proofs.lemmas.List.Splits.{length-slice_split}
+use Rattle.cut_elim.specs.declared.desk.Desk.{Desk}
 use Rattle.edge_io.specs.declared.next.Next.{Next}
 use Rattle.edge_io.specs.Lines.{is_newline, AreLines, parts_of, whole_lines, lines_of}
 use Rattle.edge_io.specs.Reader.{Reader, allowance}
@@ -65,8 +66,8 @@ module _ (all_claimed : (jobs : List Past) → AreAllowed jobs → AreClaimed jo
   }
 
   -- where no job is left in the window all that was asked is answered
-  unfoldable pub all_answered : (session : Session) (asked lines : List (List ℕ)) (written : List ℕ) → IsAt session asked written → seats_in session ≡ 0 → asked ≡ jobs lines → Replies lines written
-  all_answered session asked lines written at empty same = record {
+  unfoldable pub all_answered : (desk : Desk) (session : Session) (asked lines : List (List ℕ)) (written : List ℕ) → IsAt desk session asked written → seats_in session ≡ 0 → asked ≡ jobs lines → Replies lines written
+  all_answered desk session asked lines written at empty same = record {
     done = at.done;
     allowed = at.answered.allowed;
     claimed = all_claimed at.done at.answered.allowed;
@@ -108,10 +109,10 @@ module _ (all_claimed : (jobs : List Past) → AreAllowed jobs → AreClaimed jo
   }
 
   -- the session stopped while it took a line in
-  stopped : {limit max f f' k k' : ℕ} {before now later old mid new : Option (List ℕ)} {reader reader' : Reader} {session : Session} {next : Next}
-      → (midway : Midway limit f f' k k' before now reader old mid session) → (handed : HandsOn next max reader reader' now later)
+  stopped : {desk : Desk} {limit max f f' k k' : ℕ} {before now later old mid new : Option (List ℕ)} {reader reader' : Reader} {session : Session} {next : Next}
+      → (midway : Midway desk limit f f' k k' before now reader old mid session) → (handed : HandsOn next max reader reader' now later)
       → WritesMore (AreInPart (jobs midway.lines ++ jobs (handed.line ∷ []))) midway.written mid new → IsPartWritten limit before later old new
-  stopped {limit} {before = before} {later = later} {old = old} {mid = mid} {new = new} {reader' = reader'} midway handed writes =
+  stopped {limit = limit} {before = before} {later = later} {old = old} {mid = mid} {new = new} {reader' = reader'} midway handed writes =
       let read = hand midway.read handed in
       let bytes = midway.got ++ handed.text in
       let lines = midway.lines ++ handed.line ∷ [] in
@@ -124,8 +125,8 @@ module _ (all_claimed : (jobs : List Past) → AreAllowed jobs → AreClaimed jo
       ]
 
   -- the reading stopped behind whole lines, with more bytes taken
-  stopped_reading : {limit f f' k k' : ℕ} {before now later old mid new : Option (List ℕ)} {reader : Reader} {session : Session}
-      → (midway : Midway limit f f' k k' before now reader old mid session) → reader.at_end ≡ false
+  stopped_reading : {desk : Desk} {limit f f' k k' : ℕ} {before now later old mid new : Option (List ℕ)} {reader : Reader} {session : Session}
+      → (midway : Midway desk limit f f' k k' before now reader old mid session) → reader.at_end ≡ false
       → (more : List ℕ) → Consumes now later more → length (reader.pending ++ more) ≤ allowance reader + 1
       → WritesMore (AreInPart (jobs midway.lines)) midway.written mid new → IsPartWritten limit before later old new
   stopped_reading {before = before} {now = now} {later = later} {reader = reader} midway fresh more from few writes =
@@ -137,14 +138,14 @@ module _ (all_claimed : (jobs : List Past) → AreAllowed jobs → AreClaimed jo
       (omega (arith, length-append midway.got rest)) (whole_so_far midway.read fresh) midway.to writes
 
   -- nothing more was written
-  pub lacking_ends : {limit f f' k k' : ℕ} {before now later old mid : Option (List ℕ)} {reader : Reader} {session : Session}
-      → (midway : Midway limit f f' k k' before now reader old mid session) → reader.at_end ≡ false
+  pub lacking_ends : {desk : Desk} {limit f f' k k' : ℕ} {before now later old mid : Option (List ℕ)} {reader : Reader} {session : Session}
+      → (midway : Midway desk limit f f' k k' before now reader old mid session) → reader.at_end ≡ false
       → (more : List ℕ) → Consumes now later more → length (reader.pending ++ more) ≤ allowance reader + 1 → IsPartWritten limit before later old mid
-  lacking_ends {mid = mid} {session = session} midway fresh more from few =
+  lacking_ends {desk} {mid = mid} {session = session} midway fresh more from few =
       stopped_reading midway fresh more from few (record {
         more = [];
         to = Appends-nil mid;
-        holds = subst (AreInPart (jobs midway.lines)) (sym (append-nil midway.written)) (at_in_part session (jobs midway.lines) midway.written midway.at);
+        holds = subst (AreInPart (jobs midway.lines)) (sym (append-nil midway.written)) (at_in_part desk session (jobs midway.lines) midway.written midway.at);
       })
 
   -- what holds where the input has ended: the bytes handed on are all of it
@@ -177,11 +178,11 @@ module _ (all_claimed : (jobs : List Past) → AreAllowed jobs → AreClaimed jo
       apart h = cc
 
   -- the input has ended: all is written and flushed
-  pub done_all : {limit f f' k k' : ℕ} {before now later old mid new flushed : Option (List ℕ)} {reader : Reader} {session : Session} (session' : Session)
-      → (midway : Midway limit f f' k k' before now reader old mid session) → WritesMore (IsAt session' (jobs midway.lines)) midway.written mid new
+  pub done_all : {desk : Desk} {limit f f' k k' : ℕ} {before now later old mid new flushed : Option (List ℕ)} {reader : Reader} {session : Session} (session' : Session)
+      → (midway : Midway desk limit f f' k k' before now reader old mid session) → WritesMore (IsAt desk session' (jobs midway.lines)) midway.written mid new
       → seats_in session' ≡ 0 → flushed ≡ new → IsAtLast reader now later → IsDone session'.good limit before later old new flushed
   unfolding all_answered
-  done_all {limit} {old = old} {mid = mid} {new = new} session' midway goes empty all_flushed last =
+  done_all {desk} {limit} {old = old} {mid = mid} {new = new} session' midway goes empty all_flushed last =
       let whole = whole_input midway.read last in
       record {
         input = midway.got;
@@ -189,16 +190,16 @@ module _ (all_claimed : (jobs : List Past) → AreAllowed jobs → AreClaimed jo
         moved = record { from = whole.from; to = Appends-trans old mid new midway.written goes.more midway.to goes.to };
         at_end = whole.at_end;
         within = let within = midway.read.within in omega arith;
-        replies = all_answered session' (jobs midway.lines) (lines_of midway.got) (midway.written ++ goes.more) goes.holds empty (ap jobs (sym whole.lines_is));
+        replies = all_answered desk session' (jobs midway.lines) (lines_of midway.got) (midway.written ++ goes.more) goes.holds empty (ap jobs (sym whole.lines_is));
         good_is = goes.holds.answered.good_is;
         all_flushed = all_flushed;
       }
 
   -- reading failed: the replies to all lines handed on are written and flushed
-  pub cut_off : {limit f f' k k' : ℕ} {before now later old mid new flushed : Option (List ℕ)} {reader : Reader} {session : Session} (session' : Session)
-      → (midway : Midway limit f f' k k' before now reader old mid session) → WritesMore (IsAt session' (jobs midway.lines)) midway.written mid new
+  pub cut_off : {desk : Desk} {limit f f' k k' : ℕ} {before now later old mid new flushed : Option (List ℕ)} {reader : Reader} {session : Session} (session' : Session)
+      → (midway : Midway desk limit f f' k k' before now reader old mid session) → WritesMore (IsAt desk session' (jobs midway.lines)) midway.written mid new
       → seats_in session' ≡ 0 → flushed ≡ new → reader.at_end ≡ false → CutsOff reader now later → IsCutOff limit before later old new flushed
-  cut_off {limit} {before = before} {now = now} {later = later} {old = old} {mid = mid} {new = new} {reader = reader} session' midway goes empty all_flushed fresh cut =
+  cut_off {desk} {limit} {before = before} {now = now} {later = later} {old = old} {mid = mid} {new = new} {reader = reader} session' midway goes empty all_flushed fresh cut =
       let rest = reader.pending ++ cut.0 in
       record {
         taken = midway.got ++ rest;
@@ -209,16 +210,16 @@ module _ (all_claimed : (jobs : List Past) → AreAllowed jobs → AreClaimed jo
           to = Appends-trans old mid new midway.written goes.more midway.to goes.to;
         };
         within = let within = midway.read.within in let few = cut.3 in omega (arith, length-append midway.got rest);
-        replies = all_answered session' (jobs midway.lines) (whole_lines (midway.got ++ rest)) (midway.written ++ goes.more) goes.holds empty
+        replies = all_answered desk session' (jobs midway.lines) (whole_lines (midway.got ++ rest)) (midway.written ++ goes.more) goes.holds empty
             (ap jobs (sym (whole_lines_at midway.got rest midway.lines (whole_so_far midway.read fresh) cut.2)));
         all_flushed = all_flushed;
       }
 
   -- all that may be read was taken and more came: so they are
-  pub full : {limit f f' k k' : ℕ} {before now later old mid new flushed : Option (List ℕ)} {reader : Reader} {session : Session} (session' : Session)
-      → (midway : Midway limit f f' k k' before now reader old mid session) → WritesMore (IsAt session' (jobs midway.lines)) midway.written mid new
+  pub full : {desk : Desk} {limit f f' k k' : ℕ} {before now later old mid new flushed : Option (List ℕ)} {reader : Reader} {session : Session} (session' : Session)
+      → (midway : Midway desk limit f f' k k' before now reader old mid session) → WritesMore (IsAt desk session' (jobs midway.lines)) midway.written mid new
       → seats_in session' ≡ 0 → flushed ≡ new → reader.at_end ≡ false → Overflows reader now later → IsFull limit before later old new flushed
-  full {limit} {before = before} {now = now} {later = later} {old = old} {mid = mid} {new = new} {reader = reader} session' midway goes empty all_flushed fresh over =
+  full {desk} {limit} {before = before} {now = now} {later = later} {old = old} {mid = mid} {new = new} {reader = reader} session' midway goes empty all_flushed fresh over =
       let rest = reader.pending ++ over.0 in
       record {
         input = midway.got ++ rest;
@@ -231,60 +232,60 @@ module _ (all_claimed : (jobs : List Past) → AreAllowed jobs → AreClaimed jo
           to = Appends-trans old mid new midway.written goes.more midway.to goes.to;
         };
         exact = let within = midway.read.within in let all = over.4 in omega (arith, length-append midway.got rest);
-        replies = all_answered session' (jobs midway.lines) (whole_lines (midway.got ++ rest)) (midway.written ++ goes.more) goes.holds empty
+        replies = all_answered desk session' (jobs midway.lines) (whole_lines (midway.got ++ rest)) (midway.written ++ goes.more) goes.holds empty
             (ap jobs (sym (whole_lines_at midway.got rest midway.lines (whole_so_far midway.read fresh) over.3)));
         all_flushed = all_flushed;
       }
 
   -- the session stopped at a line
-  pub stop_ends : {limit max f f' k k' : ℕ} {before now later old mid : Option (List ℕ)} {reader reader' : Reader}
+  pub stop_ends : {desk : Desk} {limit max f f' k k' : ℕ} {before now later old mid : Option (List ℕ)} {reader reader' : Reader}
       {session : Session} {next : Next} (f'' k'' : ℕ) (new flushed : Option (List ℕ)) (session' : Session) (s : Stop) (result : Ended)
-      → (midway : Midway limit f f' k k' before now reader old mid session) → (handed : HandsOn next max reader reader' now later)
-      → result ≡ ended_of s → Goes (Err s) session' (jobs midway.lines ++ jobs (handed.line ∷ [])) midway.written k' k'' mid new
+      → (midway : Midway desk limit f f' k k' before now reader old mid session) → (handed : HandsOn next max reader reader' now later)
+      → result ≡ ended_of s → Goes desk (Err s) session' (jobs midway.lines ++ jobs (handed.line ∷ [])) midway.written k' k'' mid new
       → Ends result limit f f'' k k'' before later old new flushed
-  stop_ends {limit} {f = f} {k = k} {k' = k'} {before = before} {later = later} {old = old} f'' k'' new flushed session' stop.WriteFault result midway handed same (rose, writes) =
+  stop_ends {limit = limit} {f = f} {k = k} {k' = k'} {before = before} {later = later} {old = old} f'' k'' new flushed session' stop.WriteFault result midway handed same (rose, writes) =
       subst (λ (e : Ended). Ends e limit f f'' k k'' before later old new flushed) (sym same) (Rose-since k k' k'' midway.writes rose, stopped midway handed writes)
-  stop_ends {limit} {f = f} {k = k} {before = before} {later = later} {old = old} f'' k'' new flushed session' stop.Memory result midway handed same writes =
+  stop_ends {limit = limit} {f = f} {k = k} {before = before} {later = later} {old = old} f'' k'' new flushed session' stop.Memory result midway handed same writes =
       subst (λ (e : Ended). Ends e limit f f'' k k'' before later old new flushed) (sym same) (stopped midway handed writes)
 
   -- the session stopped with the last window
-  last_stop : {limit k k' : ℕ} {before later old mid new : Option (List ℕ)} (f f'' k'' : ℕ) (flushed : Option (List ℕ)) (asked : List (List ℕ)) (written : List ℕ)
-      (session' : Session) (s : Stop) (result : Ended) → result ≡ ended_of s → k ≤ k' → Goes (Err s) session' asked written k' k'' mid new
+  last_stop : {limit k k' : ℕ} {before later old mid new : Option (List ℕ)} (desk : Desk) (f f'' k'' : ℕ) (flushed : Option (List ℕ)) (asked : List (List ℕ)) (written : List ℕ)
+      (session' : Session) (s : Stop) (result : Ended) → result ≡ ended_of s → k ≤ k' → Goes desk (Err s) session' asked written k' k'' mid new
       → (WritesMore (AreInPart asked) written mid new → IsPartWritten limit before later old new)
       → Ends result limit f f'' k k'' before later old new flushed
-  last_stop {limit} {k} {k'} {before} {later} {old} {mid} {new} f f'' k'' flushed asked written session' stop.WriteFault result same since (rose, writes) part =
+  last_stop {limit} {k} {k'} {before} {later} {old} {mid} {new} desk f f'' k'' flushed asked written session' stop.WriteFault result same since (rose, writes) part =
       subst (λ (e : Ended). Ends e limit f f'' k k'' before later old new flushed) (sym same) (Rose-since k k' k'' since rose, part writes)
-  last_stop {limit} {k} {k'} {before} {later} {old} {mid} {new} f f'' k'' flushed asked written session' stop.Memory result same since writes part =
+  last_stop {limit} {k} {k'} {before} {later} {old} {mid} {new} desk f f'' k'' flushed asked written session' stop.Memory result same since writes part =
       subst (λ (e : Ended). Ends e limit f f'' k k'' before later old new flushed) (sym same) (part writes)
 
   -- so it did at the end of the input
-  pub stop_at_last : {limit f f' k k' : ℕ} {before now later old mid : Option (List ℕ)} {reader : Reader} {session : Session} (f'' k'' : ℕ) (new flushed : Option (List ℕ))
-      (session' : Session) (s : Stop) (result : Ended) → (midway : Midway limit f f' k k' before now reader old mid session)
-      → result ≡ ended_of s → Goes (Err s) session' (jobs midway.lines) midway.written k' k'' mid new → IsAtLast reader now later
+  pub stop_at_last : {desk : Desk} {limit f f' k k' : ℕ} {before now later old mid : Option (List ℕ)} {reader : Reader} {session : Session} (f'' k'' : ℕ) (new flushed : Option (List ℕ))
+      (session' : Session) (s : Stop) (result : Ended) → (midway : Midway desk limit f f' k k' before now reader old mid session)
+      → result ≡ ended_of s → Goes desk (Err s) session' (jobs midway.lines) midway.written k' k'' mid new → IsAtLast reader now later
       → Ends result limit f f'' k k'' before later old new flushed
-  stop_at_last {limit} {f} f'' k'' new flushed session' s result midway same goes last =
+  stop_at_last {desk} {limit} {f} f'' k'' new flushed session' s result midway same goes last =
       let whole = whole_input midway.read last in
       let within = midway.read.within in
-      last_stop f f'' k'' flushed (jobs midway.lines) midway.written session' s result same midway.writes goes
+      last_stop desk f f'' k'' flushed (jobs midway.lines) midway.written session' s result same midway.writes goes
       (stopped_at_end midway.got midway.lines midway.written whole.from (omega arith) whole.at_end whole.lines_is midway.to)
 
   -- and where reading failed
-  pub stop_at_fault : {limit f f' k k' : ℕ} {before now old mid : Option (List ℕ)} {reader : Reader} {session : Session} (f'' k'' : ℕ) (later new flushed : Option (List ℕ))
-      (session' : Session) (s : Stop) (result : Ended) → (midway : Midway limit f f' k k' before now reader old mid session)
-      → result ≡ ended_of s → Goes (Err s) session' (jobs midway.lines) midway.written k' k'' mid new → reader.at_end ≡ false → CutsOff reader now later
+  pub stop_at_fault : {desk : Desk} {limit f f' k k' : ℕ} {before now old mid : Option (List ℕ)} {reader : Reader} {session : Session} (f'' k'' : ℕ) (later new flushed : Option (List ℕ))
+      (session' : Session) (s : Stop) (result : Ended) → (midway : Midway desk limit f f' k k' before now reader old mid session)
+      → result ≡ ended_of s → Goes desk (Err s) session' (jobs midway.lines) midway.written k' k'' mid new → reader.at_end ≡ false → CutsOff reader now later
       → Ends result limit f f'' k k'' before later old new flushed
-  stop_at_fault {limit} {f} f'' k'' later new flushed session' s result midway same goes fresh cut =
-      last_stop f f'' k'' flushed (jobs midway.lines) midway.written session' s result same midway.writes goes
+  stop_at_fault {desk} {limit} {f} f'' k'' later new flushed session' s result midway same goes fresh cut =
+      last_stop desk f f'' k'' flushed (jobs midway.lines) midway.written session' s result same midway.writes goes
       (stopped_reading midway fresh cut.0 cut.1 (let few = cut.3 in omega arith))
 
   -- and where the input is too long
-  pub stop_at_full : {limit f f' k k' : ℕ} {before now old mid : Option (List ℕ)} {reader : Reader} {session : Session} (f'' k'' : ℕ) (later new flushed : Option (List ℕ))
-      (session' : Session) (s : Stop) (result : Ended) → (midway : Midway limit f f' k k' before now reader old mid session)
-      → result ≡ ended_of s → Goes (Err s) session' (jobs midway.lines) midway.written k' k'' mid new → reader.at_end ≡ false → Overflows reader now later
+  pub stop_at_full : {desk : Desk} {limit f f' k k' : ℕ} {before now old mid : Option (List ℕ)} {reader : Reader} {session : Session} (f'' k'' : ℕ) (later new flushed : Option (List ℕ))
+      (session' : Session) (s : Stop) (result : Ended) → (midway : Midway desk limit f f' k k' before now reader old mid session)
+      → result ≡ ended_of s → Goes desk (Err s) session' (jobs midway.lines) midway.written k' k'' mid new → reader.at_end ≡ false → Overflows reader now later
       → Ends result limit f f'' k k'' before later old new flushed
-  stop_at_full {limit} {f} {reader = reader} f'' k'' later new flushed session' s result midway same goes fresh over =
+  stop_at_full {desk} {limit} {f} {reader = reader} f'' k'' later new flushed session' s result midway same goes fresh over =
       let all = over.4 in
       let few : length (reader.pending ++ (over.0 ++ over.1 ∷ [])) ≤ allowance reader + 1 =
       omega (arith, length-append reader.pending over.0, length-append reader.pending (over.0 ++ over.1 ∷ []), length-append over.0 (over.1 ∷ [])) in
-      last_stop f f'' k'' flushed (jobs midway.lines) midway.written session' s result same midway.writes goes
+      last_stop desk f f'' k'' flushed (jobs midway.lines) midway.written session' s result same midway.writes goes
       (stopped_reading midway fresh (over.0 ++ over.1 ∷ []) over.2 few)

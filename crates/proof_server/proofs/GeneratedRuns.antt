@@ -3,6 +3,7 @@ use Rattle.std.proofs.Common.{◌≡◌, ℕ, ◌+◌, ◌≤◌, Bool, true, fa
 use Rattle.std.specs.Prelude.{Option}
 use Rattle.std.specs.List.{All}
 use Rattle.std.proofs.lemmas.List.Elements.{All-cons}
+use Rattle.cut_elim.specs.declared.desk.Desk.{Desk}
 use Rattle.edge_io.specs.Lines.{AreLines, lines_of}
 use Rattle.edge_io.proofs.LinesLemmas.{lines_of_at}
 use Rattle.job_gen.specs.Generated.{generated_line, generated}
@@ -19,35 +20,35 @@ use Rattle.proof_server.proofs.Endings.{all_answered}
 use Rattle.proof_server.proofs.GeneratedLines.{generated_is_job, printable_is_one_line, one_more_line, no_line, jobs_of_more}
 
 -- the session has been handed the first i generated jobs
-pub record IsCounting (i : ℕ) (session : Session) : Type 0 where
+pub record IsCounting (desk : Desk) (i : ℕ) (session : Session) : Type 0 where
   pub asked : List (List ℕ)
   pub written : List ℕ
   pub lines : AreLines (generated i) asked
   pub all_jobs : jobs asked ≡ asked
   pub few : session.count + seats_in session ≤ i
-  pub at : IsAt session asked written
+  pub at : IsAt desk session asked written
 
-pub start : (session : Session) → IsAt session [] [] → IsCounting 0 session
-start session at = record {
+pub start : (desk : Desk) (session : Session) → IsAt desk session [] [] → IsCounting desk 0 session
+start desk session at = record {
   asked = [];
   written = [];
   lines = no_line;
   all_jobs = refl;
-  few = omega (arith, none_handed session [] at);
+  few = omega (arith, none_handed desk session [] at);
   at = at;
 }
 
 -- one more job is taken in
-pub go_on : (i : ℕ) (before after : Session) (so_far : IsCounting i before) → (line : IsPrintableLine (generated_line i)) (old new : Option (List ℕ))
-    → WritesMore (IsAt after (so_far.asked ++ jobs (line.text ∷ []))) so_far.written old new
-    → after.count + seats_in after ≤ before.count + seats_in before + 1 → IsCounting (i + 1) after
-go_on i before after so_far line old new took few = record {
+pub go_on : (desk : Desk) (i : ℕ) (before after : Session) (so_far : IsCounting desk i before) → (line : IsPrintableLine (generated_line i)) (old new : Option (List ℕ))
+    → WritesMore (IsAt desk after (so_far.asked ++ jobs (line.text ∷ []))) so_far.written old new
+    → after.count + seats_in after ≤ before.count + seats_in before + 1 → IsCounting desk (i + 1) after
+go_on desk i before after so_far line old new took few = record {
   asked = so_far.asked ++ line.text ∷ [];
   written = so_far.written ++ took.more;
   lines = one_more_line i line.text so_far.asked line.ends (printable_is_one_line line.text line.printable) so_far.lines;
   all_jobs = jobs_of_more so_far.asked line.text so_far.all_jobs (generated_is_job i line.text line.ends);
   few = let before = so_far.few in omega arith;
-  at = subst (λ (more : List (List ℕ)). IsAt after (so_far.asked ++ more) (so_far.written ++ took.more)) (jobs_of_job line.text (generated_is_job i line.text line.ends)) took.holds;
+  at = subst (λ (more : List (List ℕ)). IsAt desk after (so_far.asked ++ more) (so_far.written ++ took.more)) (jobs_of_job line.text (generated_is_job i line.text line.ends)) took.holds;
 }
 
 -- where no job lacked memory each has it
@@ -64,12 +65,12 @@ all_ample (job ∷ earlier) none =
 
 -- where what each job makes is what its operation claims
 pub all_counted : ((jobs : List Past) → AreAllowed jobs → AreClaimed jobs)
-    → (n : ℕ) (before after : Session) (so_far : IsCounting n before) (old new : Option (List ℕ)) → WritesMore (IsAt after so_far.asked) so_far.written old new
+    → (desk : Desk) (n : ℕ) (before after : Session) (so_far : IsCounting desk n before) (old new : Option (List ℕ)) → WritesMore (IsAt desk after so_far.asked) so_far.written old new
     → seats_in after ≡ 0 → after.lacked ≡ false → AreCounts n after.counts
 unfolding all_answered
-all_counted all_claimed n before after so_far old new writes empty ample = record {
+all_counted all_claimed desk n before after so_far old new writes empty ample = record {
   bytes = so_far.written ++ writes.more;
-  replies = all_answered all_claimed after so_far.asked (lines_of (generated n)) (so_far.written ++ writes.more) writes.holds empty
+  replies = all_answered all_claimed desk after so_far.asked (lines_of (generated n)) (so_far.written ++ writes.more) writes.holds empty
       (sym so_far.all_jobs ∙ ap jobs (sym (lines_of_at (generated n) so_far.asked so_far.lines)));
   ample = all_ample writes.holds.done (sym writes.holds.answered.lacked_is ∙ ample);
   counted = writes.holds.answered.counts;

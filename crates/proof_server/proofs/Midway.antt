@@ -4,6 +4,7 @@ use Rattle.std.specs.Prelude.{Option}
 use Rattle.std.specs.Io.KnownBytes.{Consumes, Appends, IsAtEnd}
 use Rattle.std.proofs.KnownBytes.{Consumes-nil, Consumes-trans, Appends-nil, Appends-trans}
 use Rattle.std.proofs.lemmas.List.Elements.{filter-append}
+use Rattle.cut_elim.specs.declared.desk.Desk.{Desk}
 use Rattle.edge_io.specs.declared.next.Next.{Next}
 use Rattle.edge_io.specs.Causes.{Rose}
 use Rattle.edge_io.specs.Lines.{AreLines, lines_of}
@@ -27,14 +28,14 @@ pub record ReadSoFar (limit : ℕ) (before now : Option (List ℕ)) (reader : Re
   pub stands : Stands now reader got lines
 
 -- the lines handed on have been taken in by the session, and nothing else was written than what it wrote
-pub record Midway (limit f f' k k' : ℕ) (before now : Option (List ℕ)) (reader : Reader) (old mid : Option (List ℕ)) (session : Session) : Type 0 where
+pub record Midway (desk : Desk) (limit f f' k k' : ℕ) (before now : Option (List ℕ)) (reader : Reader) (old mid : Option (List ℕ)) (session : Session) : Type 0 where
   pub got : List ℕ
   pub lines : List (List ℕ)
   pub written : List ℕ
   pub read : ReadSoFar limit before now reader got lines
   pub going : reader.ended ≡ false
   pub to : Appends old mid written
-  pub at : IsAt session (jobs lines) written
+  pub at : IsAt desk session (jobs lines) written
   pub few : session.count + seats_in session + allowance reader ≤ limit
   pub reads : f ≤ f'
   pub writes : k ≤ k'
@@ -50,17 +51,17 @@ length-in_order [] = refl
 length-in_order (job ∷ earlier) = omega (arith, length-append (in_order earlier) (job.line ∷ []), length-in_order earlier)
 
 -- a session that was handed no job has none
-pub none_handed : (session : Session) (written : List ℕ) → IsAt session [] written → session.count + seats_in session ≡ 0
-none_handed session written at = omega (arith, at.answered.number, at.gathered.counted, ap length at.each, length-append (in_order at.done) at.waiting, length-in_order at.done)
+pub none_handed : (desk : Desk) (session : Session) (written : List ℕ) → IsAt desk session [] written → session.count + seats_in session ≡ 0
+none_handed desk session written at = omega (arith, at.answered.number, at.gathered.counted, ap length at.each, length-append (in_order at.done) at.waiting, length-in_order at.done)
 
 pub jobs-append : (xs ys : List (List ℕ)) → jobs (xs ++ ys) ≡ jobs xs ++ jobs ys
 jobs-append xs ys = filter-append is_job xs ys
 
-pub start : (limit f k : ℕ) (before old : Option (List ℕ)) (reader : Reader) (session : Session)
-    → reader ≡ record { pending = []; room = limit; at_end = false; ended = false } → IsAt session [] []
-    → Midway limit f f k k before before reader old old session
-start limit f k before old reader session fresh at =
-    subst (λ (r : Reader). Midway limit f f k k before before r old old session) (sym fresh) (record {
+pub start : (desk : Desk) (limit f k : ℕ) (before old : Option (List ℕ)) (reader : Reader) (session : Session)
+    → reader ≡ record { pending = []; room = limit; at_end = false; ended = false } → IsAt desk session [] []
+    → Midway desk limit f f k k before before reader old old session
+start desk limit f k before old reader session fresh at =
+    subst (λ (r : Reader). Midway desk limit f f k k before before r old old session) (sym fresh) (record {
       got = [];
       lines = [];
       written = [];
@@ -68,7 +69,7 @@ start limit f k before old reader session fresh at =
       going = refl;
       to = Appends-nil old;
       at = at;
-      few = omega (arith, none_handed session [] at);
+      few = omega (arith, none_handed desk session [] at);
       reads = omega arith;
       writes = omega arith;
     })
@@ -109,19 +110,19 @@ text_is_some text line new after whole = elim whole [
 ]
 
 -- the session took the line in
-pub go_on : {limit max f f' f'' k k' k'' : ℕ} {before now later old mid new : Option (List ℕ)} {reader reader' : Reader} {session session' : Session} {next : Next}
-    → (midway : Midway limit f f' k k' before now reader old mid session) → (handed : HandsOn next max reader reader' now later)
-    → WritesMore (IsAt session' (jobs midway.lines ++ jobs (handed.line ∷ []))) midway.written mid new
+pub go_on : {desk : Desk} {limit max f f' f'' k k' k'' : ℕ} {before now later old mid new : Option (List ℕ)} {reader reader' : Reader} {session session' : Session} {next : Next}
+    → (midway : Midway desk limit f f' k k' before now reader old mid session) → (handed : HandsOn next max reader reader' now later)
+    → WritesMore (IsAt desk session' (jobs midway.lines ++ jobs (handed.line ∷ []))) midway.written mid new
     → session'.count + seats_in session' ≤ session.count + seats_in session + 1 → f' ≤ f'' → k' ≤ k''
-    → Midway limit f f'' k k'' before later reader' old new session'
-go_on {later = later} {old = old} {mid = mid} {new = new} {reader = reader} {reader' = reader'} {session = session} {session' = session'} midway handed took few reads writes = record {
+    → Midway desk limit f f'' k k'' before later reader' old new session'
+go_on {desk = desk} {later = later} {old = old} {mid = mid} {new = new} {reader = reader} {reader' = reader'} {session = session} {session' = session'} midway handed took few reads writes = record {
   got = midway.got ++ handed.text;
   lines = midway.lines ++ handed.line ∷ [];
   written = midway.written ++ took.more;
   read = hand midway.read handed;
   going = handed.goes_on;
   to = Appends-trans old mid new midway.written took.more midway.to took.to;
-  at = subst (λ (asked : List (List ℕ)). IsAt session' asked (midway.written ++ took.more)) (sym (jobs-append midway.lines (handed.line ∷ []))) took.holds;
+  at = subst (λ (asked : List (List ℕ)). IsAt desk session' asked (midway.written ++ took.more)) (sym (jobs-append midway.lines (handed.line ∷ []))) took.holds;
   few =
       let some = text_is_some handed.text handed.line reader' later handed.whole in
       let before = midway.few in

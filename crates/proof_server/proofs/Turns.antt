@@ -8,7 +8,7 @@ use Rattle.std.proofs.lemmas.List.Elements.{All-head, All-tail, All-push}
 use Rattle.std.specs.Io.KnownBytes.{Appends}
 use Rattle.std.proofs.KnownBytes.{Appends-trans}
 use Rattle.edge_io.specs.Causes.{Rose}
-use Rattle.operation_laws.specs.Answers.{refused, failed, lacking, product, one as answering, elimination, satisfiability}
+use Rattle.operation_laws.specs.Answers.{refused, failed, lacking, product, one as answering, elimination, satisfiability, saturation}
 use Rattle.operation_laws.specs.Values.{Value}
 use Rattle.held_values.specs.declared.held.Held.{Held}
 use Rattle.held_values.specs.Means.{sense}
@@ -20,11 +20,12 @@ use Rattle.session_laws.proofs.ReplyLines.{length-reply_line}
 use Rattle.job_windows.specs.Running.{IsConclusion, IsUnnamed, FitsDesk}
 use Rattle.job_windows.specs.Windows.{AreDue}
 use Rattle.job_windows.specs.Replying.{IsReply}
-use Rattle.job_windows.specs.Means.{IsPending}
+use Rattle.job_windows.specs.Means.{IsGathered, IsPending}
 use Rattle.job_windows.proofs.Answering.{empty_gathered}
 use Rattle.job_windows.specs.declared.names.Names.{Names}
 use Rattle.job_windows.specs.declared.replying.ReplyLine.{ReplyLine}
 use Rattle.job_windows.specs.declared.seats.Due.{Due}
+use Rattle.cut_elim.specs.declared.desk.Desk.{Desk}
 use Rattle.cut_elim.specs.Desks.{IsDeskPassOf}
 use Rattle.proof_server.specs.Counting.{counts_of}
 use Rattle.proof_server.specs.Turn.{any_lacked, IsAt, IsWriting, AreInPart, WritesMore, Goes, Writes}
@@ -42,6 +43,7 @@ some_end (an_operation (answering lacking)) = (answered_by lacking, refl)
 some_end (an_operation (answering (product p))) = (answered_by (product p), inl refl)
 some_end (an_operation (elimination t)) = (answered_by lacking, inr refl)
 some_end (an_operation (satisfiability cs)) = (answered_by lacking, inr (inr refl))
+some_end (an_operation (saturation cs n)) = (answered_by lacking, inr (inr (inr refl)))
 
 -- nothing of the next reply is a part of it
 part_none : (earlier : List Past) (waiting : List (List ℕ)) → AreAllowed earlier → IsPartOfNext earlier waiting []
@@ -57,7 +59,7 @@ part_none earlier (line ∷ waiting) allowed =
     }
 
 -- a part of the first reply that waits is one however many more wait
-part_of_more : (earlier : List Past) (waiting more : List (List ℕ)) (part : List ℕ) → AreAllowed earlier
+pub part_of_more : (earlier : List Past) (waiting more : List (List ℕ)) (part : List ℕ) → AreAllowed earlier
     → IsPartOfNext earlier waiting part → IsPartOfNext earlier (waiting ++ more) part
 part_of_more earlier [] more part allowed none = subst (IsPartOfNext earlier more) (sym none) (part_none earlier more allowed)
 part_of_more earlier (line ∷ waiting) more part allowed next = next
@@ -85,11 +87,11 @@ whole_in_part done waiting asked written each bytes allowed = record {
   next = part_none done waiting allowed;
 }
 
-pub at_in_part : (session : Session) (asked : List (List ℕ)) (written : List ℕ) → IsAt session asked written → AreInPart asked written
-at_in_part session asked written at = whole_in_part at.done at.waiting asked written at.each at.bytes at.answered.allowed
+pub at_in_part : (desk : Desk) (session : Session) (asked : List (List ℕ)) (written : List ℕ) → IsAt desk session asked written → AreInPart asked written
+at_in_part desk session asked written at = whole_in_part at.done at.waiting asked written at.each at.bytes at.answered.allowed
 
-pub writing_in_part : (session : Session) (asked : List (List ℕ)) (written : List ℕ) (dues : List Due) → IsWriting session asked written dues → AreInPart asked written
-writing_in_part session asked written dues w = whole_in_part w.done w.waiting asked written w.each w.bytes w.answered.allowed
+pub writing_in_part : (desk : Desk) (session : Session) (asked : List (List ℕ)) (written : List ℕ) (dues : List Due) → IsWriting desk session asked written dues → AreInPart asked written
+writing_in_part desk session asked written dues w = whole_in_part w.done w.waiting asked written w.each w.bytes w.answered.allowed
 
 -- nothing more was written
 pub writes_none : (P : List ℕ → Type 0) (written : List ℕ) (old new : Option (List ℕ)) → Appends old new [] → P written → WritesMore P written old new
@@ -105,19 +107,19 @@ writes_on P Q written old mid new first second = record {
 }
 
 -- the session stopped behind what was written
-pub writes_stop : (stop : Stop) (one two three : Session) (asked : List (List ℕ)) (written : List ℕ) (left rest : List Due) (k k' k'' : ℕ) (old mid new : Option (List ℕ)) → k ≤ k'
-    → (so_far : WritesMore (λ bytes. IsWriting one asked bytes left) written old mid) → Writes (Err stop) two asked (written ++ so_far.more) rest k' k'' mid new
-    → Writes (Err stop) three asked written [] k k'' old new
-writes_stop WriteFault one two three asked written left rest k k' k'' old mid new since so_far stops =
-    (Rose-since k k' k'' since stops.0, writes_on (λ bytes. IsWriting one asked bytes left) (AreInPart asked) written old mid new so_far stops.1)
-writes_stop Memory one two three asked written left rest k k' k'' old mid new since so_far stops =
-    writes_on (λ bytes. IsWriting one asked bytes left) (AreInPart asked) written old mid new so_far stops
+pub writes_stop : (desk : Desk) (stop : Stop) (one two three : Session) (asked : List (List ℕ)) (written : List ℕ) (left rest : List Due) (k k' k'' : ℕ) (old mid new : Option (List ℕ)) → k ≤ k'
+    → (so_far : WritesMore (λ bytes. IsWriting desk one asked bytes left) written old mid) → Writes desk (Err stop) two asked (written ++ so_far.more) rest k' k'' mid new
+    → Writes desk (Err stop) three asked written [] k k'' old new
+writes_stop desk WriteFault one two three asked written left rest k k' k'' old mid new since so_far stops =
+    (Rose-since k k' k'' since stops.0, writes_on (λ bytes. IsWriting desk one asked bytes left) (AreInPart asked) written old mid new so_far stops.1)
+writes_stop desk Memory one two three asked written left rest k k' k'' old mid new since so_far stops =
+    writes_on (λ bytes. IsWriting desk one asked bytes left) (AreInPart asked) written old mid new so_far stops
 
 -- what a stop while replies are written is to the session
-pub stops_so : (stop : Stop) (one two : Session) (asked : List (List ℕ)) (written : List ℕ) (k k' : ℕ) (old new : Option (List ℕ))
-    → Writes (Err stop) one asked written [] k k' old new → Goes (Err stop) two asked written k k' old new
-stops_so WriteFault one two asked written k k' old new stops = stops
-stops_so Memory one two asked written k k' old new stops = stops
+pub stops_so : (desk : Desk) (stop : Stop) (one two : Session) (asked : List (List ℕ)) (written : List ℕ) (k k' : ℕ) (old new : Option (List ℕ))
+    → Writes desk (Err stop) one asked written [] k k' old new → Goes desk (Err stop) two asked written k k' old new
+stops_so desk WriteFault one two asked written k k' old new stops = stops
+stops_so desk Memory one two asked written k k' old new stops = stops
 
 -- the first answer that is due is that of the first line
 record IsHead (names : Names) (held : List (Option Value)) (earlier : List Past) (lines : List (List ℕ)) (due : Due) (dues : List Due) : Type 0 where
@@ -144,7 +146,7 @@ none_waits names held earlier [] known = refl
 none_waits names held earlier (line ∷ lines) are = absurd are
 
 -- with the reply to the first job
-module _ (before : Session) (asked : List (List ℕ)) (written : List ℕ) (due : Due) (dues : List Due) (w : IsWriting before asked written (due ∷ dues))
+module _ (desk : Desk) (before : Session) (asked : List (List ℕ)) (written : List ℕ) (due : Due) (dues : List Due) (w : IsWriting desk before asked written (due ∷ dues))
     (r : ReplyLine) (told : ¬ IsUnnamed due.outcome due.held) (same : r.held ≡ due.held)
     (replied : (earlier : List Past) (line : List ℕ) (came : Came) → before.count ≡ length earlier → due.name ≡ name_of line
     → IsConclusion due.outcome due.held (run_line (held_of earlier) line) came → IsReply r line earlier came) where
@@ -204,29 +206,28 @@ module _ (before : Session) (asked : List (List ℕ)) (written : List ℕ) (due 
       (counted : (earlier : List Past) (text : List ℕ) (came : Came) → before.counts ≡ counts_of earlier → IsReply r text earlier came → after.counts ≡ counts_of (job_of text came ∷ earlier))
       (kept : after.store.held.items ≡ before.store.held.items ++ r.held ∷ [])
       (spare : vec_capacity after.store.held ≡ vec_capacity before.store.held)
-      (desk : after.store.desk ≡ before.store.desk) (pass : after.store.pass ≡ before.store.pass) (names : after.store.names ≡ before.store.names) where
+      (pass : after.store.pass ≡ before.store.pass) (names : after.store.names ≡ before.store.names) where
     held_more : map sense after.store.held.items ≡ map sense before.store.held.items ++ sense due.held ∷ []
     held_more = ap (λ (hs : List Held). map sense hs) kept ∙ map-append sense before.store.held.items (r.held ∷ [])
         ∙ ap (λ (h : Held). map sense before.store.held.items ++ sense h ∷ []) same
 
-    pending_more : IsPending after.store (job ∷ w.done) head.rest dues
+    pending_more : IsPending desk after.store (job ∷ w.done) head.rest dues
     unfolding job
     pending_more = record {
       holds = record {
-        pass = subst (λ d. IsDeskPassOf d after.store.pass) (sym desk) (subst (λ p. IsDeskPassOf before.store.desk p) (sym pass) w.pending.holds.pass);
+        pass = subst (IsDeskPassOf desk) (sym pass) w.pending.holds.pass;
         sized = omega (arith, w.pending.holds.sized, ap length kept, length-append before.store.held.items (r.held ∷ []));
-        fits = subst (λ d. All (FitsDesk d) after.store.held.items) (sym desk)
-            (subst (All (FitsDesk before.store.desk)) (sym kept)
-            (All-push (FitsDesk before.store.desk) before.store.held.items r.held w.pending.holds.fits
-            (subst (FitsDesk before.store.desk) (sym same) (All-head (λ (d : Due). FitsDesk before.store.desk d.held) due dues w.pending.fits))));
+        fits = subst (All (FitsDesk desk)) (sym kept)
+            (All-push (FitsDesk desk) before.store.held.items r.held w.pending.holds.fits
+            (subst (FitsDesk desk) (sym same) (All-head (λ (d : Due). FitsDesk desk d.held) due dues w.pending.fits)));
       };
-      fits = subst (λ d. All (λ (u : Due). FitsDesk d u.held) dues) (sym desk) (All-tail (λ (d : Due). FitsDesk before.store.desk d.held) due dues w.pending.fits);
+      fits = All-tail (λ (d : Due). FitsDesk desk d.held) due dues w.pending.fits;
       room = λ some. let room = w.pending.room (omega arith) in omega (arith, room, spare, ap length kept, length-append before.store.held.items (r.held ∷ []));
       due = subst (λ ns. AreDue ns (map sense after.store.held.items) (job_of head.line goes.0 ∷ w.done) head.rest dues) (sym names)
           (subst (λ (hs : List (Option Value)). AreDue before.store.names hs (job_of head.line goes.0 ∷ w.done) head.rest dues) (sym held_more) goes.2);
     }
 
-    pub written_whole : (old new : Option (List ℕ)) → Appends old new r.bytes.items → WritesMore (λ bytes. IsWriting after asked bytes dues) written old new
+    pub written_whole : (old new : Option (List ℕ)) → Appends old new r.bytes.items → WritesMore (λ bytes. IsWriting desk after asked bytes dues) written old new
     unfolding job
     written_whole old new to = record {
       more = r.bytes.items;
@@ -248,10 +249,10 @@ module _ (before : Session) (asked : List (List ℕ)) (written : List ℕ) (due 
     }
 
 -- the window of a session was run
-pub ran : (before after : Session) (asked : List (List ℕ)) (written : List ℕ) (dues : List Due) (at : IsAt before asked written)
+pub ran : (desk : Desk) (before after : Session) (asked : List (List ℕ)) (written : List ℕ) (dues : List Due) (at : IsAt desk before asked written)
     → after.count ≡ before.count → after.counts ≡ before.counts → after.good ≡ before.good → after.lacked ≡ before.lacked
-    → IsPending after.store at.done at.waiting dues → IsWriting after asked written dues
-ran before after asked written dues at number counts good lacked pending = record {
+    → IsPending desk after.store at.done at.waiting dues → IsWriting desk after asked written dues
+ran desk before after asked written dues at number counts good lacked pending = record {
   done = at.done;
   waiting = at.waiting;
   each = at.each;
@@ -266,50 +267,69 @@ ran before after asked written dues at number counts good lacked pending = recor
   pending = pending;
 }
 
+-- one more job was gathered
+pub gathered_more : (desk : Desk) (before after : Session) (asked : List (List ℕ)) (written line : List ℕ) (at : IsAt desk before asked written)
+    → after.count ≡ before.count → after.counts ≡ before.counts → after.good ≡ before.good → after.lacked ≡ before.lacked
+    → IsGathered desk after.store after.window at.done (at.waiting ++ line ∷ []) → IsAt desk after (asked ++ line ∷ []) written
+gathered_more desk before after asked written line at number counts good lacked gathered = record {
+  done = at.done;
+  waiting = at.waiting ++ line ∷ [];
+  each = sym (append_assoc (in_order at.done) at.waiting (line ∷ [])) ∙ ap (λ (lines : List (List ℕ)). lines ++ line ∷ []) at.each;
+  bytes = at.bytes;
+  answered = record {
+    allowed = at.answered.allowed;
+    number = number ∙ at.answered.number;
+    counts = counts ∙ at.answered.counts;
+    good_is = good ∙ at.answered.good_is;
+    lacked_is = lacked ∙ at.answered.lacked_is;
+  };
+  gathered = gathered;
+}
+
 -- all that was due is written, and the window is empty
-pub all_written : (session : Session) (asked : List (List ℕ)) (written : List ℕ) → session.window.seats.items ≡ [] → session.window.tasks.items ≡ []
-    → IsWriting session asked written [] → IsAt session asked written
-all_written session asked written seats tasks w = record {
+pub all_written : (desk : Desk) (session : Session) (asked : List (List ℕ)) (written : List ℕ) → session.window.seats.items ≡ [] → session.window.tasks.items ≡ []
+    → IsWriting desk session asked written [] → IsAt desk session asked written
+all_written desk session asked written seats tasks w = record {
   done = w.done;
   waiting = w.waiting;
   each = w.each;
   bytes = w.bytes;
   answered = w.answered;
-  gathered = empty_gathered session.store session.window w.done w.waiting w.pending
+  gathered = empty_gathered desk session.store session.window w.done w.waiting w.pending
       (none_waits session.store.names (map sense session.store.held.items) w.done w.waiting w.pending.due) seats tasks;
 }
 
 -- so it is where it was written behind what was
-pub all_written_more : (session : Session) (asked : List (List ℕ)) (written : List ℕ) (old new : Option (List ℕ)) → session.window.seats.items ≡ [] → session.window.tasks.items ≡ []
-    → WritesMore (λ bytes. IsWriting session asked bytes []) written old new → WritesMore (IsAt session asked) written old new
-all_written_more session asked written old new seats tasks writes =
-    record { more = writes.more; to = writes.to; holds = all_written session asked (written ++ writes.more) seats tasks writes.holds }
+pub all_written_more : (desk : Desk) (session : Session) (asked : List (List ℕ)) (written : List ℕ) (old new : Option (List ℕ)) → session.window.seats.items ≡ [] → session.window.tasks.items ≡ []
+    → WritesMore (λ bytes. IsWriting desk session asked bytes []) written old new → WritesMore (IsAt desk session asked) written old new
+all_written_more desk session asked written old new seats tasks writes =
+    record { more = writes.more; to = writes.to; holds = all_written desk session asked (written ++ writes.more) seats tasks writes.holds }
 
 -- all of it is flushed, which writes nothing
-pub flushed_more : (session : Session) (asked : List (List ℕ)) (written : List ℕ) (old mid new : Option (List ℕ)) → session.window.seats.items ≡ [] → session.window.tasks.items ≡ []
-    → WritesMore (λ bytes. IsWriting session asked bytes []) written old mid → new ≡ mid → WritesMore (IsAt session asked) written old new
-flushed_more session asked written old mid new seats tasks writes same =
-    subst (λ (end : Option (List ℕ)). WritesMore (IsAt session asked) written old end) (sym same) (all_written_more session asked written old mid seats tasks writes)
+pub flushed_more : (desk : Desk) (session : Session) (asked : List (List ℕ)) (written : List ℕ) (old mid new : Option (List ℕ)) → session.window.seats.items ≡ [] → session.window.tasks.items ≡ []
+    → WritesMore (λ bytes. IsWriting desk session asked bytes []) written old mid → new ≡ mid → WritesMore (IsAt desk session asked) written old new
+flushed_more desk session asked written old mid new seats tasks writes same =
+    subst (λ (end : Option (List ℕ)). WritesMore (IsAt desk session asked) written old end) (sym same) (all_written_more desk session asked written old mid seats tasks writes)
 
 -- the flush failed
-pub flush_failed : (session : Session) (asked : List (List ℕ)) (written : List ℕ) (dues : List Due) (k k' k'' : ℕ) (old mid new : Option (List ℕ)) → k ≤ k' → Rose k' k''
-    → WritesMore (λ bytes. IsWriting session asked bytes dues) written old mid → new ≡ mid → Goes (Err WriteFault) session asked written k k'' old new
-flush_failed session asked written dues k k' k'' old mid new since rose writes same = (
+pub flush_failed : (desk : Desk) (session : Session) (asked : List (List ℕ)) (written : List ℕ) (dues : List Due) (k k' k'' : ℕ) (old mid new : Option (List ℕ)) → k ≤ k' → Rose k' k''
+    → WritesMore (λ bytes. IsWriting desk session asked bytes dues) written old mid → new ≡ mid → Goes desk (Err WriteFault) session asked written k k'' old new
+flush_failed desk session asked written dues k k' k'' old mid new since rose writes same = (
   Rose-since k k' k'' since rose,
   record {
     more = writes.more;
     to = subst (λ (end : Option (List ℕ)). Appends old end writes.more) (sym same) writes.to;
-    holds = writing_in_part session asked (written ++ writes.more) dues writes.holds;
+    holds = writing_in_part desk session asked (written ++ writes.more) dues writes.holds;
   },
 )
 
 -- all that was due is written and flushed, or the flush failed
-pub goes_flushed : (result : Result (Unit {0}) Stop) (session : Session) (asked : List (List ℕ)) (written : List ℕ) (k k' k'' : ℕ) (old mid new : Option (List ℕ))
+pub goes_flushed : (desk : Desk) (result : Result (Unit {0}) Stop) (session : Session) (asked : List (List ℕ)) (written : List ℕ) (k k' k'' : ℕ) (old mid new : Option (List ℕ))
     → session.window.seats.items ≡ [] → session.window.tasks.items ≡ [] → k ≤ k' → IfErr result (λ stop. (stop ≡ WriteFault) × Rose k' k'')
-    → WritesMore (λ bytes. IsWriting session asked bytes []) written old mid → new ≡ mid → Goes result session asked written k k'' old new
-goes_flushed (Ok _) session asked written k k' k'' old mid new seats tasks since fault writes same = flushed_more session asked written old mid new seats tasks writes same
-goes_flushed (Err stop) session asked written k k' k'' old mid new seats tasks since fault writes same =
-    subst (λ (s : Stop). Goes (Err s) session asked written k k'' old new) (sym fault.0) (flush_failed session asked written [] k k' k'' old mid new since fault.1 writes same)
+    → WritesMore (λ bytes. IsWriting desk session asked bytes []) written old mid → new ≡ mid → Goes desk result session asked written k k'' old new
+goes_flushed desk (Ok _) session asked written k k' k'' old mid new seats tasks since fault writes same = flushed_more desk session asked written old mid new seats tasks writes same
+goes_flushed desk (Err stop) session asked written k k' k'' old mid new seats tasks since fault writes same =
+    subst (λ (s : Stop). Goes desk (Err s) session asked written k k'' old new) (sym fault.0) (flush_failed desk session asked written [] k k' k'' old mid new since fault.1 writes same)
 
 -- what holds in any case does so where all went well
 pub on_ok : {P : Type 0} (result : Result (Unit {0}) Stop) → P → OnOk result P
@@ -334,16 +354,16 @@ long_is_job line long =
     λ i. is_long i || not (list_all is_blank line)
 
 -- with a line of blanks the session was handed no more jobs
-pub goes_blank : (result : Result (Unit {0}) Stop) (session : Session) (asked : List (List ℕ)) (line written : List ℕ) (k k' : ℕ) (old new : Option (List ℕ)) → is_job line ≡ false
-    → Goes result session asked written k k' old new → Goes result session (asked ++ jobs (line ∷ [])) written k k' old new
-goes_blank result session asked line written k k' old new blank goes =
-    subst (λ (all : List (List ℕ)). Goes result session all written k k' old new) (sym (append-nil asked) ∙ ap (λ (more : List (List ℕ)). asked ++ more) (sym (jobs_of_blank line blank))) goes
+pub goes_blank : (desk : Desk) (result : Result (Unit {0}) Stop) (session : Session) (asked : List (List ℕ)) (line written : List ℕ) (k k' : ℕ) (old new : Option (List ℕ)) → is_job line ≡ false
+    → Goes desk result session asked written k k' old new → Goes desk result session (asked ++ jobs (line ∷ [])) written k k' old new
+goes_blank desk result session asked line written k k' old new blank goes =
+    subst (λ (all : List (List ℕ)). Goes desk result session all written k k' old new) (sym (append-nil asked) ∙ ap (λ (more : List (List ℕ)). asked ++ more) (sym (jobs_of_blank line blank))) goes
 
 -- with any other it was handed that one
-pub goes_job : (result : Result (Unit {0}) Stop) (session : Session) (asked : List (List ℕ)) (line written : List ℕ) (k k' : ℕ) (old new : Option (List ℕ)) → is_job line ≡ true
-    → Goes result session (asked ++ line ∷ []) written k k' old new → Goes result session (asked ++ jobs (line ∷ [])) written k k' old new
-goes_job result session asked line written k k' old new job goes =
-    subst (λ (more : List (List ℕ)). Goes result session (asked ++ more) written k k' old new) (sym (jobs_of_job line job)) goes
+pub goes_job : (desk : Desk) (result : Result (Unit {0}) Stop) (session : Session) (asked : List (List ℕ)) (line written : List ℕ) (k k' : ℕ) (old new : Option (List ℕ)) → is_job line ≡ true
+    → Goes desk result session (asked ++ line ∷ []) written k k' old new → Goes desk result session (asked ++ jobs (line ∷ [])) written k k' old new
+goes_job desk result session asked line written k k' old new job goes =
+    subst (λ (more : List (List ℕ)). Goes desk result session (asked ++ more) written k k' old new) (sym (jobs_of_job line job)) goes
 
 -- once the window was run no more jobs are in the session than before
 pub few_run : (result : Result (Unit {0}) Stop) (count seats jobs most : ℕ) → OnOk result (count ≡ jobs) → OnOk result (seats ≡ 0) → jobs ≤ most → OnOk result (count + seats ≤ most)

@@ -2,9 +2,11 @@
 --     IsAt      what the session has been handed, and what it has written
 --     AreInPart      bytes are the replies to the first of some jobs, and perhaps a part of the next one
 --     Goes      the session goes on, or stops
+-- A desk is given, which the session works on.
 use Rattle.std.specs.Prelude.{◌≡◌, ℕ, Bool, false, ◌||◌, List, [], ◌∷◌, ◌++◌, length, Option, Result, Ok, Err}
 use Rattle.std.specs.Io.KnownBytes.{Appends}
 use Rattle.edge_io.specs.Causes.{Rose}
+use Rattle.cut_elim.specs.declared.desk.Desk.{Desk}
 use Rattle.session_laws.specs.Answers.{Past, lacked, in_order, AreAllowed}
 use Rattle.session_laws.specs.Session.{out, all_ok, IsPartOfNext}
 use Rattle.job_windows.specs.Means.{IsGathered, IsPending}
@@ -34,22 +36,22 @@ pub record HasAnswered (session : Session) (done : List Past) : Type 0 where
   pub lacked_is : session.lacked ≡ any_lacked done
 
 -- The session has been handed these jobs. The first of them are answered, by these bytes, and the others are gathered in the window.
-pub record IsAt (session : Session) (asked : List (List ℕ)) (written : List ℕ) : Type 0 where
+pub record IsAt (desk : Desk) (session : Session) (asked : List (List ℕ)) (written : List ℕ) : Type 0 where
   pub done : List Past
   pub waiting : List (List ℕ)
   pub each : in_order done ++ waiting ≡ asked
   pub bytes : written ≡ out done
   pub answered : HasAnswered session done
-  pub gathered : IsGathered session.store session.window done waiting
+  pub gathered : IsGathered desk session.store session.window done waiting
 
 -- The first of these jobs are answered, by these bytes, and these answers are due for the others, whose window was run.
-pub record IsWriting (session : Session) (asked : List (List ℕ)) (written : List ℕ) (dues : List Due) : Type 0 where
+pub record IsWriting (desk : Desk) (session : Session) (asked : List (List ℕ)) (written : List ℕ) (dues : List Due) : Type 0 where
   pub done : List Past
   pub waiting : List (List ℕ)
   pub each : in_order done ++ waiting ≡ asked
   pub bytes : written ≡ out done
   pub answered : HasAnswered session done
-  pub pending : IsPending session.store done waiting dues
+  pub pending : IsPending desk session.store done waiting dues
 
 -- the bytes are the replies to the first of these jobs, and then perhaps a part of the next one's
 pub record AreInPart (asked : List (List ℕ)) (written : List ℕ) : Type 0 where
@@ -68,16 +70,16 @@ pub record WritesMore (P : List ℕ → Type 0) (written : List ℕ) (old new : 
   pub holds : P (written ++ more)
 
 -- the session was handed these jobs, with what was written so far
-abbrev pub Goes : Result (Unit {0}) Stop → Session → List (List ℕ) → List ℕ → ℕ → ℕ → Option (List ℕ) → Option (List ℕ) → Type 0
-Goes (Ok _) after asked written k k' old new = WritesMore (IsAt after asked) written old new
-Goes (Err WriteFault) after asked written k k' old new = Rose k k' × WritesMore (AreInPart asked) written old new
-Goes (Err Memory) after asked written k k' old new = WritesMore (AreInPart asked) written old new
+abbrev pub Goes : Desk → Result (Unit {0}) Stop → Session → List (List ℕ) → List ℕ → ℕ → ℕ → Option (List ℕ) → Option (List ℕ) → Type 0
+Goes desk (Ok _) after asked written k k' old new = WritesMore (IsAt desk after asked) written old new
+Goes desk (Err WriteFault) after asked written k k' old new = Rose k k' × WritesMore (AreInPart asked) written old new
+Goes desk (Err Memory) after asked written k k' old new = WritesMore (AreInPart asked) written old new
 
 -- the same where answers are still due
-abbrev pub Writes : Result (Unit {0}) Stop → Session → List (List ℕ) → List ℕ → List Due → ℕ → ℕ → Option (List ℕ) → Option (List ℕ) → Type 0
-Writes (Ok _) after asked written dues k k' old new = WritesMore (λ bytes. IsWriting after asked bytes dues) written old new
-Writes (Err WriteFault) after asked written dues k k' old new = Rose k k' × WritesMore (AreInPart asked) written old new
-Writes (Err Memory) after asked written dues k k' old new = WritesMore (AreInPart asked) written old new
+abbrev pub Writes : Desk → Result (Unit {0}) Stop → Session → List (List ℕ) → List ℕ → List Due → ℕ → ℕ → Option (List ℕ) → Option (List ℕ) → Type 0
+Writes desk (Ok _) after asked written dues k k' old new = WritesMore (λ bytes. IsWriting desk after asked bytes dues) written old new
+Writes desk (Err WriteFault) after asked written dues k k' old new = Rose k k' × WritesMore (AreInPart asked) written old new
+Writes desk (Err Memory) after asked written dues k k' old new = WritesMore (AreInPart asked) written old new
 
 -- how a session ends that can't go on
 abbrev pub ended_of : Stop → Ended

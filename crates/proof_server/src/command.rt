@@ -1,14 +1,16 @@
 ghost use Rattle.std.specs.Prelude.{◌≡◌, ◌⊎◌, ℕ, IsNone, IsSome, Some, map, string_bytes};
 ghost use Rattle.command_words.specs.Words.{settings_of};
+ghost use Rattle.cut_elim.specs.Desks.{IsDeskPassOf};
 ghost use Rattle.proof_server.specs.Command.{workers_asked, jobs_asked, Serves, IsComplete, Notes, note_of};
 ghost use Rattle.proof_server.specs.Ending.{status_of};
 ghost use Rattle.proof_server.specs.Generating.{Generates};
 
 use crate::ending::Ended;
 use crate::generating::generate;
-use crate::serving::serve_session;
+use crate::serving::{serve_over, serve_session};
 use crate::session::Storage;
 use command_words::{WordsError, read_words};
+use cut_elim::{Desk, DeskPass};
 use edge_io::{Sink, Source, write_whole};
 use job_workers::Gate;
 use std::alloc::Global;
@@ -63,6 +65,38 @@ pub fn serve<R: Wait + Threads + Sync, S: Source, K: Sink, G: Gate>(
         (S.left source.old) }
 {
     status(serve_session(rt, alloc, source, sink, gate, workers, Storage::Freed))
+}
+
+/// A session as by `serve`, over a desk that others may use at the same time, each with a pass of its own: whatever the desk's graph and
+/// tables hold, the replies are those to the source's own jobs, and names are the session's own.
+pub fn serve_on<R: Wait + Threads + Sync, S: Source, K: Sink, G: Gate>(
+    rt: &R,
+    alloc: Global,
+    desk: &Desk,
+    pass: &mut DeskPass,
+    source: &mut S,
+    sink: &mut K,
+    gate: &G,
+    workers: u64,
+) -> u8
+    requires pass { IsDeskPassOf desk.now pass.old }
+    ensures served { Serves result (S.faults source.old) (S.faults source.new) (K.faults sink.old) (K.faults sink.new)
+        (S.left source.old) (S.left source.new) (K.written sink.old) (K.written sink.new) (K.flushed sink.new) }
+    ensures complete { IsComplete result (S.faults source.old) (S.faults source.new) (K.faults sink.old) (K.faults sink.new)
+        (S.left source.old) }
+    ensures pass { IsDeskPassOf desk.now pass.new }
+{
+    status(serve_over(
+        rt,
+        alloc,
+        desk,
+        pass,
+        source,
+        sink,
+        gate,
+        workers,
+        Storage::Freed,
+    ))
 }
 
 /// Serves the source or runs generated jobs, as the words ask.

@@ -1,7 +1,7 @@
 //! A run over generated jobs: their replies are counted, and nothing else is written.
 ghost use Rattle.std.specs.Prelude.{◌≡◌, ◌∷◌, ◌++◌, [], List, ℕ, IfOk};
 ghost use Rattle.job_gen.specs.Generated.{generated_line};
-ghost use Rattle.job_windows.specs.Means.{HasPass};
+ghost use Rattle.cut_elim.specs.Desks.{IsDeskPassOf};
 ghost use Rattle.proof_server.specs.Turn.{IsAt};
 ghost use Rattle.proof_server.specs.Counting.{counts_line as line_of_counts};
 ghost use Rattle.proof_server.specs.Generating.{AreCounts, EndsCounting};
@@ -9,6 +9,7 @@ ghost use Rattle.proof_server.specs.Generating.{AreCounts, EndsCounting};
 use crate::counts::{Counts, counts_line};
 use crate::ending::Ended;
 use crate::session::{Session, Storage};
+use cut_elim::Desk;
 use edge_io::{NeverSink, Sink, write_whole};
 use job_gen::generate_line;
 use job_gen::laws::lines;
@@ -27,36 +28,37 @@ fn generated_text(alloc: Global, count: u64) -> Result<Vec<u8>, AllocError>
     Ok(line)
 }
 
-// The counts of the replies to n generated jobs in a new session, unless memory runs out or a job lacks it. The jobs of one window and one
+// The counts of the replies to n generated jobs in a new session over the desk, unless memory runs out or a job lacks it. The jobs of one window and one
 // reply at a time are kept.
 fn count_replies<R: Wait + Threads + Sync, G: Gate>(
     session: &mut Session,
     rt: &R,
     alloc: Global,
+    desk: &Desk,
     gate: &G,
     n: u64,
 ) -> Result<Counts, AllocError>
-    requires { IsAt session.old [] [] }
+    requires { IsAt desk.now session.old [] [] }
     ensures counts { IfOk result (AreCounts n) }
-    ensures pass { HasPass session.new.store }
+    ensures pass { IsDeskPassOf desk.now session.new.store.pass }
 {
     held_proofs();
     lines();
     let mut sink = NeverSink::new();
     for i in 0..n {
         let line = generated_text(alloc, i)?;
-        match session.take(rt, alloc, &mut sink, gate, Some(line.as_slice())) {
+        match session.take(rt, alloc, desk, &mut sink, gate, Some(line.as_slice())) {
             Ok(()) => {}
             Err(_) => return Err(AllocError),
         }
     }
-    match session.run(rt, alloc, &mut sink, gate) {
+    match session.run(rt, alloc, desk, &mut sink, gate) {
         Ok(()) if !session.lacked => Ok(session.counts),
         _ => Err(AllocError),
     }
 }
 
-// The counts of the replies to n generated jobs, in a session of their own, and the line of these counts.
+// The counts of the replies to n generated jobs, in a session of their own over a desk of its own, and the line of these counts.
 fn generated_counts<R: Wait + Threads + Sync, G: Gate>(
     rt: &R,
     alloc: Global,
@@ -67,9 +69,10 @@ fn generated_counts<R: Wait + Threads + Sync, G: Gate>(
     ensures counts { IfOk result (λ told. AreCounts n told.0) }
     ensures line { IfOk result (λ told. told.1.items ≡ line_of_counts told.0) }
 {
-    let mut session = Session::new(rt, alloc, workers)?;
-    let counts = count_replies(&mut session, rt, alloc, gate, n);
-    session.end(rt, Storage::Left);
+    let (desk, pass) = Desk::new(rt, alloc)?;
+    let mut session = Session::new(alloc, pass, workers);
+    let counts = count_replies(&mut session, rt, alloc, &desk, gate, n);
+    desk.leave(rt, session.end(Storage::Left));
     let counts = counts?;
     let line = counts_line(alloc, counts)?;
     Ok((counts, line))

@@ -10,7 +10,7 @@ mod running;
 mod serving;
 mod session;
 
-pub use command::{serve, top};
+pub use command::{serve, serve_on, top};
 pub use ending::Ended;
 pub use held_values::Held;
 pub use job_workers::{Gate, NoGate};

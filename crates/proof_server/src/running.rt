@@ -81,29 +81,27 @@ impl<'a> Runner for Operations<'a> {
     }
 }
 
-/// Runs the jobs of a window behind a store by so many workers at most, and answers what is due for each, in their order. Room for the answers
+/// Runs the jobs of a window behind a store of the desk by so many workers at most, and answers what is due for each, in their order. Room for the answers
 /// is made before the first job is run. Where there is no memory for what a job left to the caller is given, no job of the window is answered.
 pub(crate) fn run_behind<R: Wait + Threads + Sync, G: Gate>(
     store: &mut Store,
     rt: &R,
     alloc: Global,
+    desk: &Desk,
     window: Window,
     workers: u64,
     gate: &G,
 ) -> Result<Vec<Due>, AllocError>
-    requires { (earlier : List Past) × (lines : List (List ℕ)) × IsGathered store.old window earlier lines }
-    ensures due { (earlier : List Past) (lines : List (List ℕ)) → IsGathered store.old window earlier lines
-        → IfOk result (λ dues. IsPending store.new earlier lines dues.items) }
+    requires { (earlier : List Past) × (lines : List (List ℕ)) × IsGathered desk.now store.old window earlier lines }
+    ensures due { (earlier : List Past) (lines : List (List ℕ)) → IsGathered desk.now store.old window earlier lines
+        → IfOk result (λ dues. IsPending desk.now store.new earlier lines dues.items) }
     ensures length { IfOk result (λ dues. length dues.items ≡ length window.seats.items) }
-    ensures pass { HasPass store.new }
+    ensures pass { HasPass desk.now store.new }
 {
     let Window { seats, tasks } = window;
     let room = Vec::with_capacity(alloc, seats.len())?;
     store.held.reserve(seats.len())?;
-    let operations = Operations {
-        desk: &store.desk,
-        alloc,
-    };
+    let operations = Operations { desk, alloc };
     let answers = run_window(
         rt,
         alloc,

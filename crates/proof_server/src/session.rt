@@ -3,6 +3,8 @@ ghost use Rattle.std.specs.Prelude.{◌≡◌, ◌+◌, ◌<◌, ◌≤◌, ◌^
 ghost use Rattle.std.specs.List.{list_all};
 ghost use Rattle.std.specs.Option.{option_copied};
 ghost use Rattle.session_laws.specs.Jobs.{IsKept, is_blank as is_blank_of, is_job as is_job_of, jobs};
+ghost use Rattle.cut_elim.specs.declared.desk.Desk.{Desk as DeskMeaning};
+ghost use Rattle.cut_elim.specs.Desks.{IsDeskPassOf};
 ghost use Rattle.job_windows.specs.Means.{HasPass};
 ghost use Rattle.job_windows.specs.declared.seats.Due.{Due as DueMeaning};
 ghost use Rattle.edge_io.specs.Causes.{Rose};
@@ -11,6 +13,7 @@ ghost use Rattle.proof_server.specs.declared.session.Stop.TheVariants.{WriteFaul
 
 use crate::counts::Counts;
 use crate::running::run_behind;
+use cut_elim::{Desk, DeskPass};
 use edge_io::{Sink, write_whole};
 use job_windows::{Due, Store, Window};
 use job_workers::Gate;
@@ -26,8 +29,8 @@ const MOST_JOBS: usize = 64;
 /// A window is run with the line with which its lines come to so many bytes.
 const MOST_BYTES: u64 = 16_777_216;
 
-/// Where a session stands: how many jobs it has answered, what they hold, the jobs of its window and the bytes of their lines, the texts
-/// that were read and printed, and what is counted of the replies. It can't be dropped, and is ended by `end`.
+/// Where a session over a desk stands: how many jobs it has answered, what they hold, the jobs of its window and the bytes of their lines,
+/// the texts that were read and printed, and what is counted of the replies. It has a pass of the desk, and is ended by `end`.
 pub struct Session {
     pub workers: u64,
     pub count: u64,
@@ -93,27 +96,26 @@ fn flush<K: Sink>(sink: &mut K) -> Result<(), Stop>
 }
 
 impl Session {
-    /// No job has been answered. The jobs of a window are run by so many workers at most.
-    pub fn new<R: Wait>(rt: &R, alloc: Global, workers: u64) -> Result<Session, AllocError>
-        ensures { IfOk result (λ session. IsAt session [] []) }
+    /// No job has been answered, over the desk that the pass is of. The jobs of a window are run by so many workers at most.
+    pub fn new(alloc: Global, pass: DeskPass, workers: u64) -> Session
+        ensures { (desk : DeskMeaning) → IsDeskPassOf desk pass → IsAt desk result [] [] }
     {
-        let store = Store::new(rt, alloc)?;
-        Ok(Session {
+        Session {
             workers,
             count: 0,
-            store,
+            store: Store::new(alloc, pass),
             window: Window::new(alloc),
             bytes: 0,
             texts: TextTables::new(alloc),
             counts: Counts::new(),
             good: true,
             lacked: false,
-        })
+        }
     }
 
-    /// Ends the session with its store.
-    pub fn end<R: Wait>(self, rt: &R, storage: Storage)
-        requires { HasPass self.store }
+    /// Ends the session with its store, and gives its pass back.
+    pub fn end(self, storage: Storage) -> DeskPass
+        ensures { result ≡ self.store.pass }
     {
         let Session {
             workers: _workers,
@@ -128,12 +130,12 @@ impl Session {
         } = self;
         match storage {
             Storage::Freed => {
-                store.close(rt);
                 drop(texts);
+                store.close()
             }
             Storage::Left => {
-                store.leave(rt);
                 mem::forget(texts);
+                store.leave()
             }
         }
     }
@@ -144,16 +146,17 @@ impl Session {
         &mut self,
         rt: &R,
         alloc: Global,
+        desk: &Desk,
         sink: &mut K,
         gate: &G,
         line: Option<&[u8]>,
     ) -> Result<(), Stop>
         requires room { self.old.count + seats_in self.old + 1 < 2 ^ 64 }
         requires kept { (text : List ℕ) × IsKept (option_copied line) text }
-        requires at { (asked : List (List ℕ)) × (written : List ℕ) × IsAt self.old asked written }
-        ensures takes { (asked : List (List ℕ)) (written text : List ℕ) → IsAt self.old asked written
+        requires at { (asked : List (List ℕ)) × (written : List ℕ) × IsAt desk.now self.old asked written }
+        ensures takes { (asked : List (List ℕ)) (written text : List ℕ) → IsAt desk.now self.old asked written
             → IsKept (option_copied line.entry) text
-            → Goes result self.new (asked ++ jobs (text ∷ [])) written (K.faults sink.old) (K.faults sink.new)
+            → Goes desk.now result self.new (asked ++ jobs (text ∷ [])) written (K.faults sink.old) (K.faults sink.new)
             (K.written sink.old) (K.written sink.new) }
         ensures few { OnOk result (self.new.count + seats_in self.new ≤ self.old.count + seats_in self.old + 1) }
         ensures window { OnOk result (seats_in self.new < 64) }
@@ -162,13 +165,13 @@ impl Session {
         ensures flushed { (text : List ℕ) → IsKept (option_copied line.entry) text → is_job_of text ≡ false
             → OnOk result (K.flushed sink.new ≡ K.written sink.new) }
         ensures faults { K.faults sink.old ≤ K.faults sink.new }
-        ensures pass { HasPass self.new.store }
+        ensures pass { HasPass desk.now self.new.store }
     {
         if !is_job(line) {
-            return self.run(rt, alloc, sink, gate);
+            return self.run(rt, alloc, desk, sink, gate);
         }
         match self.gather(alloc, line) {
-            Ok(true) => self.run(rt, alloc, sink, gate),
+            Ok(true) => self.run(rt, alloc, desk, sink, gate),
             Ok(false) => Ok(()),
             Err(_) => Err(Stop::Memory),
         }
@@ -177,12 +180,12 @@ impl Session {
     // Gathers a job into the window, and says whether the window is full. A line that is too long fills it.
     fn gather(&mut self, alloc: Global, line: Option<&[u8]>) -> Result<bool, AllocError>
         requires kept { (text : List ℕ) × IsKept (option_copied line) text }
-        ensures at { (asked : List (List ℕ)) (written text : List ℕ) → IsAt self.old asked written
+        ensures at { (desk : DeskMeaning) (asked : List (List ℕ)) (written text : List ℕ) → IsAt desk self.old asked written
             → IsKept (option_copied line.entry) text
-            → OnOk result (IsAt self.new (asked ++ text ∷ []) written) }
+            → OnOk result (IsAt desk self.new (asked ++ text ∷ []) written) }
         ensures few { OnOk result (self.new.count + seats_in self.new ≤ self.old.count + seats_in self.old + 1) }
         ensures window { IfOk result (λ full. full ≡ false → seats_in self.new < 64) }
-        ensures pass { HasPass self.old.store → HasPass self.new.store }
+        ensures pass { self.new.store.pass ≡ self.old.store.pass }
     {
         let texts = &mut self.texts.formulas;
         self.store.gather(alloc, texts, &mut self.window, line)?;
@@ -199,20 +202,21 @@ impl Session {
         &mut self,
         rt: &R,
         alloc: Global,
+        desk: &Desk,
         sink: &mut K,
         gate: &G,
     ) -> Result<(), Stop>
         requires room { self.old.count + seats_in self.old < 2 ^ 64 }
-        requires at { (asked : List (List ℕ)) × (written : List ℕ) × IsAt self.old asked written }
-        ensures goes { (asked : List (List ℕ)) (written : List ℕ) → IsAt self.old asked written
-            → Goes result self.new asked written (K.faults sink.old) (K.faults sink.new) (K.written sink.old) (K.written sink.new) }
+        requires at { (asked : List (List ℕ)) × (written : List ℕ) × IsAt desk.now self.old asked written }
+        ensures goes { (asked : List (List ℕ)) (written : List ℕ) → IsAt desk.now self.old asked written
+            → Goes desk.now result self.new asked written (K.faults sink.old) (K.faults sink.new) (K.written sink.old) (K.written sink.new) }
         ensures empty { OnOk result (seats_in self.new ≡ 0) }
         ensures few { OnOk result (self.new.count ≡ self.old.count + seats_in self.old) }
         ensures flushed { OnOk result (K.flushed sink.new ≡ K.written sink.new) }
         ensures faults { K.faults sink.old ≤ K.faults sink.new }
-        ensures pass { HasPass self.new.store }
+        ensures pass { HasPass desk.now self.new.store }
     {
-        let dues = match self.run_jobs(rt, alloc, gate) {
+        let dues = match self.run_jobs(rt, alloc, desk, gate) {
             Ok(dues) => dues,
             Err(_) => return Err(Stop::Memory),
         };
@@ -228,21 +232,22 @@ impl Session {
         &mut self,
         rt: &R,
         alloc: Global,
+        desk: &Desk,
         gate: &G,
     ) -> Result<Vec<Due>, AllocError>
-        requires { (asked : List (List ℕ)) × (written : List ℕ) × IsAt self.old asked written }
-        ensures writing { (asked : List (List ℕ)) (written : List ℕ) → IsAt self.old asked written
-            → IfOk result (λ dues. IsWriting self.new asked written dues.items) }
+        requires { (asked : List (List ℕ)) × (written : List ℕ) × IsAt desk.now self.old asked written }
+        ensures writing { (asked : List (List ℕ)) (written : List ℕ) → IsAt desk.now self.old asked written
+            → IfOk result (λ dues. IsWriting desk.now self.new asked written dues.items) }
         ensures length { IfOk result (λ dues. length dues.items ≡ seats_in self.old) }
         ensures empty { (self.new.window.seats.items ≡ []) × (self.new.window.tasks.items ≡ []) }
         ensures count { self.new.count ≡ self.old.count }
-        ensures pass { HasPass self.new.store }
+        ensures pass { HasPass desk.now self.new.store }
     {
         let window = mem::replace(&mut self.window, Window::new(alloc));
         let worthwhile = window.worthwhile_workers(mem::replace(&mut self.bytes, 0));
         let least = if gate.may_hold() { 2 } else { 1 };
         let workers = self.workers.min(worthwhile.max(least));
-        run_behind(&mut self.store, rt, alloc, window, workers, gate)
+        run_behind(&mut self.store, rt, alloc, desk, window, workers, gate)
     }
 
     // Writes the reply to each job, in their order.
@@ -253,13 +258,13 @@ impl Session {
         dues: Vec<Due>,
     ) -> Result<(), Stop>
         requires room { self.old.count + length dues.items < 2 ^ 64 }
-        requires writing { (asked : List (List ℕ)) × (written : List ℕ) × IsWriting self.old asked written dues.items }
-        ensures writes { (asked : List (List ℕ)) (written : List ℕ) → IsWriting self.old asked written dues.items
-            → Writes result self.new asked written [] (K.faults sink.old) (K.faults sink.new) (K.written sink.old) (K.written sink.new) }
+        requires writing { (desk : DeskMeaning) × (asked : List (List ℕ)) × (written : List ℕ) × IsWriting desk self.old asked written dues.items }
+        ensures writes { (desk : DeskMeaning) (asked : List (List ℕ)) (written : List ℕ) → IsWriting desk self.old asked written dues.items
+            → Writes desk result self.new asked written [] (K.faults sink.old) (K.faults sink.new) (K.written sink.old) (K.written sink.new) }
         ensures few { OnOk result (self.new.count ≡ self.old.count + length dues.items) }
         ensures window { self.new.window ≡ self.old.window }
         ensures faults { K.faults sink.old ≤ K.faults sink.new }
-        ensures pass { HasPass self.new.store }
+        ensures pass { self.new.store.pass ≡ self.old.store.pass }
     {
         for due in dues {
             match self.write(alloc, sink, due) {
@@ -274,15 +279,15 @@ impl Session {
     fn write<K: Sink>(&mut self, alloc: Global, sink: &mut K, due: Due) -> Result<(), Stop>
         requires room { self.old.count + 1 < 2 ^ 64 }
         requires spare { length self.old.store.held.items < vec_capacity self.old.store.held }
-        requires pass { HasPass self.old.store }
-        ensures writes { (asked : List (List ℕ)) (written : List ℕ) (dues : List DueMeaning) → IsWriting self.old asked written (due ∷ dues)
-            → Writes result self.new asked written dues (K.faults sink.old) (K.faults sink.new) (K.written sink.old) (K.written sink.new) }
+        ensures writes { (desk : DeskMeaning) (asked : List (List ℕ)) (written : List ℕ) (dues : List DueMeaning)
+            → IsWriting desk self.old asked written (due ∷ dues)
+            → Writes desk result self.new asked written dues (K.faults sink.old) (K.faults sink.new) (K.written sink.old) (K.written sink.new) }
         ensures few { OnOk result (self.new.count ≡ self.old.count + 1) }
         ensures spare { OnOk result ((length self.new.store.held.items ≡ length self.old.store.held.items + 1)
             × (vec_capacity self.new.store.held ≡ vec_capacity self.old.store.held)) }
         ensures window { self.new.window ≡ self.old.window }
         ensures faults { K.faults sink.old ≤ K.faults sink.new }
-        ensures pass { HasPass self.new.store }
+        ensures pass { self.new.store.pass ≡ self.old.store.pass }
     {
         let reply = match due.reply(alloc, &mut self.texts.canonical, self.count) {
             Ok(reply) => reply,

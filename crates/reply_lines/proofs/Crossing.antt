@@ -1,4 +1,6 @@
--- What came of a job may cross to another thread, as a set for `search`. It has so many variants that its search needs bounds of its own.
+-- What came of a job may cross to another thread, as a set for `search`. It has so many variants that the lemma on enums is applied by hand, and
+-- the search for the variants needs bounds of its own.
+use denote.Enum.Declared as declared
 use denote.Param.Send.{IsSend, sendable, plain_send, such_send, copied_send, fixed_send, view_send, recorded_send, struct_send, enum_send}
 use Rattle.std.proofs.Crossing as std
 use Rattle.exp_tree.proofs.Crossing as trees
@@ -30,6 +32,7 @@ ruleset parts = (
   plain_send,
   words.steps_send,
   words.refutation_send,
+  words.clauses_send,
   words.formula_send,
   summary_send,
   exp_summary_send,
@@ -55,6 +58,6 @@ ruleset parts = (
 )
 
 pub outcome_send : IsSend (outcome.the_field).row
-outcome_send = search parts depth 80 fits 10000
+outcome_send = enum_send (declared.shape outcome.the_type) (search parts depth 80 fits 10000)
 
 pub ruleset crosses = (outcome_send)

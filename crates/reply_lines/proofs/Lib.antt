@@ -5,5 +5,7 @@ pub mod OneLines
 pub mod Wants
 pub mod Crossing
 pub mod Bindings
+pub mod Sorting
 pub mod JsonTexts
 pub mod Telling
+pub mod TellingRounds

@@ -1,5 +1,5 @@
--- The line of a reply tells the certificate that it shows: the atoms of a model, or the steps of a refutation.
-use Rattle.std.proofs.Common.{◌≡◌, ℕ, ◌^◌, ◌<◌, ◌++◌, true, false, List, [], ◌∷◌, map, refl, sym, ap, ◌∙◌, Ok}
+-- The line of a reply tells the certificate that it shows: the atoms of a model, or the steps of a refutation of ground clauses.
+use Rattle.std.proofs.Common.{◌≡◌, ℕ, ◌^◌, ◌<◌, true, false, List, [], ◌∷◌, map, refl, sym, ap, ◌∙◌, Ok}
 use Rattle.std.specs.Prelude.{codes, decimal}
 use Rattle.std.specs.List.{All}
 use Rattle.std.specs.FinMap as fin
@@ -27,25 +27,27 @@ use Rattle.reply_lines.specs.declared.replies.Outcome.{Outcome}
 use Rattle.reply_lines.specs.declared.replies.Outcome.TheVariants.{Satisfiable, Unsatisfiable}
 use Rattle.reply_lines.specs.OneLine.{is_want, reports_want}
 use Rattle.reply_lines.specs.Replies.{name_data, ok_data, answer_data, reply_by, line_of, bindings_data, res_step_data, satisfiable_data, unsatisfiable_data}
+use Rattle.reply_lines.specs.Maps.{by_key}
 use Rattle.reply_lines.specs.Shown.{IsShownFormula, IsShownBinding, IsShownStep, AreAlike}
+use Rattle.reply_lines.proofs.Sorting.{All-by_key, same_by_key}
 use Rattle.reply_lines.proofs.Wants.{text_tells}
 use Rattle.reply_lines.proofs.JsonTexts.{same_text, text_in, items_in, members_in, first_item, rest_items, first_key, first_value, rest_members}
 
 -- formulas by their texts
-abbrev shown : Formula → Data
+abbrev pub shown : Formula → Data
 shown f = string (canonical f)
 
-abbrev shown_formulas : List Formula → json.Items
+abbrev pub shown_formulas : List Formula → json.Items
 shown_formulas fs = items_outline (items_of (map shown fs))
 
 same_shown : (f g : Formula) → IsShownFormula f → IsShownFormula g → canonical f ≡ canonical g → f ≡ g
 same_shown f g h h' same = same_formula f g h.0 h'.0 h.1 h'.1 h.2 h'.2 same
 
-formulas_numbers : (fs : List Formula) → ItemsHaveNumbers (shown_formulas fs)
+pub formulas_numbers : (fs : List Formula) → ItemsHaveNumbers (shown_formulas fs)
 formulas_numbers [] = tt
 formulas_numbers (f ∷ fs) = (tt, formulas_numbers fs)
 
-same_formulas : (fs gs : List Formula) → All IsShownFormula fs → All IsShownFormula gs → shown_formulas fs ≡ shown_formulas gs → fs ≡ gs
+pub same_formulas : (fs gs : List Formula) → All IsShownFormula fs → All IsShownFormula gs → shown_formulas fs ≡ shown_formulas gs → fs ≡ gs
 same_formulas [] [] h h' e = refl
 same_formulas [] (g ∷ gs) h h' e = cc
 same_formulas (f ∷ fs) [] h h' e = cc
@@ -89,45 +91,55 @@ same_number m n h h' e = decimal_injective m n h h' (ap text_in e)
 abbrev shown_step : ResStep → json.Json
 shown_step x = outline (res_step_data x)
 
-abbrev shown_steps : List ResStep → json.Items
+abbrev pub shown_steps : List ResStep → json.Items
 shown_steps xs = items_outline (items_of (map res_step_data xs))
 
 step_numbers : (x : ResStep) → IsShownStep x → HasNumbers (shown_step x)
 step_numbers (Input i) h = (IsNumber-decimal i h, tt)
-step_numbers (Subst k m) h = (bindings_numbers (fin.entries m), (IsNumber-decimal k h.0, tt))
+step_numbers (Subst k m) h = (bindings_numbers (by_key (fin.entries m)), (IsNumber-decimal k h.0, tt))
 step_numbers (Resolve p n a) h = (tt, ((IsNumber-decimal p h.0, (IsNumber-decimal n h.1, tt)), tt))
 
-steps_numbers : (xs : List ResStep) → All IsShownStep xs → ItemsHaveNumbers (shown_steps xs)
+pub steps_numbers : (xs : List ResStep) → All IsShownStep xs → ItemsHaveNumbers (shown_steps xs)
 steps_numbers [] h = tt
 steps_numbers (x ∷ xs) h = (step_numbers x (All-head IsShownStep x xs h), steps_numbers xs (All-tail IsShownStep x xs h))
 
 -- the values of the first and of the second member
-abbrev first_of : json.Json → json.Json
+abbrev pub first_of : json.Json → json.Json
 first_of j = first_value (members_in j)
 
-abbrev second_of : json.Json → json.Json
+abbrev pub second_of : json.Json → json.Json
 second_of j = first_value (rest_members (members_in j))
 
 -- the first members of steps of different kinds are a number, an object and a text
 same_step : (x y : ResStep) → IsShownStep x → IsShownStep y → shown_step x ≡ shown_step y → x ≡ y
 same_step (Input i) (Input k) h h' e = ap Input (same_number i k h h' (ap first_of e))
-same_step (Input i) (Subst l n) h h' e = let apart : json.number (decimal i) ≡ json.object (shown_bindings (fin.entries n)) = ap first_of e in cc
+same_step (Input i) (Subst l n) h h' e =
+    let apart : json.number (decimal i) ≡ json.object (shown_bindings (by_key (fin.entries n))) = ap first_of e in
+    cc
 same_step (Input i) (Resolve q o b) h h' e = let apart : json.number (decimal i) ≡ json.string (canonical b) = ap first_of e in cc
-same_step (Subst k m) (Input i) h h' e = let apart : json.object (shown_bindings (fin.entries m)) ≡ json.number (decimal i) = ap first_of e in cc
+same_step (Subst k m) (Input i) h h' e =
+    let apart : json.object (shown_bindings (by_key (fin.entries m))) ≡ json.number (decimal i) = ap first_of e in
+    cc
 same_step (Subst k m) (Subst l n) h h' e =
     let step = same_number k l h.0 h'.0 (ap second_of e) in
-    let maps = fin.same_entries_map m n (same_bindings (fin.entries m) (fin.entries n) h.1 h'.1 (ap (λ j. members_in (first_of j)) e)) in
+    let first = All-by_key IsShownBinding (fin.entries m) h.1 in
+    let second = All-by_key IsShownBinding (fin.entries n) h'.1 in
+    let maps = same_by_key m n (same_bindings (by_key (fin.entries m)) (by_key (fin.entries n)) first second (ap (λ j. members_in (first_of j)) e)) in
     λ i. Subst (step i) (maps i)
-same_step (Subst k m) (Resolve q o b) h h' e = let apart : json.object (shown_bindings (fin.entries m)) ≡ json.string (canonical b) = ap first_of e in cc
+same_step (Subst k m) (Resolve q o b) h h' e =
+    let apart : json.object (shown_bindings (by_key (fin.entries m))) ≡ json.string (canonical b) = ap first_of e in
+    cc
 same_step (Resolve p n a) (Input i) h h' e = let apart : json.string (canonical a) ≡ json.number (decimal i) = ap first_of e in cc
-same_step (Resolve p n a) (Subst l m) h h' e = let apart : json.string (canonical a) ≡ json.object (shown_bindings (fin.entries m)) = ap first_of e in cc
+same_step (Resolve p n a) (Subst l m) h h' e =
+    let apart : json.string (canonical a) ≡ json.object (shown_bindings (by_key (fin.entries m))) = ap first_of e in
+    cc
 same_step (Resolve p n a) (Resolve q o b) h h' e =
     let positive = same_number p q h.0 h'.0 (ap (λ j. first_item (items_in (second_of j))) e) in
     let negative = same_number n o h.1 h'.1 (ap (λ j. first_item (rest_items (items_in (second_of j)))) e) in
     let atoms = same_shown a b h.2 h'.2 (ap (λ j. text_in (first_of j)) e) in
     λ i. Resolve (positive i) (negative i) (atoms i)
 
-same_steps : (xs ys : List ResStep) → All IsShownStep xs → All IsShownStep ys → shown_steps xs ≡ shown_steps ys → xs ≡ ys
+pub same_steps : (xs ys : List ResStep) → All IsShownStep xs → All IsShownStep ys → shown_steps xs ≡ shown_steps ys → xs ≡ ys
 same_steps [] [] h h' e = refl
 same_steps [] (y ∷ ys) h h' e = cc
 same_steps (x ∷ xs) [] h h' e = cc
@@ -147,7 +159,8 @@ same_answer d e name n same =
     append_cancel_right (compact_text d) (compact_text e) (125 ∷ []) (append_cancel_left (58 ∷ []) _ _ behind_ok)
 
 -- their answers are the same
-same_answers : (x y : Outcome) (d e : Data) → answer_data x ≡ Ok d → answer_data y ≡ Ok e → HasNumbers (outline d) → HasNumbers (outline e) → AreAlike x y → outline d ≡ outline e
+pub same_answers : (x y : Outcome) (d e : Data) → answer_data x ≡ Ok d → answer_data y ≡ Ok e → HasNumbers (outline d) → HasNumbers (outline e)
+    → AreAlike x y → outline d ≡ outline e
 unfolding line_of
 same_answers x y d e one other h h' alike =
     let name = name_data alike.name in
@@ -169,11 +182,17 @@ model_numbers a = (tt, (formulas_numbers (set.listing a), tt))
 refutation_numbers : (xs : List ResStep) → All IsShownStep xs → HasNumbers (outline (unsatisfiable_data xs))
 refutation_numbers xs h = (tt, (steps_numbers xs h, tt))
 
+-- a set of formulas by the listing of their texts
+pub same_side : (a b : FormulaSet) → All IsShownFormula (set.listing a) → All IsShownFormula (set.listing b)
+    → shown_formulas (set.listing a) ≡ shown_formulas (set.listing b) → a ≡ b
+same_side a b h h' e =
+    let listed = same_formulas (set.listing a) (set.listing b) h h' e in
+    sym (of_rising-listing a) ∙ (ap (λ fs. set.of_rising {R = formula_cmp} fs) listed ∙ of_rising-listing b)
+
 pub same_model : (a b : FormulaSet) → All IsShownFormula (set.listing a) → All IsShownFormula (set.listing b) → AreAlike (Satisfiable a) (Satisfiable b) → a ≡ b
 same_model a b h h' alike =
     let answers = same_answers (Satisfiable a) (Satisfiable b) (satisfiable_data a) (satisfiable_data b) refl refl (model_numbers a) (model_numbers b) alike in
-    let listed = same_formulas (set.listing a) (set.listing b) h h' (ap (λ j. items_in (second_of j)) answers) in
-    sym (of_rising-listing a) ∙ (ap (λ fs. set.of_rising {R = formula_cmp} fs) listed ∙ of_rising-listing b)
+    same_side a b h h' (ap (λ j. items_in (second_of j)) answers)
 
 pub same_refutation : (xs ys : List ResStep) → All IsShownStep xs → All IsShownStep ys → AreAlike (Unsatisfiable xs) (Unsatisfiable ys) → xs ≡ ys
 same_refutation xs ys h h' alike =

@@ -30,6 +30,8 @@ text_tells (outcomes.Introduced summary shorter) name n = refl
 text_tells (outcomes.Definition symbol k f) name n = refl
 text_tells (outcomes.Satisfiable atoms) name n = refl
 text_tells (outcomes.Unsatisfiable steps) name n = refl
+text_tells (outcomes.Saturated clauses) name n = refl
+text_tells (outcomes.Refuted steps) name n = refl
 text_tells outcomes.LineTooLong name n = refl
 text_tells (outcomes.Reading causes.Json) name n = refl
 text_tells (outcomes.Reading (causes.Field field)) name n = refl
@@ -63,6 +65,7 @@ text_tells (outcomes.DefTwice text) name n = refl
 text_tells (outcomes.DefFree var) name n = refl
 text_tells outcomes.DefLarge name n = refl
 text_tells (outcomes.NotGround clause) name n = refl
+text_tells outcomes.Rounds name n = refl
 text_tells outcomes.Budget name n = refl
 text_tells outcomes.Memory name n = refl
 

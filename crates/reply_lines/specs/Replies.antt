@@ -1,5 +1,4 @@
--- The replies to jobs: what each says, and its line. The members of an object stand in the order of their keys' bytes, but for those of a
--- map, which stand in the order of its variables.
+-- The replies to jobs: what each says, and its line. The members of an object stand in the order of their keys' bytes.
 use Rattle.std.specs.Prelude.{ℕ, List, [], ◌∷◌, ◌++◌, map, codes, Option, Some, None, Result, Ok, Err, Bool, true, false, is_ok}
 use Rattle.std.specs.FinMap as fin
 use Rattle.finite.specs.Finite as set
@@ -39,8 +38,9 @@ use Rattle.reply_lines.specs.declared.replies.StepShown.TheVariants.{Reference, 
 use Rattle.reply_lines.specs.declared.replies.RefutationShown.{RefutationShown}
 use Rattle.reply_lines.specs.declared.replies.RefutationShown.TheVariants as refutations
 use Rattle.reply_lines.specs.declared.replies.Outcome.{Outcome}
-use Rattle.reply_lines.specs.declared.replies.Outcome.TheVariants.{Proof, Reduced, Entries, Proves, Steps, Measure, Expansion, Nodes, Interpolant, Herbrand, Introduced, Definition, Satisfiable, Unsatisfiable, LineTooLong, Reading, NameTaken, UnknownName, Kind, Empty, Step as Faulty, Refutation, Quantified, Falsified, Node, Root, EigenTwice, EigenFree, Cycle, Cut, Defined, Partition, NotPrenex, TooMany, DefTwice, DefFree, DefLarge, NotGround, Budget, Memory}
+use Rattle.reply_lines.specs.declared.replies.Outcome.TheVariants.{Proof, Reduced, Entries, Proves, Steps, Measure, Expansion, Nodes, Interpolant, Herbrand, Introduced, Definition, Satisfiable, Unsatisfiable, Saturated, Refuted, LineTooLong, Reading, NameTaken, UnknownName, Kind, Empty, Step as Faulty, Refutation, Quantified, Falsified, Node, Root, EigenTwice, EigenFree, Cycle, Cut, Defined, Partition, NotPrenex, TooMany, DefTwice, DefFree, DefLarge, NotGround, Rounds, Budget, Memory}
 use Rattle.reply_lines.specs.declared.replies.Reply.{Reply}
+use Rattle.reply_lines.specs.Maps.{by_key}
 use Rattle.job_words.specs.RuleKinds.{kind_of, kind_name}
 use Rattle.job_words.specs.declared.node_kinds.NodeKind.{NodeKind}
 use Rattle.job_words.specs.declared.node_kinds.NodeKind.TheVariants as node_kinds
@@ -199,13 +199,13 @@ definition_data name n f = object (member (codes "arity") (count_data n) (member
 abbrev pub satisfiable_data : FormulaSet → Data
 satisfiable_data atoms = object (member (codes "satisfiable") (boolean true) (member (codes "true") (side_data atoms) no_members))
 
--- a map from variables to terms: a member for each variable, in the order of the variables
+-- a map from variables to terms: a member for each variable
 abbrev pub bindings_data : List (Var × Term) → Members
 bindings_data [] = no_members
 bindings_data (b ∷ bs) = member (canonical_term (free b.0)) (term_data b.1) (bindings_data bs)
 
 abbrev pub map_data : Map → Data
-map_data m = object (bindings_data (fin.entries m))
+map_data m = object (bindings_data (by_key (fin.entries m)))
 
 -- A step of a refutation, as a job has it: the place of an input clause; a map and the place of an earlier step; an atom and the places
 -- of two earlier steps, that with the atom among its positive literals first.
@@ -230,6 +230,21 @@ res_steps_data steps = array (items_of (map res_step_data steps))
 -- clauses that are never true together: the steps of a refutation
 abbrev pub unsatisfiable_data : List ResStep → Data
 unsatisfiable_data steps = object (member (codes "satisfiable") (boolean false) (member (codes "steps") (res_steps_data steps) no_members))
+
+-- a clause: its sides
+abbrev pub clause_data : Sequent → Data
+clause_data clause = object (member (codes "left") (side_data clause.left) (member (codes "right") (side_data clause.right) no_members))
+
+abbrev pub clauses_data : List Sequent → Data
+clauses_data clauses = array (items_of (map clause_data clauses))
+
+-- no round adds a clause: the clauses that are kept
+abbrev pub saturated_data : List Sequent → Data
+saturated_data clauses = object (member (codes "clauses") (clauses_data clauses) (member (codes "saturated") (boolean true) no_members))
+
+-- the rounds find the empty clause: the steps of a refutation
+abbrev pub refuted_data : List ResStep → Data
+refuted_data steps = object (member (codes "saturated") (boolean false) (member (codes "steps") (res_steps_data steps) no_members))
 
 -- an error that says no more than its kind
 abbrev pub plain : List ℕ → Data
@@ -386,6 +401,8 @@ answer_data (Introduced summary shorter) = Ok (introduced_data summary shorter)
 answer_data (Definition name n f) = Ok (definition_data name n f)
 answer_data (Satisfiable atoms) = Ok (satisfiable_data atoms)
 answer_data (Unsatisfiable steps) = Ok (unsatisfiable_data steps)
+answer_data (Saturated clauses) = Ok (saturated_data clauses)
+answer_data (Refuted steps) = Ok (refuted_data steps)
 answer_data LineTooLong = Err (plain (codes "line_too_long"))
 answer_data (Reading cause) = Err (reading_data cause)
 answer_data NameTaken = Err (plain (codes "name_taken"))
@@ -410,6 +427,7 @@ answer_data (DefTwice name) = Err (named (codes "def_twice") name)
 answer_data (DefFree var) = Err (variable_fault (codes "def_free") var)
 answer_data DefLarge = Err (plain (codes "def_large"))
 answer_data (NotGround clause) = Err (not_ground_data clause)
+answer_data Rounds = Err (plain (codes "rounds"))
 answer_data Budget = Err (plain (codes "budget"))
 answer_data Memory = Err (plain (codes "memory"))
 

@@ -6,7 +6,9 @@ ghost use Rattle.json_text.specs.Tokens.{data_tokens, Adds};
 ghost use Rattle.reply_lines.specs.Tokens.{said, fault_data};
 ghost use Rattle.reply_lines.specs.declared.replies.StepShown.TheVariants.{Rule};
 
-use crate::certificates::{put_not_ground, put_satisfiable, put_unsatisfiable};
+use crate::certificates::{
+    put_not_ground, put_refuted, put_satisfiable, put_saturated, put_unsatisfiable,
+};
 use crate::expansions::{put_expansion, put_nodes};
 use crate::members::{put_formula, put_number, put_side, put_text};
 use crate::replies::{Outcome, RefutationShown, StepShown, Summary};
@@ -366,6 +368,8 @@ pub fn put_answer(out: &mut JsonText, alloc: Global, texts: &mut CanonicalTexts,
         } => put_definition(out, alloc, texts, symbol, *arity, body.get()),
         Outcome::Satisfiable(atoms) => put_satisfiable(out, alloc, texts, atoms),
         Outcome::Unsatisfiable(steps) => put_unsatisfiable(out, alloc, texts, steps.as_slice()),
+        Outcome::Saturated(clauses) => put_saturated(out, alloc, texts, clauses.as_slice()),
+        Outcome::Refuted(steps) => put_refuted(out, alloc, texts, steps.as_slice()),
         Outcome::LineTooLong => put_plain(out, "line_too_long"),
         Outcome::Reading(cause) => put_reading(out, cause),
         Outcome::NameTaken => put_plain(out, "name_taken"),
@@ -398,6 +402,7 @@ pub fn put_answer(out: &mut JsonText, alloc: Global, texts: &mut CanonicalTexts,
         Outcome::DefFree(var) => put_variable_fault(out, alloc, "def_free", var),
         Outcome::DefLarge => put_plain(out, "def_large"),
         Outcome::NotGround(clause) => put_not_ground(out, *clause),
+        Outcome::Rounds => put_plain(out, "rounds"),
         Outcome::Budget => put_plain(out, "budget"),
         Outcome::Memory => put_plain(out, "memory"),
     }

@@ -1,52 +1,22 @@
-//! Ground clauses in a reply: the atoms of a model, the steps of a refutation, or the clause that isn't ground.
-ghost use Rattle.std.specs.Prelude.{◌≡◌, [], ◌∷◌};
+//! Certificates in a reply: the atoms of a model, the steps of a refutation, the clauses to which no round of resolution adds one, or the clause
+//! that has a variable where none may have one.
+ghost use Rattle.std.specs.Prelude.{◌≡◌};
 ghost use Rattle.std.specs.FinMap as fin;
 ghost use Rattle.std.specs.List.{All};
 ghost use Rattle.fol.specs.Formed.{IsFormed};
-ghost use Rattle.json.specs.Token.{key as key_token};
-ghost use Rattle.serde_json.specs.Data.{object};
-ghost use Rattle.tptp_print.specs.Canonical.{canonical_term};
 ghost use Rattle.job_words.specs.Refutations.{IsFormedBinding, HasFormedParts, HaveFormedParts};
-ghost use Rattle.reply_lines.specs.Replies.{term_data, bindings_data, map_data, input_data, subst_data, resolve_data, res_step_data, res_steps_data, satisfiable_data, unsatisfiable_data, not_ground_data};
-ghost use Rattle.fol.specs.Syntax.{free};
+ghost use Rattle.reply_lines.specs.Replies.{input_data, subst_data, resolve_data, res_step_data, res_steps_data, satisfiable_data, unsatisfiable_data, clause_data, clauses_data, saturated_data, refuted_data, not_ground_data};
 ghost use Rattle.json_text.specs.Tokens.{data_tokens, Adds};
 
+use crate::maps::put_map;
 use crate::members::{put_formula, put_number, put_numbers, put_side, put_text};
-use crate::terms::{put_term, put_variable_key};
-use fol::{Formula, Term, Var};
+use fol::Formula;
 use json_text::JsonText;
-use lk_rules::Formulas;
+use lk_rules::{Formulas, Sequent};
 use refutations::ResStep;
 use std::alloc::Global;
 use substitution::Subst;
 use text_tables::CanonicalTexts;
-
-// A variable and its term as a member.
-fn put_binding(out: &mut JsonText, alloc: Global, binding: &(Var, Term))
-    requires { IsFormedBinding binding.now }
-    ensures { Adds out.old out.new (key_token (canonical_term (free binding.now.0)) ∷ data_tokens (term_data binding.now.1)) }
-{
-    put_variable_key(out, alloc, &binding.0);
-    put_term(out, alloc, &binding.1);
-}
-
-fn put_bindings(out: &mut JsonText, alloc: Global, bindings: &[(Var, Term)])
-    requires { All IsFormedBinding bindings.now }
-    ensures { Adds out.old out.new (data_tokens (object (bindings_data bindings.now))) }
-{
-    out.begin_object();
-    for binding in bindings {
-        put_binding(out, alloc, binding);
-    }
-    out.end_object();
-}
-
-fn put_map(out: &mut JsonText, alloc: Global, map: &Subst)
-    requires { All IsFormedBinding (fin.entries map.now) }
-    ensures { Adds out.old out.new (data_tokens (map_data map.now)) }
-{
-    put_bindings(out, alloc, map.as_slice());
-}
 
 fn put_input(out: &mut JsonText, clause: u64)
     ensures { Adds out.old out.new (data_tokens (input_data clause)) }
@@ -142,6 +112,56 @@ pub fn put_satisfiable(
     out.key("satisfiable");
     out.boolean(true);
     put_side(out, alloc, texts, "true", atoms);
+    out.end_object();
+}
+
+// A clause by its sides.
+fn put_clause(out: &mut JsonText, alloc: Global, texts: &mut CanonicalTexts, clause: &Sequent)
+    ensures { Adds out.old out.new (data_tokens (clause_data clause.now)) }
+{
+    out.begin_object();
+    put_side(out, alloc, texts, "left", &clause.left);
+    put_side(out, alloc, texts, "right", &clause.right);
+    out.end_object();
+}
+
+fn put_clauses(out: &mut JsonText, alloc: Global, texts: &mut CanonicalTexts, clauses: &[Sequent])
+    ensures { Adds out.old out.new (data_tokens (clauses_data clauses.now)) }
+{
+    out.begin_array();
+    for clause in clauses {
+        put_clause(out, alloc, texts, clause);
+    }
+    out.end_array();
+}
+
+/// Clauses that no round adds a clause to.
+pub fn put_saturated(
+    out: &mut JsonText,
+    alloc: Global,
+    texts: &mut CanonicalTexts,
+    clauses: &[Sequent],
+)
+    ensures { Adds out.old out.new (data_tokens (saturated_data clauses.now)) }
+{
+    out.begin_object();
+    out.key("clauses");
+    put_clauses(out, alloc, texts, clauses);
+    out.key("saturated");
+    out.boolean(true);
+    out.end_object();
+}
+
+/// The steps of a refutation that the rounds find.
+pub fn put_refuted(out: &mut JsonText, alloc: Global, texts: &mut CanonicalTexts, steps: &[ResStep])
+    requires { HaveFormedParts steps.now }
+    ensures { Adds out.old out.new (data_tokens (refuted_data steps.now)) }
+{
+    out.begin_object();
+    out.key("saturated");
+    out.boolean(false);
+    out.key("steps");
+    put_list(out, alloc, texts, steps);
     out.end_object();
 }
 

@@ -6,6 +6,7 @@ mod certificates;
 mod expansions;
 pub mod laws;
 mod lines;
+mod maps;
 mod members;
 mod replies;
 mod steps;

@@ -3,8 +3,8 @@ ghost use Rattle.std.specs.Prelude.{◌≡◌};
 
 use exp_tree::{FlatExp, NodeCause, RootCause};
 use job_words::{
-    FormedFormula, FormedVar, FormedVars, JobCause, Name, RefutationSteps, Steps, SymbolName,
-    Utf8Text,
+    ClauseList, FormedFormula, FormedVar, FormedVars, JobCause, Name, RefutationSteps, Steps,
+    SymbolName, Utf8Text,
 };
 use lk_rules::{Formulas, RuleFault, Sequent, Side};
 
@@ -98,6 +98,10 @@ pub enum Outcome {
     Satisfiable(Formulas),
     /// The ground clauses are never true together: the steps of a refutation.
     Unsatisfiable(RefutationSteps),
+    /// No round adds a clause: the clauses that are kept, none of which is empty.
+    Saturated(ClauseList),
+    /// The rounds find the empty clause: the steps of a refutation.
+    Refuted(RefutationSteps),
     /// The line has more bytes than a job may have.
     LineTooLong,
     /// The line isn't a job.
@@ -171,6 +175,8 @@ pub enum Outcome {
     DefLarge,
     /// The first clause with a variable, counted from 0, where no clause may have one.
     NotGround(u64),
+    /// The rounds end before a refutation is found or no round adds a clause.
+    Rounds,
     /// The work takes more than the budget allows.
     Budget,
     /// Memory ran out while the job was run.
@@ -215,7 +221,8 @@ impl Drop for Outcome {
                 drop(body);
             }
             Outcome::Falsified(atoms) | Outcome::Satisfiable(atoms) => drop(atoms),
-            Outcome::Unsatisfiable(steps) => drop(steps),
+            Outcome::Unsatisfiable(steps) | Outcome::Refuted(steps) => drop(steps),
+            Outcome::Saturated(clauses) => drop(clauses),
             Outcome::EigenTwice(var) | Outcome::EigenFree(var) | Outcome::DefFree(var) => drop(var),
             Outcome::Cycle(vars) => drop(vars),
             Outcome::Reading(cause) => drop(cause),
@@ -240,6 +247,7 @@ impl Drop for Outcome {
             | Outcome::NameTaken
             | Outcome::Empty
             | Outcome::DefLarge
+            | Outcome::Rounds
             | Outcome::Budget
             | Outcome::Memory => {}
         }
@@ -269,6 +277,8 @@ impl Outcome {
                 | Outcome::Definition { .. }
                 | Outcome::Satisfiable(_)
                 | Outcome::Unsatisfiable(_)
+                | Outcome::Saturated(_)
+                | Outcome::Refuted(_)
         )
     }
 }

@@ -1,8 +1,8 @@
 //! Terms, variables and symbols in a reply.
-ghost use Rattle.std.specs.Prelude.{◌≡◌, IfOk, ◌∷◌, []};
-ghost use Rattle.fol.specs.Formed.{IsFormedTerm, IsFormedVar};
+ghost use Rattle.std.specs.Prelude.{◌≡◌, true, IfOk};
+ghost use Rattle.std.specs.List.{list_all};
+ghost use Rattle.fol.specs.Formed.{IsFormedTerm, IsFormedVar, is_printable};
 ghost use Rattle.fol.specs.Syntax.{free, app, nil};
-ghost use Rattle.json.specs.Token.{key as key_token};
 ghost use Rattle.tptp_print.specs.Canonical.{canonical_term};
 ghost use Rattle.reply_lines.specs.Replies.{term_data, variable_data, symbol_data};
 ghost use Rattle.json_text.specs.Tokens.{data_tokens, Adds};
@@ -42,26 +42,14 @@ pub fn put_variable(out: &mut JsonText, alloc: Global, var: &Var)
     }
 }
 
-// A term's canonical text as the name of a member.
-fn put_term_key(out: &mut JsonText, alloc: Global, term: &Term)
-    requires { IsFormedTerm term.now }
-    ensures { Adds out.old out.new (key_token (canonical_term term.now) ∷ []) }
-{
-    match print_term(alloc, term) {
-        Ok(text) => out.key(printable(text.as_bytes())),
-        Err(_) => out.lack(),
-    }
-}
-
-/// A variable by its canonical text, as the name of a member.
-pub fn put_variable_key(out: &mut JsonText, alloc: Global, var: &Var)
+/// The canonical text of a variable, as a term.
+pub fn variable_text(alloc: Global, var: &Var) -> Result<Text, AllocError>
     requires { IsFormedVar var.now }
-    ensures { Adds out.old out.new (key_token (canonical_term (free var.now)) ∷ []) }
+    ensures text { IfOk result (λ t. t ≡ canonical_term (free var.now)) }
+    ensures printable { IfOk result (λ t. list_all is_printable t ≡ true) }
 {
-    match term_of(alloc, var) {
-        Ok(term) => put_term_key(out, alloc, &term),
-        Err(_) => out.lack(),
-    }
+    let term = term_of(alloc, var)?;
+    print_term(alloc, &term)
 }
 
 fn constant(alloc: Global, name: &Text) -> Result<Term, AllocError>

@@ -34,6 +34,8 @@ reductions_in (outcomes.Introduced summary shorter) = 0
 reductions_in (outcomes.Definition symbol arity body) = 0
 reductions_in (outcomes.Satisfiable atoms) = 0
 reductions_in (outcomes.Unsatisfiable steps) = 0
+reductions_in (outcomes.Saturated clauses) = 0
+reductions_in (outcomes.Refuted steps) = 0
 reductions_in outcomes.LineTooLong = 0
 reductions_in (outcomes.Reading cause) = 0
 reductions_in outcomes.NameTaken = 0
@@ -58,6 +60,7 @@ reductions_in (outcomes.DefTwice name) = 0
 reductions_in (outcomes.DefFree var) = 0
 reductions_in outcomes.DefLarge = 0
 reductions_in (outcomes.NotGround clause) = 0
+reductions_in outcomes.Rounds = 0
 reductions_in outcomes.Budget = 0
 reductions_in outcomes.Memory = 0
 

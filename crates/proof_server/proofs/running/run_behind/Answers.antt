@@ -35,8 +35,8 @@ run_window-requires-sync-R-Held g c κs within = search (sendable, held.crosses)
 
 pub returns-clause-due : goal.returns-clause-due
 returns-clause-due g c = λ earlier lines gathered.
-    pending_after c.args.store.now (record { desk = c.args.store.now.desk; pass = c.run_window.new.pass; names = c.args.store.now.names; held = c.reserve.new.self }) c.args.window earlier lines
-    c.in_ok-answers.answers.items c.dues.result.items gathered c.in_ok-answers.ensures.pass refl refl c.in_ok-reserve.ensures.items
+    pending_after c.args.desk.now c.args.store.now (record { pass = c.run_window.new.pass; names = c.args.store.now.names; held = c.reserve.new.self }) c.args.window earlier lines
+    c.in_ok-answers.answers.items c.dues.result.items gathered c.in_ok-answers.ensures.pass refl c.in_ok-reserve.ensures.items
     (let room = c.in_ok-reserve.ensures.ok in omega (arith, room))
     c.in_ok-answers.ensures.answers c.in_ok-answers.ensures.length c.in_ok-answers.ensures.fits c.dues.ensures
 

@@ -5,7 +5,7 @@ use Rattle.proof_server.proofs.Endings.{stop_ends, stop_at_last, stop_at_fault, 
 use Rattle.proof_server.proofs.serving.serve_lines.Goals as goal
 
 pub lines-init : goal.lines-init
-lines-init g c = start _ _ _ _ _ _ _ c.requires.reader c.requires.session
+lines-init g c = start c.args.desk.now _ _ _ _ _ _ _ c.requires.reader c.requires.session
 
 pub lines-preserved-in-Line : goal.lines-preserved-in-Line
 lines-preserved-in-Line g c =

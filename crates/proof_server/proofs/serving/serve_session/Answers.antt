@@ -3,6 +3,3 @@ use Rattle.proof_server.proofs.serving.serve_session.Goals as goal
 
 pub returns-in-Err : goal.returns-in-Err
 returns-in-Err g c = record { ends = nothing_done _ _ _ }
-
-pub returns-in-Err-new : goal.returns-in-Err-new
-returns-in-Err-new g c = record { ends = nothing_done _ _ _ }

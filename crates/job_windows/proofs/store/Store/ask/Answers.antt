@@ -22,7 +22,6 @@ pub returns-clause-adds : goal.returns-clause-adds
 returns-clause-adds c = (omega (arith, c.len-place.ensures, c.args.window.now.tasks.ok.0), (_, c.in_ok-push.ensures.items))
 
 pub returns-clause-runs : goal.returns-clause-runs
-returns-clause-runs c = λ runnable formed.
-    let desk = c.args.self.now.desk in
+returns-clause-runs c = λ desk runnable formed.
     subst (AreTasks desk) (sym c.in_ok-push.ensures.items)
     (tasks_more desk c.args.self.now.names c.args.self.now.held.items c.args.window.now.seats.items c.args.window.now.tasks.items c.args.op runnable _ formed refl c.in_ok-needs.ensures)

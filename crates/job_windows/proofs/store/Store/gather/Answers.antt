@@ -5,7 +5,7 @@ use Rattle.job_windows.proofs.Gathering.{ordered_more, promised_more}
 use Rattle.job_windows.proofs.store.Store.gather.Goals as goal
 
 pub returns-clause-gathered : goal.returns-clause-gathered
-returns-clause-gathered c = λ earlier lines text gathered kept.
+returns-clause-gathered c = λ desk earlier lines text gathered kept.
     let old = c.args.self.now in
     let before = c.args.window.now in
     let seat = c.in_ok-seat.seat in
@@ -15,7 +15,7 @@ returns-clause-gathered c = λ earlier lines text gathered kept.
     let adds = c.in_ok-seat.ensures.adds in
     record {
       holds = record { pass = gathered.holds.pass; sized = gathered.holds.sized; fits = gathered.holds.fits };
-      runnable = c.in_ok-seat.ensures.runs (record { fits = gathered.holds.fits; ordered = gathered.ordered; tasks_are = gathered.runnable });
+      runnable = c.in_ok-seat.ensures.runs desk (record { fits = gathered.holds.fits; ordered = gathered.ordered; tasks_are = gathered.runnable });
       ordered = subst (λ (ss : List Seat). AreInOrder 0 ss (length tasks)) (sym seats) (ordered_more before.seats.items seat before.tasks.items tasks gathered.ordered adds);
       counted = omega (arith, ap length seats, length-append before.seats.items (seat ∷ []), gathered.counted, length-append lines (text ∷ []));
       promised = λ done all.

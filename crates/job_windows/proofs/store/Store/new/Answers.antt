@@ -6,11 +6,11 @@ use Rattle.job_windows.specs.Running.{FitsDesk}
 use Rattle.job_windows.proofs.store.Store.new.Goals as goal
 
 pub returns : goal.returns
-returns g c = record {
+returns c = λ desk of. record {
   holds = record {
-    pass = c.in_ok-desk.ensures.pass;
-    sized = ap length c.new-3.ensures.items;
-    fits = subst (All (FitsDesk c.in_ok-desk.desk)) (sym c.new-3.ensures.items) (λ k d within. absurd (omega arith));
+    pass = of;
+    sized = ap length c.new-2.ensures.items;
+    fits = subst (All (FitsDesk desk)) (sym c.new-2.ensures.items) (λ k d within. absurd (omega arith));
   };
-  known = c.new-2.ensures (map sense c.new-3.result.items);
+  known = c.new.ensures (map sense c.new-2.result.items);
 }

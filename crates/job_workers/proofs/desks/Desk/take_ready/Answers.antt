@@ -82,9 +82,9 @@ returns-clause-ticket g c =
     let r = g.R.Runner in
     let i = c.self.inside in
     let items = c.deref.ensures.value ∙ ap (λ (t : Task g.row.R-Job.Denot g.row.R-Held.Denot). t.needs.items) (sym c.index-tasks-place.is) in
-    subst (λ h. IsFor r.sense c.args.tasks.now h.events (record { place = c.in-Some.place; given = c.in_ok-given.given })) (sym c.take.ensures)
+    subst (λ h. IsFor r.sense c.args.tasks.now h.events (record { place = c.in-Some.place; given = c.in_ok-given.given; has_more = c.is_some-has_more.result })) (sym c.take.ensures)
     (ticket_for c.args.tasks.now i.records.events c.in-Some.place c.index-tasks-place.result c.index-tasks-place.is c.in-Some.ensures r.sense
-    (record { place = c.in-Some.place; given = c.in_ok-given.given }) (slot_at c.slots.result.now) c.deref.result.now refl c.slots.ensures.puts items c.in_ok-given.ensures.given)
+    (record { place = c.in-Some.place; given = c.in_ok-given.given; has_more = c.is_some-has_more.result }) (slot_at c.slots.result.now) c.deref.result.now refl c.slots.ensures.puts items c.in_ok-given.ensures.given)
 
 pub returns-clause-order : goal.returns-clause-order
 returns-clause-order g c = (invariant_of-self g c).1
@@ -100,4 +100,4 @@ returns-clause-fits g c =
     subst (λ h. IsInOrder r.arity (r.JobFits h) (r.HeldFits h) r.sense r.Belongs c.args.tasks.now c.take.new.self.events) homes
     (subst (λ (ts : List (Task g.row.R-Job.Denot g.row.R-Held.Denot)). IsInOrder r.arity (r.JobFits at) (r.HeldFits at) r.sense r.Belongs ts c.take.new.self.events) tasks (returns-clause-order g c)) in
     ticket_fits r.arity (r.JobFits (r.home c.args.runner.now)) (r.HeldFits (r.home c.args.runner.now)) r.sense r.Belongs c.args.tasks.now c.take.new.self.events
-    (record { place = c.in-Some.place; given = c.in_ok-given.given }) order (returns-clause-ticket g c) c.in_ok-given.ensures.fits
+    (record { place = c.in-Some.place; given = c.in_ok-given.given; has_more = c.is_some-has_more.result }) order (returns-clause-ticket g c) c.in_ok-given.ensures.fits

@@ -1,0 +1,137 @@
+-- What rounds of resolution answer decides what the operation comes to.
+use Rattle.std.proofs.Common.{◌≡◌, ℕ, Bool, true, false, cond, ◌||◌, List, [], ◌∷◌, map, refl, sym, ap, ◌∙◌, subst, inl, inr}
+use Rattle.std.specs.Prelude.{Ok, Err}
+use Rattle.std.specs.List.{All, list_all}
+use Rattle.std.specs.FinMap as fin
+use Rattle.std.proofs.lemmas.List.Elements.{All-map, All-weaker}
+use Rattle.fol.specs.declared.symbols.Var.{Var}
+use Rattle.fol.specs.Syntax.{Term, Formula, or, not}
+use Rattle.finite.specs.Finite as set
+use Rattle.lk_rules.specs.declared.sequent.Sequent.{Sequent}
+use Rattle.lk_rules.specs.declared.sequent.Side.{Side}
+use Rattle.lk_rules.specs.declared.sequent.Side.TheVariants.{Left, Right}
+use Rattle.lk_rules.specs.Sequents.{empty}
+use Rattle.proof_trees.specs.FormulaSets.{is_atom}
+use Rattle.proof_trees.proofs.Booleans.{or_first, or_second}
+use Rattle.proof_graph.specs.declared.graph.Graph.{Graph}
+use Rattle.proof_graph.specs.Graphs.{IsOf}
+use Rattle.proof_graph.specs.References.{Reference}
+use Rattle.refutations.specs.declared.clause.Clause.{Clause}
+use Rattle.refutations.specs.declared.step.ResStep.{ResStep}
+use Rattle.refutations.specs.declared.step.ResStep.TheVariants.{Input, Subst, Resolve}
+use Rattle.refutations.specs.Clauses.{literals_of, IsClauseOf}
+use Rattle.refutations.specs.Refutations.{refutation as refutation_of}
+use Rattle.ground_laws.specs.Steps.{sequents_of}
+use Rattle.ground_laws.proofs.Literals.{each_literal}
+use Rattle.clause_laws.specs.Subsumption.{IsClause}
+use Rattle.clause_laws.specs.Rounds.{IsClosed, Level}
+use Rattle.clause_laws.specs.Saturation.{IsSaturation}
+use Rattle.res_prover.specs.Answers.{IsRefuted}
+use Rattle.job_words.specs.Refutations.{IsFormedBinding, HasFormedParts, HaveFormedParts}
+use Rattle.reply_lines.specs.Shown.{IsShownBinding, IsShownStep, IsShownClause}
+use Rattle.tptp_problem.specs.declared.problems.Problem.{Problem}
+use Rattle.operation_laws.specs.declared.refusals.Failure.TheVariants.{Rounds}
+use Rattle.operation_laws.specs.Answers.{failed, lacking, product, derivation, saturated, one, saturation, IsRefutedIn, IsSaturatedIn, IsUnfinished}
+use Rattle.operation_laws.specs.Given.{Found, missing, wanting, found}
+use Rattle.operation_laws.specs.Running.{has_closure, saturates, to_saturate}
+use Rattle.operations.specs.declared.answers.Ran.{Ran}
+use Rattle.operations.specs.declared.answers.Ran.TheVariants as ran
+use Rattle.operations.specs.declared.answers.Made.TheVariants as made
+use Rattle.operations.specs.declared.answers.Absent.{Absent}
+use Rattle.operations.specs.declared.answers.Absent.TheVariants as absent
+use Rattle.operations.specs.Means.{Finds, without, ComesTo}
+
+-- the literals of a clause are a clause of resolution
+
+abbrev AnyFormula : Formula → Type 0
+AnyFormula f = Unit {0}
+
+atom_in : (c : Clause) → IsClauseOf c → (f : Formula) → (set.has (literals_of c.matrix).left f || set.has (literals_of c.matrix).right f) ≡ true → is_atom f ≡ true
+atom_in c known f stands =
+    each_literal AnyFormula (λ g. is_atom g ≡ true) (λ g h whole. (tt, tt)) (λ g shape whole. shape) (λ g whole. tt) c.matrix f known.shape tt stands
+
+clause_of_literals : (c : Clause) → IsClauseOf c → IsClause (literals_of c.matrix)
+clause_of_literals c known Left f stands = atom_in c known f (or_first (set.has (literals_of c.matrix).left f) (set.has (literals_of c.matrix).right f) stands)
+clause_of_literals c known Right f stands = atom_in c known f (or_second (set.has (literals_of c.matrix).left f) (set.has (literals_of c.matrix).right f) stands)
+
+pub are_clauses : (cs : List Clause) → All IsClauseOf cs → All IsClause (sequents_of cs)
+are_clauses cs known =
+    All-map IsClause (λ (c : Clause). literals_of c.matrix) cs (All-weaker IsClauseOf (λ (c : Clause). IsClause (literals_of c.matrix)) clause_of_literals cs known)
+
+-- steps that a line can tell have well-formed parts
+
+binding_formed : (b : Var × Term) → IsShownBinding b → IsFormedBinding b
+binding_formed b shown = (shown.0.0, shown.1.0)
+
+parts_formed : (step : ResStep) → IsShownStep step → HasFormedParts step
+parts_formed (Input i) shown = tt
+parts_formed (Subst k m) shown = All-weaker IsShownBinding IsFormedBinding binding_formed (fin.entries m) shown.1
+parts_formed (Resolve p n a) shown = shown.2.1
+
+pub have_formed_parts : (steps : List ResStep) → All IsShownStep steps → HaveFormedParts steps
+have_formed_parts steps shown = All-weaker IsShownStep HasFormedParts parts_formed steps shown
+
+-- a refutation
+pub derivation_comes : (g : Graph) (cs : List Clause) (n : ℕ) (steps : List ResStep) (r : Reference) → IsRefuted (sequents_of cs) n steps → All IsShownStep steps
+    → refutation_of cs steps ≡ Ok r.tree → IsOf g r → ComesTo g (ran.Done (made.Derivation steps r)) (saturation cs n)
+derivation_comes g cs n steps r refuted shown stands of =
+    let met : IsRefutedIn cs n (product (derivation steps r.tree)) = record {
+      reached = refuted.reached;
+      steps = steps;
+      formed = refuted.refutation.formed;
+      tree = r.tree;
+      stands = stands;
+      shown = shown;
+      is = refl;
+    } in
+    (product (derivation steps r.tree), inl met, (refl, of))
+
+-- the clauses that rounds end with
+pub saturation_comes : (g : Graph) (cs : List Clause) (n : ℕ) (ks js : List Sequent) → IsSaturation (sequents_of cs) n js → ks ≡ js → All IsShownClause ks
+    → ComesTo g (ran.Done (made.Saturated ks)) (saturation cs n)
+saturation_comes g cs n ks js holds same shown =
+    let met : IsSaturatedIn cs n (product (saturated ks)) = record {
+      clauses = ks;
+      holds = subst (λ ls. IsSaturation (sequents_of cs) n ls) (sym same) holds;
+      shown = shown;
+      is = refl;
+    } in
+    (product (saturated ks), inr (inl met), (refl, tt))
+
+-- rounds that end with neither
+pub unfinished_comes : (g : Graph) (cs : List Clause) (ss : List Sequent) (n : ℕ) → ss ≡ sequents_of cs → (Level ss n empty → ⊥) × (IsClosed (Level ss n) → ⊥)
+    → ComesTo g (ran.Failed Rounds) (saturation cs n)
+unfinished_comes g cs ss n same is =
+    let here = subst (λ ts. (Level ts n empty → ⊥) × (IsClosed (Level ts n) → ⊥)) same is in
+    let met : IsUnfinished cs n (failed Rounds) = record { not_empty = here.0; not_closed = here.1; is = refl } in
+    (failed Rounds, inr (inr (inl met)), refl)
+
+-- want of memory may always be answered
+
+pub saturation_lacks : (g : Graph) (cs : List Clause) (n : ℕ) → ComesTo g ran.Lacking (saturation cs n)
+saturation_lacks g cs n = (lacking, inr (inr (inr refl)), tt)
+
+pub saturates_lacks : (g : Graph) (cs : List Clause) (n : ℕ) → ComesTo g ran.Lacking (saturates cs n)
+saturates_lacks g cs n =
+    elim (list_all has_closure cs) as (λ (b : Bool). ComesTo g ran.Lacking (cond b (saturation cs n) (one lacking))) [ true ↦ saturation_lacks g cs n | false ↦ tt ]
+
+-- the clauses of a problem
+pub closed_comes : (g : Graph) (r : Ran) (cs ds : List Clause) (n : ℕ) → cs ≡ ds → list_all has_closure cs ≡ true → ComesTo g r (saturation cs n) → ComesTo g r (saturates ds n)
+closed_comes g r cs ds n same closed comes =
+    subst (λ (es : List Clause). ComesTo g r (saturates es n)) same
+    (subst (λ (b : Bool). ComesTo g r (cond b (saturation cs n) (one lacking))) (sym closed) comes)
+
+-- what the field is given
+
+pub problem_saturated : (g : Graph) (r : Ran) (n : ℕ) (f : Found Problem) (p : Problem) → f ≡ found p → ComesTo g r (to_saturate n (found p)) → ComesTo g r (to_saturate n f)
+problem_saturated g r n f p is comes = subst (λ w. ComesTo g r (to_saturate n w)) (sym is) comes
+
+pub absent_saturated : {T : Type 0} (g : Graph) (of : T → Problem) (a : Absent) (r : Ran) (n : ℕ) (f : Found Problem) → r ≡ without a → Finds of (Err a) f → ComesTo g r (to_saturate n f)
+absent_saturated g of a r n f is finds = subst (λ w. ComesTo g w (to_saturate n f)) (sym is) (asked_without a f finds)
+  where
+    asked_without : (b : Absent) (h : Found Problem) → Finds of (Err b) h → ComesTo g (without b) (to_saturate n h)
+    asked_without (absent.Refused t) h is = subst (λ w. ComesTo g (ran.Refused t) (to_saturate n w)) (sym is) refl
+    asked_without absent.Unnamed (missing t) shows = shows
+    asked_without absent.Unnamed wanting shows = absurd shows
+    asked_without absent.Unnamed (found p) shows = absurd shows
+    asked_without absent.Wanting h is = subst (λ w. ComesTo g ran.Lacking (to_saturate n w)) (sym is) tt
