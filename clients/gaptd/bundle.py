@@ -17,6 +17,8 @@ from typing import Dict, List, Sequence
 
 from .client import add_program, default_program, guarded
 from .errors import STATUSES, GaptdError, ProgramMissing
+from .fleet import different, replies_path
+from .progress import waiting
 
 MOST_SESSIONS, MOST_BYTES = 16, 64 * 1024 * 1024
 SWITCH = re.compile(rb"@(0|[1-9][0-9]*)")
@@ -78,14 +80,17 @@ def main() -> int:
     parser.add_argument("--run", action="store_true", help="run the program, and write the replies beside the files")
     parser.add_argument("files", nargs="+", type=Path, help="files of jobs, one a line")
     words = parser.parse_args()
-    parts = [path.read_bytes() for path in words.files]
+    paths = different(words.files) if words.run else words.files
+    parts = [path.read_bytes() for path in paths]
     if not words.run:
         sys.stdout.buffer.write(bundle(parts))
         return 0
     program = shlex.split(words.program) if words.program else default_program()
-    for path, replies in zip(words.files, run(parts, program)):
-        path.with_suffix(".replies").write_bytes(replies)
-        print(f"{path.with_suffix('.replies')}: {len(replies.splitlines())} replies")
+    with waiting("the program runs"):
+        found = run(parts, program)
+    for path, replies in zip(paths, found):
+        replies_path(path).write_bytes(replies)
+        print(f"{replies_path(path)}: {len(replies.splitlines())} replies")
     return 0
 
 

@@ -343,14 +343,24 @@ def add_program(parser: argparse.ArgumentParser) -> None:
 
 def guarded(main: Callable[[], int]) -> int:
     """Runs a script. What goes wrong with its files or with the program is said on standard error, with status 1; broken off it ends with
-    130."""
+    130, and silently where nobody reads what it writes."""
     try:
-        return main()
+        status = main()
+        sys.stdout.flush()
+        return status
     except KeyboardInterrupt:
         return 130
-    except (GaptdError, ValueError, OSError) as error:
-        print(f"{Path(sys.argv[0]).stem}: {error}", file=sys.stderr)
+    except BrokenPipeError:
+        os.dup2(os.open(os.devnull, os.O_WRONLY), 1)  # (for what is flushed at the end)
         return 1
+    except OSError as error:
+        fault = f"{error.filename}: {error.strerror}" if error.filename and error.strerror else str(error)
+    except (GaptdError, ValueError) as error:
+        fault = str(error)
+    except RecursionError:
+        fault = "something is nested too deeply"
+    print(f"{Path(sys.argv[0]).stem}: {fault}", file=sys.stderr)
+    return 1
 
 
 def main() -> int:
@@ -358,10 +368,10 @@ def main() -> int:
     add_program(parser)
     parser.add_argument("file", nargs="?", default="-", help="a file of jobs in JSON of any layout; the standard input without it")
     words = parser.parse_args()
-    session = Session(words.program)
-    for _, reply in send_file(session, words.file):
-        print(reply.line())
-    return session.close()
+    with Session(words.program) as session:
+        for _, reply in send_file(session, words.file):
+            print(reply.line())
+        return session.close()
 
 
 if __name__ == "__main__":

@@ -9,7 +9,7 @@ import re
 from typing import Dict, Iterable, Iterator, List, Mapping, Sequence, Set, Tuple
 
 from . import formulas
-from .formulas import All, And, App, Atom, Bound, Falsity, Formula, Imp, Not, Term, Truth, Var
+from .formulas import All, And, Atom, Bound, Falsity, Formula, Imp, Not, Term, Truth, Var
 from .proofs import Proof, Step, steps
 from .rules import PARTS, Definition, Definitions, parts
 

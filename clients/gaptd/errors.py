@@ -238,7 +238,7 @@ class NotGround(JobRefused):
 
 
 class RoundsSpent(JobRefused):
-    """Neither a refutation nor a closed set was found within the rounds."""
+    """Neither a refutation nor saturated clauses were reached within the rounds."""
 
     kind = "rounds"
 

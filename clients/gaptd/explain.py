@@ -63,6 +63,14 @@ def explain(job: Job, error: Error, history: Optional[History] = None) -> str:
     return "\n".join(explainer(job, error, history or History()))
 
 
+def refusal_lines(job: Job, reply: Reply, history: History) -> Iterator[str]:
+    """A refusal in words, with the job's name and number before it."""
+    assert reply.error is not None
+    yield f"job {reply.job or 'without a name'} (number {reply.n}) is refused as {reply.error['kind']}:"
+    for line in explain(job, reply.error, history).splitlines():
+        yield "  " + line
+
+
 # Steps of proofs
 
 def step(job: Job, error: Error, history: History) -> Iterator[str]:
@@ -209,7 +217,7 @@ def not_ground(job: Job, error: Error, history: History) -> Iterator[str]:
     has = f"the variable{'s' * (len(variables) > 1)} {' and '.join(variables)}"
     yield f"{job['op']} takes clauses without variables, and clause {number} of {name} (counted from 0) has {has}"
     yield f"  it is {formulas.name_text(found[number].name)}: {clause}"
-    yield "  what begins with a capital is a variable; write instances of the clause, with terms in place of its variables"
+    yield "  what begins with a capital is a variable; write instances of the clause, with terms in place of its variables, or ask prove"
 
 
 def refutation_text(given: Job, names: Sequence[str] = ()) -> str:
@@ -332,7 +340,7 @@ def holds_another(job: Job, name: str, given: Job, ok: Mapping[str, Any]) -> Ite
 
 def found_instead(ok: Mapping[str, Any]) -> str:
     """What a search found in place of a refutation."""
-    return "a closed set of clauses" if "clauses" in ok else "a model"
+    return "saturated clauses" if "clauses" in ok else "a model"
 
 
 def falsified(job: Job, error: Error, history: History) -> Iterator[str]:
@@ -360,7 +368,7 @@ SENTENCES: Dict[str, str] = {
     "def_twice": "the definition {name} has the symbol of one before it",
     "def_free": "the variable {var} is free in the body and is none of the definition's variables",
     "def_large": "the body is too large when it is unfolded",
-    "rounds": "neither a refutation nor a closed set was found within the rounds",
+    "rounds": "the rounds reach no refutation, and a further one would add clauses: set the field rounds, at most 1000 (10 without it)",
 }
 
 
@@ -393,9 +401,7 @@ def main() -> int:
     for job, reply in exchanged:
         if reply.error is not None:
             refused += 1
-            print(f"job {reply.job} (number {reply.n}) is refused as {reply.error['kind']}:")
-            for line in explain(job, reply.error, history).splitlines():
-                print("  " + line)
+            print("\n".join(refusal_lines(job, reply, history)))
         history.add(job, reply)
     print(f"{refused} of {len(exchanged)} jobs refused")
     return 1 if refused else 0

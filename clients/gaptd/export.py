@@ -20,7 +20,7 @@ from .explain import History
 from .formulas import And, Atom, Falsity, Formula, Imp, Or, Var
 from .proofs import Proof, Step, from_steps, steps
 from .rules import Definition, Definitions
-from .show import ShowError, accepted
+from .show import holding_proof
 
 
 DEFINED = ("defL", "defR")
@@ -121,11 +121,8 @@ FORMS: Dict[str, Callable[[Proof, Definitions], Iterator[str]]] = {"tstp": tstp,
 
 def proof_of(session: Session, name: str, history: History) -> Proof:
     """The proof that a job of a file holds. Raises ShowError."""
-    job, _ = accepted(name, history)
-    shown = session.run("show", of=name).ok
-    if "steps" not in shown:
-        raise ShowError(f"{name} is a job by {job['op']}, which holds no proof")
-    return from_steps(shown["steps"])
+    holding_proof(name, history)
+    return from_steps(session.run("show", of=name).ok["steps"])
 
 
 def main() -> int:

@@ -53,3 +53,5 @@ def faults_in(path: Union[str, Path]) -> Iterator[None]:
         raise error.in_file(file_name(path)) from error
     except json.JSONDecodeError as error:
         raise ValueError(f"{file_name(path)}, line {error.lineno}, column {error.colno}: no JSON: {error.msg}") from error
+    except RecursionError as error:
+        raise ValueError(f"{file_name(path)}: it is nested too deeply") from error

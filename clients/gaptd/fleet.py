@@ -13,6 +13,7 @@ from __future__ import annotations
 
 import argparse
 import concurrent.futures
+import contextlib
 import os
 import shlex
 import subprocess
@@ -116,13 +117,15 @@ def outcome_of(future: "concurrent.futures.Future[Outcome]", path: Path) -> Outc
         return Outcome(path, fault=f"its worker failed: {error or type(error).__name__}")
 
 
-def by_scheduler(address: str) -> Executor:
+@contextlib.contextmanager
+def by_scheduler(address: str) -> Iterator[Executor]:
     """The executor of a Dask scheduler."""
     try:
         from distributed import Client  # type: ignore[import-not-found]
     except ImportError as error:
         raise ValueError("--scheduler needs the Python package distributed, of Dask") from error
-    return Client(address).get_executor()
+    with Client(address) as client:
+        yield client.get_executor()
 
 
 def different(paths: Sequence[Path]) -> List[Path]:
@@ -151,9 +154,8 @@ def main() -> int:
     paths = different(words.files)
     due = [path for path in paths if words.again or not is_done(path)]
     failed = [outcome for outcome in map(counted, (path for path in paths if path not in due)) if not outcome.is_good]
-    executor = by_scheduler(words.scheduler) if words.scheduler else None
     program = shlex.split(words.program) if words.program else None
-    with Progress(len(due)) as progress:
+    with by_scheduler(words.scheduler) if words.scheduler else contextlib.nullcontext() as executor, Progress(len(due)) as progress:
         for outcome in run(due, program, executor, words.workers):
             progress.step(outcome.path.name)
             failed += [] if outcome.is_good else [outcome]

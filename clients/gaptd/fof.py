@@ -47,6 +47,8 @@ def sequent_of(text: str) -> Sides:
             whole = formulas.closure(formulas.formula(entry.body))
         except TextError as error:
             raise ProblemError(f"the entry {entry.name}: {error}") from error
+        except RecursionError as error:
+            raise ProblemError(f"the entry {entry.name} is nested too deeply") from error
         if entry.role == "conjecture":
             goal = And(goal, whole) if goal is not None else whole
         else:

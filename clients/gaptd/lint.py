@@ -316,7 +316,7 @@ def linted(path: str, program: Optional[str], is_filling: bool) -> Iterator[bool
         for number, job in enumerate(jobs, 1):
             filled, lines = linter.lint(job)
             name = job.get("job") if isinstance(job, dict) else None
-            report([f"{path}, job {name} (number {number}):", *(f"  {line}" for line in lines)] if lines else [], is_filling)
+            report([f"{path}, job {name or 'without a name'} (number {number}):", *(f"  {line}" for line in lines)] if lines else [], is_filling)
             if is_filling:
                 sys.stdout.buffer.write(encoded(filled) + b"\n")
             progress.step()

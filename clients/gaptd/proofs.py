@@ -332,10 +332,12 @@ def main() -> int:
     parser.add_argument("file", help="a file of jobs; - is the standard input")
     parser.add_argument("name", help="the job whose proof is taken")
     words = parser.parse_args()
+    from .show import holding_proof  # (it stands on this module)
     history = History()
     with Session(words.program) as session:
         for job, reply in send_file(session, words.file):
             history.add(job, reply)
+        holding_proof(words.name, history)
         using = history.using(words.name)
         fields: Dict[str, Any] = {"using": using} if using else {}
         name, proof = shorten(session, words.name, by=pruned if words.prune else without_weak, **fields)

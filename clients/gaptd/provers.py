@@ -90,7 +90,7 @@ def prove_by_program(matrix: Matrix, session: Session) -> List[Found]:
         except UnknownOperation as error:
             raise NoRefutation("the program has no operation prove") from error
         if "steps" not in found:
-            raise NoRefutation("the program found a closed set of clauses without a refutation")
+            raise NoRefutation("the program found saturated clauses, so there is no refutation")
         return [(matrix.clauses[number].places, images) for number, images in instances(found["steps"], given)]
     raise NoRefutation(f"the program found no refutation within {ROUNDS[-1]} rounds")
 

@@ -1,7 +1,8 @@
-"""One program for many clients, over a Unix socket or a port of this machine.
+"""One program for many clients, over a Unix socket or a port of this machine; or a page that follows a file.
 
     python3 -m gaptd.serve --socket PATH        or --port N
     python3 -m gaptd.serve --connect PATH       passes its input to the server, and the server's replies to its output
+    python3 -m gaptd.serve --page FILE          a page for a browser, with what `live` shows of the file
 
 A client sends lines as to the program, and gets a reply to each at once. Its jobs have names of their own, and are counted by themselves: it
 can neither see nor disturb others, but for the time that their jobs take, since one is run after the other. `--connect`, with a path or a
@@ -30,6 +31,7 @@ import threading
 from pathlib import Path
 from typing import Any, BinaryIO, Dict, Iterable, List, Optional, Set, Tuple, Union
 
+from . import live
 from .client import NAME_LENGTH, NAMING_FIELDS, Reply, Session, add_program, guarded
 from .errors import GaptdError, ProgramEnded
 from .operations import without_suffix
@@ -225,30 +227,52 @@ def pass_on(given: BinaryIO, link: socket.socket) -> None:
 
 
 def main() -> int:
-    parser = argparse.ArgumentParser(prog="python3 -m gaptd.serve", description="One program for many clients.")
+    parser = argparse.ArgumentParser(prog="python3 -m gaptd.serve", description="One program for many clients; or a page that follows a "
+                                     "file while it is written.")
     add_program(parser)
-    place = parser.add_mutually_exclusive_group(required=True)
+    place = parser.add_mutually_exclusive_group()
     place.add_argument("--socket", help="serve at a Unix socket, which only this user can open")
-    place.add_argument("--port", type=int, help="serve at a port of this machine; 0 takes a free one")
     place.add_argument("--connect", metavar="PATH|PORT", help="be a client of the server there")
+    place.add_argument("--page", metavar="FILE", type=Path, help="serve a page that shows goals, explanations and drawings of a file of jobs "
+                       "or of tactics, anew each time it is saved")
+    parser.add_argument("--port", type=int, help="serve at a port of this machine; 0, or a page without it, takes a free one")
     words = parser.parse_args()
-    if words.connect is not None:
-        return connect(words.connect)
     if words.port is not None and not 0 <= words.port < 65536:
         parser.error("a port is a number below 65536")
+    if words.port is not None and (words.socket, words.connect) != (None, None):
+        parser.error("--port is not for --socket and --connect")
+    if words.connect is not None:
+        return connect(words.connect)
+    if words.page is not None:
+        return serve_page(words.page, words.port or 0, words.program)
+    if words.socket is None and words.port is None:
+        parser.error("one of --socket, --port, --connect and --page is needed")
     return serve(words.socket if words.socket is not None else ("127.0.0.1", words.port), words.program)
 
 
 def serve(address: Address, program: Optional[str]) -> int:
-    signal.signal(signal.SIGTERM, signal.default_int_handler)  # (so that the socket's file goes then too)
     session = Session(program)
     try:
         with Server(address, Hub(session)) as server:
-            print(f"serving at {server.place}", flush=True)
-            server.serve_forever()
+            attend(server)
     finally:
         session.end()
     return 0
+
+
+def serve_page(path: Path, port: int, program: Optional[str]) -> int:
+    path.open("rb").close()  # (a file that isn't there is said now)
+    Session(program).close()  # (and so is a program)
+    with live.Server(port, path, program) as server:
+        attend(server)
+    return 0
+
+
+def attend(server: Union[Server, live.Server]) -> None:
+    """Serves until it is broken off."""
+    signal.signal(signal.SIGTERM, signal.default_int_handler)  # (so that the socket's file goes then too)
+    print(f"serving at {server.place}", flush=True)
+    server.serve_forever()
 
 
 if __name__ == "__main__":

@@ -20,7 +20,7 @@ from . import clauses, formulas, latex, page, readable, tptp
 from .client import Reply, Session, add_program, guarded, send_file
 from .expansions import Expansion
 from .explain import History, explain, found_instead, refutation_text
-from .operations import HELD, NOTHING, PAIR, SEARCHES, near, without_suffix
+from .operations import HELD, NOTHING, PAIR, PROOF, SEARCHES, kind_held, near, without_suffix
 from .progress import Progress
 from .proofs import Proof, from_steps, pruned, shorten, steps, without_weak
 from .rules import Sequent
@@ -125,6 +125,19 @@ def accepted(name: str, history: History) -> Tuple[Job, Reply]:
         reason = explain(job, reply.error, history).splitlines()[0]
         raise ShowError(f"{base} is refused as {reply.error['kind']}: {reason}")
     return job, reply
+
+
+def holding_proof(name: str, history: History) -> Job:
+    """The job of a file that holds the proof of this name. Raises ShowError where there is none."""
+    job, reply = accepted(name, history)
+    base, held = without_suffix(name), kind_held(job["op"], reply.ok)
+    if held not in (PROOF, PAIR):
+        raise ShowError(f"{base} is a job by {job['op']}, which holds no proof")
+    if held == PAIR and base == name:
+        raise ShowError(f"{base} is a job by {job['op']}, which holds a pair of proofs: say {base}.first or {base}.second")
+    if held == PROOF and base != name:
+        raise ShowError(f"{base} is a job by {job['op']}, and only an interpolation's proofs are named with a suffix")
+    return job
 
 
 def sections(session: Session, name: str, interpolant: str = "", by: Optional[Shorter] = None, using: Sequence[str] = ()) -> List[Section]:

@@ -64,6 +64,8 @@ class Tactics:
             lines.append(f"goal {number}: {readable.sequent(*texts)}")
         return "\n".join(lines)
 
+    __repr__ = __str__  # (what a dialogue of Python and a notebook show)
+
     @property
     def goal(self) -> Goal:
         return self.tree.goal

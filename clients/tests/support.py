@@ -2,13 +2,17 @@
 from __future__ import annotations
 
 import functools
+import io
 import json
 import os
+import runpy
 import subprocess
 import sys
 import unittest
+import warnings
 from pathlib import Path
 from typing import Any, Callable, Dict, Iterator, List, Tuple
+from unittest import mock
 
 from gaptd.client import Session, default_program
 from gaptd.errors import UnknownOperation
@@ -43,7 +47,27 @@ def needs(op: str) -> Callable[[Callable[..., None]], Callable[..., None]]:
     return decorate
 
 
-def command(*words: str, given: str = "") -> "subprocess.CompletedProcess[str]":
+Done = subprocess.CompletedProcess
+
+
+def command(*words: str, given: str = "") -> "Done[str]":
+    """Runs python3 -m with these words in the folder of the package; but within this process, which takes a tenth of the time."""
+    source, said, noted = (io.TextIOWrapper(io.BytesIO(text.encode()), "utf-8", write_through=True) for text in (given, "", ""))
+    folder = os.getcwd()
+    os.chdir(CLIENTS)
+    try:
+        with warnings.catch_warnings(), mock.patch.multiple(sys, argv=list(words), stdin=source, stdout=said, stderr=noted):
+            warnings.simplefilter("ignore", RuntimeWarning)  # (the module is there already)
+            runpy.run_module(words[0], run_name="__main__", alter_sys=True)
+            status: Any = 0
+    except SystemExit as ended:
+        status = ended.code
+    finally:
+        os.chdir(folder)
+    return Done(words, status or 0, *(one.buffer.getvalue().decode() for one in (said, noted)))  # type: ignore[attr-defined]
+
+
+def process(*words: str, given: str = "") -> "Done[str]":
     """Runs python3 -m with these words in the folder of the package."""
     return subprocess.run([sys.executable, "-m", *words], cwd=CLIENTS, input=given, capture_output=True, text=True, timeout=SECONDS,
                           env={**os.environ, "GAPTD": " ".join(default_program())})

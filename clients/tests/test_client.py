@@ -1,18 +1,22 @@
 from __future__ import annotations
 
 import io
+import json
 import os
+import shlex
 import signal
 import subprocess
 import sys
+import tempfile
 import time
 import unittest
+from pathlib import Path
 from typing import Any, Dict
 from unittest import mock
 
 from gaptd import errors
 from gaptd.client import Names, Reply, Session, default_program
-from tests.support import CLIENTS, EXAMPLES, command, session
+from tests.support import CLIENTS, EXAMPLES, SECONDS, command, session
 
 AXIOM = {"rule": "ax", "main": "p", "premises": [], "left": ["p"], "right": ["p"]}
 AXIOM_SUMMARY = {"cuts": 0, "left": ["p"], "quants": 0, "right": ["p"]}
@@ -177,6 +181,36 @@ class Command(unittest.TestCase):
         done = command("gaptd.client", given='{"job":"a"}\n{"job" 3}\n')
         self.assertEqual((done.returncode, done.stderr),
                          (1, "client: the standard input, line 2, column 8: no JSON: Expecting ':' delimiter\n"))
+
+    def test_files_that_can_not_be_read(self) -> None:
+        with tempfile.TemporaryDirectory() as folder:
+            deep, binary = Path(folder) / "deep.json", Path(folder) / "binary"
+            deep.write_text("[" * 100_000)
+            binary.write_bytes(b"\xff\x00")
+            for path, what in ((deep, "it is nested too deeply"), (binary, "byte 0 isn't UTF-8"), (Path(folder), "Is a directory"),
+                               (Path(folder) / "none", "No such file or directory")):
+                with self.subTest(path.name):
+                    done = command("gaptd.client", str(path))
+                    self.assertEqual((done.returncode, done.stdout, done.stderr), (1, "", f"client: {path}: {what}\n"))
+
+    def test_a_reader_that_goes(self) -> None:
+        """A script whose output isn't read to its end says nothing of it."""
+        jobs = "\n".join(json.dumps(axiom(f"a{number}")) for number in range(3_000))
+        words = f"{shlex.quote(sys.executable)} -m gaptd.client | head -n 1"
+        done = subprocess.run(words, shell=True, cwd=CLIENTS, input=jobs, capture_output=True, text=True, timeout=SECONDS, check=False,
+                              env={**os.environ, "GAPTD": " ".join(default_program())})
+        self.assertEqual((done.stdout[:10], done.stderr), ('{"job":"a0', ""))
+
+    def test_a_script_that_is_broken_off(self) -> None:
+        words = [sys.executable, "-m", "gaptd.client", "--program", "sh -c 'echo begun >&2; exec cat > /dev/null'"]
+        with subprocess.Popen(words, cwd=CLIENTS, stdin=subprocess.PIPE, stdout=subprocess.PIPE, stderr=subprocess.PIPE, text=True,
+                              preexec_fn=lambda: signal.signal(signal.SIGINT, signal.SIG_DFL)) as process:  # (else in the background it isn't)
+            assert process.stdin is not None and process.stderr is not None
+            process.stdin.write(json.dumps(axiom("a")))
+            process.stdin.close()
+            self.assertEqual(process.stderr.readline(), "begun\n")
+            process.send_signal(signal.SIGINT)
+            self.assertEqual((process.wait(SECONDS), process.stderr.read()), (130, ""))
 
     def test_a_command_that_is_not_there(self) -> None:
         done = subprocess.run([sys.executable, "-m", "gaptd.client"], cwd=CLIENTS, input="", capture_output=True, text=True, check=False,

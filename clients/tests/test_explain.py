@@ -126,7 +126,7 @@ class Others(unittest.TestCase):
         said, = self.refusals({"job": "c", "op": "problem", "text": text}, job)
         self.assertEqual(said.splitlines(), [
             "sat takes clauses without variables, and clause 1 of c (counted from 0) has the variables X and Y", "  it is 'b c': ~p(Y) | r(X,Y)",
-            "  what begins with a capital is a variable; write instances of the clause, with terms in place of its variables"])
+            "  what begins with a capital is a variable; write instances of the clause, with terms in place of its variables, or ask prove"])
         self.assertIn("clause 1 of c (counted from 0) has one", explain(job, {"kind": "not_ground", "clause": 1}))
 
     @needs("sat")
@@ -141,6 +141,19 @@ class Others(unittest.TestCase):
         self.assertEqual(model.splitlines(), [found, "  the field proof asks for a proof"])
         self.assertEqual(problem.splitlines(), [found, "  the field problem asks for a problem"])
         self.assertEqual(refutation.splitlines(), ["t is a job by sat, which holds a proof", "  the field problem asks for a problem"])
+
+    @needs("prove")
+    def test_rounds(self) -> None:
+        chain, goal = ({"job": name, "op": "problem", "text": text} for name, text in
+                       (("c", "cnf(a,axiom,p(a)). cnf(b,axiom,~p(X) | p(f(X)))."), ("d", "cnf(a,axiom,p(a)). cnf(b,axiom,~q(X) | p(X)).")))
+        spent, model, field = self.refusals(
+            chain, goal, {"job": "s", "op": "prove", "problem": "c", "rounds": 3}, {"job": "t", "op": "prove", "problem": "d"},
+            {"job": "m", "op": "measure", "proof": "t"}, {"job": "u", "op": "prove", "problem": "c", "rounds": 0})
+        self.assertEqual(spent, "the rounds reach no refutation, and a further one would add clauses: set the field rounds, at most 1000 (10 "
+                                "without it)")
+        self.assertEqual(model.splitlines(), ["t is a job by prove, which holds nothing: it found saturated clauses, and no refutation",
+                                              "  the field proof asks for a proof"])
+        self.assertEqual(field, "the field rounds can't be 0")
 
     @needs("herbrand")
     def test_strong_quantifiers(self) -> None:

@@ -8,11 +8,14 @@ from pathlib import Path
 from typing import Dict, List
 
 from gaptd import export, tptp
+from gaptd.client import reading_jobs
 from gaptd.coq import coq
+from gaptd.explain import History
 from gaptd.formulas import formula
+from gaptd.operations import PAIR, PROOF, SUFFIXES, kind_held
 from gaptd.proofs import allL, allR, ax, cut, defL, defR, exR, from_steps, impL, impR, topR, weak
 from gaptd.rules import Definition
-from tests.support import EXAMPLES, SECONDS, command, needs, steps_of
+from tests.support import EXAMPLES, SECONDS, command, needs, session, steps_of
 from tests.test_proofs import samples
 
 
@@ -61,6 +64,25 @@ class Tstp(unittest.TestCase):
                 done = subprocess.run([program, "--auto", "--silent", "--cpu-limit=5", str(path)], capture_output=True, text=True,
                                       timeout=SECONDS, check=False)
                 self.assertIn("SZS status Theorem", done.stdout, entry.text)
+
+
+class Each(unittest.TestCase):
+    def test_each_operation(self) -> None:
+        """The proofs of all operations that hold one are written in each form."""
+        path, history, count = str(EXAMPLES / "each_operation.jobs"), History(), 0
+        with session() as one:
+            for job, reply in one.send_all(reading_jobs(path)):
+                history.add(job, reply)
+                held = kind_held(job["op"], reply.ok)
+                names = [f"{job['job']}{suffix}" for suffix in SUFFIXES] if held == PAIR else [job["job"]] if held == PROOF else []
+                for name in names:
+                    proof = export.proof_of(one, name, history)
+                    definitions = history.definitions({"using": history.using(name)})
+                    for form, write in export.FORMS.items():
+                        with self.subTest(name, form=form):
+                            self.assertGreaterEqual(len(list(write(proof, definitions))), 1)
+                    count += 1
+        self.assertGreaterEqual(count, 12)
 
 
 class Words(unittest.TestCase):

@@ -195,7 +195,7 @@ class Provers(unittest.TestCase):
                 with session() as one:
                     expansion = fof.prove(*fof.sequent_of(text), prover="gaptd", session=one)
                     self.assertEqual([reply.checked() for reply in one.batch(fof.jobs(text, "p", expansion))][3].ok, {"proves": True})
-        with session() as one, self.assertRaisesRegex(provers.NoRefutation, "a closed set of clauses"):
+        with session() as one, self.assertRaisesRegex(provers.NoRefutation, "saturated clauses"):
             fof.prove(*fof.sequent_of("fof(a,axiom,p)."), prover="gaptd", session=one)
         done = command("gaptd.fof", "--prover", "gaptd", "-", given=MEN)
         self.assertIn('"proves":true', command("gaptd.client", given=done.stdout).stdout)

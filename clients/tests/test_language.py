@@ -28,6 +28,7 @@ JOBS: Dict[str, Dict[str, Any]] = {
     "problem": {"op": "proves", "proof": "a"},
     "expansion": {"op": "fromexp", "proof": "a"},
     "of": {"op": "show"},
+    "rounds": {"op": "prove", "problem": "a", "rounds": 1001},
     "width": {"op": "cutintro", "proof": "a", "width": 1},
     "budget": {"op": "cutelim", "proof": "a", "budget": 0},
     "map": {"op": "subst", "proof": "a", "map": {"x": "a"}},

@@ -39,6 +39,17 @@ class Lines(unittest.TestCase):
         with mock.patch("sys.stderr", io.StringIO()), progress.waiting("the program runs"):
             pass
 
+    def test_one_long_step(self) -> None:
+        """The line is there while nothing is told, with what was told last, also if that was too soon to be shown."""
+        for total, texts, wanted in ((3, [], f"[{'.' * 30}] 0 of 3"), (0, ["E runs"], "E runs"), (0, [], "")):
+            terminal = Terminal()
+            with self.subTest(wanted), mock.patch("sys.stderr", terminal), mock.patch.multiple(progress, PATIENCE=0.05, PAUSE=0.001):
+                with progress.Progress(total) as one:
+                    for text in texts:
+                        one.tell(text)
+                    time.sleep(0.2)
+                self.assertEqual(terminal.getvalue().split("\r")[1 if wanted else 0].strip(), wanted)
+
     def test_work_that_is_soon_done_and_no_terminal(self) -> None:
         self.assertEqual(self.written(Terminal(), 0.5), "")
         self.assertEqual(self.written(io.StringIO(), 5), "")

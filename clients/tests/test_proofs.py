@@ -156,6 +156,11 @@ class Weakening(unittest.TestCase):
         self.assertEqual(shorter["steps"][-1]["right"], ["![V0]: ![V1]: ((empty(V0) & empty(V1)) => equal(V0,V1))"])
 
     def test_what_is_no_proof_can_not_be_shortened(self) -> None:
-        done = command("gaptd.proofs", str(EXAMPLES / "expansion.jobs"), "drinker")
-        self.assertEqual((done.returncode, done.stdout), (1, ""))
-        self.assertEqual(done.stderr, "proofs: drinker holds expansion trees, and no proof that could be shortened\n")
+        wrong = {"x": "x is a job by expansion, which holds no proof", "g": "g is a job by problem, which holds no proof",
+                 "m.first": "m is a job by measure, which holds no proof", "qqq": "there is no job qqq in the file",
+                 "i": "i is a job by interpolate, which holds a pair of proofs: say i.first or i.second",
+                 "t.first": "t is a job by lk, and only an interpolation's proofs are named with a suffix"}
+        for name, what in wrong.items():
+            with self.subTest(name):
+                done = command("gaptd.proofs", str(EXAMPLES / "each_operation.jobs"), name)
+                self.assertEqual((done.returncode, done.stdout, done.stderr), (1, "", f"proofs: {what}\n"))

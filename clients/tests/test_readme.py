@@ -5,10 +5,13 @@ import os
 import re
 import subprocess
 import sys
+import tempfile
 import unittest
+from concurrent.futures import ThreadPoolExecutor
 from pathlib import Path
 from typing import Iterator, List, Tuple
 
+from gaptd import live
 from gaptd.client import default_program
 from tests.support import CLIENTS, SECONDS, TOP, knows
 
@@ -32,6 +35,11 @@ def run(words: List[str], folder: Path, given: str = "") -> str:
     return done.stdout
 
 
+def said_by(line: str, folder: Path) -> str:
+    """What a line of a shell writes in a folder."""
+    return run(["sh", "-c", re.sub(r"\S*gaptd\.sh\b", lambda _: " ".join(default_program()), line)], folder).rstrip()
+
+
 def commands(path: Path) -> Iterator[Tuple[str, str]]:
     """The commands of a page and what they are said to write."""
     for block in blocks(path):
@@ -46,14 +54,13 @@ def is_known(line: str) -> bool:
 
 class Pages(unittest.TestCase):
     def test_commands(self) -> None:
-        count = 0
-        for path, folder in ((TOP / "README.md", TOP), (CLIENTS / "README.md", CLIENTS)):
-            for line, wanted in filter(lambda shown: is_known(shown[0]), commands(path)):
-                with self.subTest(line):
-                    line = re.sub(r"\S*gaptd\.sh\b", lambda _: " ".join(default_program()), line)
-                    self.assertEqual(run(["sh", "-c", line], folder).rstrip(), wanted)
-                    count += 1
-        self.assertGreaterEqual(count, 5)
+        shown = [(folder, line, wanted) for folder in (TOP, CLIENTS) for line, wanted in commands(folder / "README.md") if is_known(line)]
+        with ThreadPoolExecutor(4) as pool:
+            found = list(pool.map(lambda one: said_by(one[1], one[0]), shown))
+        for (_, line, wanted), said in zip(shown, found):
+            with self.subTest(line):
+                self.assertEqual(said, wanted)
+        self.assertGreaterEqual(len(shown), 15)
 
     def test_ten_lines_of_python(self) -> None:
         program, = ["\n".join(block) for block in blocks(TOP / "README.md") if block[0].startswith("import json, subprocess")]
@@ -82,6 +89,15 @@ class Pages(unittest.TestCase):
         said = run([sys.executable, "-m", "gaptd.tactics"], CLIENTS, given).splitlines()[1:]
         self.assertEqual(said, [line for line in dialogue if line and not line.startswith(prompt)])
 
+    def test_a_page_that_follows_a_file(self) -> None:
+        """The block with tactics, and what the page says of them."""
+        found = [[line for line in block if line] for block in blocks(CLIENTS / "README.md")]
+        place, = [place for place, block in enumerate(found) if block[0] == "theorem swap"]
+        with tempfile.TemporaryDirectory() as folder:
+            path = Path(folder) / "swap.tactics"
+            path.write_text("\n".join(found[place]))
+            self.assertEqual(live.view(path).says.strip(), f"{folder}/" + "\n".join(found[place + 1]))
+
     def test_the_beginning_of_the_textbook(self) -> None:
-        block, = ["\n".join(block).rstrip() for block in blocks(CLIENTS / "README.md") if block[0].startswith("theorem ")]
+        block, = ["\n".join(block).rstrip() for block in blocks(CLIENTS / "README.md") if block[0] == "theorem no-cycle"]
         self.assertIn(block, (TOP / "examples" / "textbook.tactics").read_text())

@@ -42,19 +42,24 @@ class OneCommand(unittest.TestCase):
 
 class Installed(unittest.TestCase):
     def test_pip_installs_the_package(self) -> None:
-        """From a copy, since pip builds beside the sources. The page's template comes with it."""
+        """In a fresh virtual environment, from a copy, since pip builds beside the sources. The page's templates come with it."""
         with tempfile.TemporaryDirectory() as folder:
             shutil.copytree(CLIENTS, Path(folder) / "clients", ignore=shutil.ignore_patterns("__pycache__"))
-            words = [sys.executable, "-m", "pip", "install", "--quiet", "--no-index", "--no-build-isolation", "--no-deps", "--target",
-                     f"{folder}/there", f"{folder}/clients"]
-            done = subprocess.run(words, capture_output=True, text=True, check=False, timeout=SECONDS)
-            if done.returncode:
-                self.skipTest("pip or setuptools isn't there, or too old: " + done.stderr.strip()[-200:])
-            environment = {**os.environ, "PYTHONPATH": f"{folder}/there", "GAPTD": " ".join(default_program())}
+            python = f"{folder}/there/bin/python"
+            # (with the pip and the setuptools that are there already, so that nothing is fetched)
+            for words in ([sys.executable, "-m", "venv", "--system-site-packages", "--without-pip", f"{folder}/there"],
+                          [python, "-m", "pip", "install", "--quiet", "--no-index", "--no-build-isolation", f"{folder}/clients"]):
+                done = subprocess.run(words, cwd=folder, capture_output=True, text=True, check=False, timeout=SECONDS)
+                if done.returncode:
+                    self.skipTest("venv, pip, setuptools or wheel isn't there, or too old: " + done.stderr.strip()[-200:])
+            environment = {**os.environ, "GAPTD": " ".join(default_program())}
             shown = subprocess.run([f"{folder}/there/bin/gaptd-clients", "show", "--html", str(EXAMPLES / "cuts.jobs"), "a"], cwd=folder,
                                    env=environment, capture_output=True, text=True, check=False, timeout=SECONDS)
+            templates = subprocess.run([python, "-c", "from gaptd import live, page; print(live.ADDED.is_file(), page.TEMPLATE)"],
+                                       cwd=folder, capture_output=True, text=True, check=False, timeout=SECONDS).stdout
         self.assertEqual(shown.returncode, 0, shown.stderr)
         self.assertIn("<!DOCTYPE html>", shown.stdout)
+        self.assertTrue(templates.startswith(f"True {folder}/there/"), templates)
 
 
 def needs_sessions(test: Callable[..., None]) -> Callable[..., None]:
@@ -89,6 +94,13 @@ class Bundles(unittest.TestCase):
             bundle.unbundled(REPLY.encode())
         done = command("gaptd.bundle", "--run", "--program", "false", str(self.paths[0]))
         self.assertEqual((done.returncode, done.stdout), (1, ""))
+
+    def test_files_are_not_written_over(self) -> None:
+        kept = self.paths[0].with_suffix(".replies")
+        kept.write_text(REPLY)
+        done = command("gaptd.bundle", "--run", str(kept))
+        self.assertEqual((done.returncode, done.stderr), (1, f"bundle: {kept} is a file of replies, and no file of jobs\n"))
+        self.assertEqual(kept.read_text(), REPLY)
 
     @needs_sessions
     def test_sessions_side_by_side(self) -> None:

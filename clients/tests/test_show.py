@@ -1,7 +1,6 @@
 from __future__ import annotations
 
 import json
-import os
 import re
 import shutil
 import subprocess
@@ -13,10 +12,13 @@ from typing import Any, List, Tuple
 from gaptd import formulas, latex, page, show
 from gaptd.client import reading_jobs
 from gaptd.expansions import Expansion
+from gaptd.explain import History
+from gaptd.operations import HELD
 from gaptd.proofs import Proof, allL, allR, andL, andR, ax, cut, from_steps, infer, steps, without_weak
 from gaptd.rules import Sequent
 from gaptd.show import Section
-from tests.support import CLIENTS, EXAMPLES, SECONDS, command, needs, session, steps_of
+from tests.browser import Browser, installed
+from tests.support import CLIENTS, EXAMPLES, SECONDS, command, knows, needs, session, steps_of
 
 CHAIN = {
     "nodes": [
@@ -147,15 +149,39 @@ class Text(unittest.TestCase):
                 self.assertIn('"rule":"cut' if words == ["--html"] else "cut p over", shown)
 
     @needs("prove")
-    def test_closed_sets(self) -> None:
+    def test_what_rounds_come_to(self) -> None:
         jobs = """{"job":"d","op":"problem","text":"cnf(a,axiom,p(a)). cnf(b,axiom,~q(X) | p(X))."}
             {"job":"t","op":"prove","problem":"d","rounds":1} {"job":"e","op":"problem","text":"cnf(a,axiom,p(a)). cnf(b,axiom,~p(X))."} {"job":"u","op":"prove","problem":"e"}"""
         done = command("gaptd.show", "-", "t", "u", given=jobs)
         self.assertEqual(done.returncode, 0, done.stderr)
-        closed, refutation = done.stdout.split("\n\n")[1::2]
-        self.assertEqual(sorted(closed.splitlines()[1:-1]), ["  p(a)", "  ~q(V0) | p(V0)"])
+        title, saturated, _, refutation = done.stdout.split("\n\n")
+        self.assertEqual(title, "t: saturated clauses")
+        self.assertEqual(sorted(saturated.splitlines()[1:-1]), ["  p(a)", "  ~q(V0) | p(V0)"])
         self.assertIn("on p(a)", refutation)
         self.assertIn("cut p(a) over", command("gaptd.show", "--proof", "-", "u", given=jobs).stdout)
+        self.assertIn('"rule":"cut p(a)', command("gaptd.show", "--html", "-", "t", "u", given=jobs).stdout)
+
+    def test_each_operation(self) -> None:
+        """What each operation holds, or finds, is shown as text, on a page and in LaTeX; of the rest it is said that they hold nothing."""
+        path, history = str(EXAMPLES / "each_operation.jobs"), History()
+        shown, others = {}, set()
+        with session() as one:
+            for job, reply in one.send_all(reading_jobs(path)):
+                if not knows(job["op"]):
+                    continue
+                history.add(job, reply)
+                try:
+                    shown[job["op"]] = show.named_sections(one, job["job"], history, is_proof=True)
+                except show.ShowError as error:
+                    self.assertIn("holds nothing that could be shown", str(error))
+                    others.add(job["op"])
+        self.assertEqual(others, {"proves", "measure", "show"})
+        self.assertEqual({op for op in HELD if knows(op)}, set(shown) | others)
+        every = [section for found in shown.values() for section in found]
+        self.assertTrue(page.page("all", [section.drawn() for section in every]))
+        self.assertTrue(latex.document([section.drawn() for section in every]))
+        for op, found in shown.items():
+            self.assertGreater(len(show.text(found).splitlines()), 2, op)
 
     @needs("define")
     def test_definitions(self) -> None:
@@ -280,8 +306,6 @@ seen.folded = page.nodes(frame)[1].className;
 console.log(JSON.stringify(seen));
 """
 
-BROWSERS = ("chromium", "chromium-browser", "google-chrome", "chrome")
-
 # Clicks on the root of each drawing, and then on the two buttons, and writes how many nodes are drawn after each.
 CLICKING = """<script>
 const count = () => [...document.querySelectorAll(".drawing")].map((one) => one.querySelectorAll("g.node").length).join(",");
@@ -297,19 +321,37 @@ document.body.setAttribute("data-counts", counts.join(" "));
 </script>"""
 
 
+def bushy(leaves: int) -> Proof:
+    """A proof with so many different axioms, and as many inferences but one."""
+    level = [Proof("ax", Sequent.of([f"p{number}", "s"], [f"p{number}"]), (), f"p{number}") for number in range(leaves)]
+    number = 0
+    while len(level) > 1:
+        pairs = list(zip(level[::2], level[1::2]))
+        odd = level[2 * len(pairs):]
+        level = []
+        for pair in pairs:
+            number += 1
+            main = f"a{number} | b{number}"
+            level.append(Proof("orL", Sequent.of([main], ["r"]), pair, main))
+        level += odd
+    return level[0]
+
+
 class Page(unittest.TestCase):
+    def browser(self, address: str) -> Browser:
+        program = installed()
+        if program is None:
+            self.skipTest("there is no browser")
+        return Browser(program, address)
+
     def browse(self, written: str) -> str:
-        """The page's elements after its script has run, by a browser without a screen."""
-        browser = next(filter(None, map(shutil.which, BROWSERS)), None) or os.environ.get("BROWSER_FOR_TESTS")
-        if browser is None:
-            self.skipTest("there is no browser of " + ", ".join(BROWSERS))
+        """The page's elements after its script has run."""
         with tempfile.TemporaryDirectory() as folder:
             path = Path(folder) / "page.html"
             path.write_text(written)
-            options = ["--headless", "--no-sandbox", "--disable-gpu", f"--user-data-dir={folder}/profile", "--dump-dom"]
-            done = subprocess.run([browser, *options, path.as_uri()], capture_output=True, text=True, timeout=SECONDS, check=False)
-        self.assertEqual(done.returncode, 0, done.stderr[-2_000:])
-        return done.stdout
+            with self.browser(path.as_uri()) as browser:
+                browser.wait("document.readyState === 'complete' && document.querySelector('.drawing')")
+                return str(browser.value("document.documentElement.outerHTML"))
 
     def test_the_page_stands_by_itself(self) -> None:
         written = page.page("a < b", SAMPLES)
@@ -324,7 +366,7 @@ class Page(unittest.TestCase):
         self.assertIn('data-counts="6,3,11,7 1,1,1,1 6,3,11,7 1,1,1,1"', drawn)
         self.assertEqual(len(re.findall(r'<g class="node cut"', drawn)), 1)
         self.assertRegex(drawn, r'<tspan class="eigenvariable">X</tspan>')
-        self.assertRegex(drawn, r"<tspan>\.\.</tspan><tspan> ⊢ </tspan>")
+        self.assertRegex(drawn, r"<tspan>[^<]*\.\. ⊢ [^<]*</tspan>")
         self.assertEqual(drawn.count("NaN"), 0)
 
     def looked_at(self, written: str, trial: str) -> Any:
@@ -363,8 +405,37 @@ class Page(unittest.TestCase):
     def test_a_large_proof_is_drawn_in_part(self) -> None:
         drawn = self.browse(page.page("large", [("d", doubled(60))]))
         nodes = len(re.findall(r'<g class="node', drawn))
-        self.assertTrue(100 < nodes < 1_000, nodes)
+        self.assertTrue(20 < nodes < 1_000, nodes)
         self.assertIn('class="more"', drawn)
+
+    def test_five_thousand_nodes(self) -> None:
+        """They are unfolded soon, since only what is seen is drawn; what is scrolled to is drawn then, and nothing twice."""
+        with tempfile.TemporaryDirectory() as folder:
+            path = Path(folder) / "page.html"
+            path.write_text(page.page("bushy", [("b", bushy(2_500))]))
+            with self.browser(path.as_uri()) as browser:
+                browser.wait("document.querySelector('g.node')")
+                milliseconds = browser.value("""(() => { const begun = performance.now(); document.getElementById("unfold").click();
+                    document.querySelector(".drawing").getBoundingClientRect(); return performance.now() - begun; })()""")
+                count = "document.querySelectorAll('g.node').length"
+                first = browser.value(count)
+                browser.value("document.querySelector('.drawing').scrollTo(0, 0)")
+                browser.wait(f"{count} > {first}")
+                texts = browser.value("[...document.querySelectorAll('g.node > text:first-child')].map((one) => one.textContent)")
+        self.assertLess(milliseconds, 5_000)  # (where the processor is free it takes a fifth of a second)
+        self.assertLess(len(texts), 1_000)
+        self.assertIn("p0, s ⊢ p0", texts)
+        leaves = [text for text in texts if text.startswith("p")]
+        self.assertEqual(len(leaves), len(set(leaves)))
+
+    def test_a_picture_in_a_notebook(self) -> None:
+        """The frame that a cell shows has the drawing in it."""
+        with tempfile.TemporaryDirectory() as folder:
+            path = Path(folder) / "cell.html"
+            path.write_text(f"<!DOCTYPE html><body>{cut_proof()._repr_html_()}{Expansion.read(CHAIN)._repr_html_()}</body>")
+            with self.browser(path.as_uri()) as browser:
+                drawn = "[...document.querySelectorAll('iframe')].map((one) => one.contentDocument.querySelectorAll('g.node').length).join()"
+                browser.wait(f"{drawn} === '6,11'")
 
     def test_pages_of_all_examples(self) -> None:
         shown = [Section(job["job"], from_steps(job["steps"])) for job, reply in steps_of("lk") if "ok" in reply]
