@@ -21,7 +21,8 @@ const STACK_SIZE: usize = 1 << 30;
 // The bytes of stack where the system refuses a thread with that many.
 const SMALL_STACK_SIZE: usize = 64 << 20;
 
-// How often, for each task of a window, a worker looks for a task before it leaves: more often than it is woken.
+// How often at most, for each task of a window, a worker looks for a task before it leaves. It is seldom woken for nothing, so the bound is
+// hardly ever met, and what is left then the others do, or the caller.
 const ROUNDS_OF_A_TASK: usize = 4;
 
 // What a worker promises: the passes that it gives back are of the board, and fit the runner's home.
