@@ -27,7 +27,7 @@ use Rattle.clause_laws.proofs.Unified.{same_pred}
 use Rattle.clause_laws.proofs.Sets.{Replacing, is_in, images_within}
 
 -- what is found for f at g: exactly the maps that do what m does and send f to g
-abbrev Finds : Formula → Formula → Map → Option Map → Type 0
+abbrev pub Finds : Formula → Formula → Map → Option Map → Type 0
 Finds f g m None = (h : Replacing) → IsWithin m h → image h f ≡ g → ⊥
 Finds f g m (Some n) = (h : Replacing) → IsWithin n h ↔ (IsWithin m h × (image h f ≡ g))
 
@@ -64,7 +64,7 @@ by_predicates : (f g : Formula) (m : Map) → is_atom f ≡ true → (b : Bool) 
 by_predicates f g m is true same = of_terms f g m same (match_term (term_of f) (term_of g) m) (match_term_right (term_of f) (term_of g) m)
 by_predicates f g m is false apart = λ h within e. both_ways (same_predicate f g) apart (one_predicate h f g is e)
 
-finds_atom : (f g : Formula) (m : Map) → is_atom f ≡ true → Finds f g m (match_atom f g m)
+pub finds_atom : (f g : Formula) (m : Map) → is_atom f ≡ true → Finds f g m (match_atom f g m)
 finds_atom f g m is = by_predicates f g m is (same_predicate f g) refl
 
 -- some map that does what m does is right

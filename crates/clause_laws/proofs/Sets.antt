@@ -69,7 +69,7 @@ pub in_filter : (p : Formula → Bool) (fs : List Formula) (q : Formula) → is_
 in_filter p fs q = any-filter_same (eq_by_cmp formula_cmp q) p (p q) (λ k e. ap p (sym (equal q k e))) fs
 
 abbrev pub passing : (Formula → Bool) → FormulaSet → FormulaSet
-passing p s = set.adds_each set.empty (filter p (set.listing s))
+passing p s = set.of_list (filter p (set.listing s))
 
 pub has-passing : (p : Formula → Bool) (s : FormulaSet) (q : Formula) → set.has (passing p s) q ≡ (p q && set.has s q)
 has-passing p s q =

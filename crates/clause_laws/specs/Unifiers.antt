@@ -19,7 +19,7 @@ use Rattle.unify_laws.specs.Unification.{mgu}
 
 -- the formulas of a list
 abbrev pub set_of : List Formula → FormulaSet
-set_of fs = set.adds_each set.empty fs
+set_of fs = set.of_list fs
 
 -- the map sends each formula of a set to a
 abbrev pub MakesAll : (Var → Option Term) → FormulaSet → Formula → Type 0

@@ -1,12 +1,12 @@
--- Choices of a list's members, and lists of resolvents that grow.
-use Rattle.std.proofs.Common.{◌≡◌, ◌≢◌, ℕ, zero, suc, ◌<◌, List, [], ◌∷◌, ◌++◌, map, length, get_or, refl, sym, ap, arith}
+-- Choices of a list's members.
+use Rattle.std.proofs.Common.{◌≢◌, ◌<◌, List, [], ◌∷◌, ◌++◌, map, length, refl, arith}
 use Rattle.std.specs.Prelude.{Contains}
 use Rattle.std.specs.List.{All, AllByRecursion}
-use Rattle.std.proofs.lemmas.List.Elements.{All-from_recursion, recursion_from_All, All-contains}
+use Rattle.std.proofs.lemmas.List.Elements.{All-from_recursion, recursion_from_All, All-contains, All-contains_itself}
 use Rattle.fol.specs.Syntax.{Formula}
-use Rattle.lk_rules.specs.declared.sequent.Sequent.{Sequent}
 use Rattle.clause_laws.specs.Choices.{sublists, choices}
-use Rattle.res_prover.specs.Resolved.{HasWhereUnified}
+use Rattle.clause_laws.proofs.Lists.{contains_head}
+use Rattle.clause_laws.proofs.Sublists.{choices-sublists}
 
 module _ {X : Type 0} (Q : X → Type 0) where
   both_each : (xs ys : List X) → AllByRecursion Q xs → AllByRecursion Q ys → AllByRecursion Q (xs ++ ys)
@@ -35,20 +35,7 @@ pub some_chosen : (gs : List Formula) → gs ≢ [] → 0 < length gs
 some_chosen [] apart = absurd (apart refl)
 some_chosen (g ∷ gs) apart = omega arith
 
--- a list that has what another one had
-
-pub has_stays : (rs os : List Sequent) (p n : Sequent) (fs gs : List Formula) → ((r : Sequent) → Contains rs r → Contains os r) → HasWhereUnified rs p n fs gs → HasWhereUnified os p n fs gs
-has_stays rs os p n fs gs kept has h b each =
-    let one = has h b each in
-    record { resolvent = one.resolvent; is_there = kept one.resolvent one.is_there; by = one.by }
-
--- what stands at a place of a mapped list
-
-pub at_map : {X Y : Type 0} (f : X → Y) (xs : List X) (k : ℕ) (x : X) (d : Y) → k < length xs → x ≡ get_or xs k x → get_or (map f xs) k d ≡ f x
-at_map f [] k x d below is = absurd (omega arith)
-at_map f (y ∷ xs) zero x d below is = ap f (sym is)
-at_map f (y ∷ xs) (suc k) x d below is = at_map f xs k x d (omega arith) is
-
-pub many_mapped : {X Y : Type 0} (f : X → Y) (xs : List X) → length (map f xs) ≡ length xs
-many_mapped f [] = refl
-many_mapped f (x ∷ xs) = ap suc (many_mapped f xs)
+-- one that is chosen is a member
+pub one_chosen : (fs gs : List Formula) → Contains (choices fs) gs → (f : Formula) × Contains gs f × Contains fs f
+one_chosen fs [] chosen = absurd (((choices-sublists fs []).0 chosen).1 refl)
+one_chosen fs (g ∷ gs) chosen = (g, contains_head g gs, All-contains (Contains fs) (g ∷ gs) g (chosen_each (Contains fs) fs (g ∷ gs) (All-contains_itself fs) chosen) (contains_head g gs))

@@ -1,203 +1,157 @@
 -- Rounds of a search, by the laws of clauses.
-use Rattle.std.proofs.Common.{◌≡◌, ℕ, zero, suc, ◌+◌, ◌-◌, ◌≤◌, ◌<◌, ⊎_elim, inl, inr, Bool, true, List, [], ◌∷◌, map, length, get_or, refl, sym, subst, ◌∙◌, arith}
-use Rattle.std.specs.Prelude.{Contains, Option}
-use Rattle.std.specs.List.{All, AllByRecursion, list_any, list_all}
-use Rattle.std.specs.Ordering.{eq_by_cmp}
-use Rattle.std.proofs.lemmas.Bool.{or_left, or_right}
+use Rattle.std.proofs.Common.{◌≡◌, ℕ, suc, ◌+◌, ◌-◌, ◌≤◌, ◌||◌, ◌⊎◌, ⊎_elim, inl, inr, Bool, true, false, List, [], ◌∷◌, map, refl, sym, ap, subst, ◌∙◌, arith}
+use Rattle.std.specs.Prelude.{Contains}
+use Rattle.std.specs.List.{All, AllByRecursion}
 use Rattle.std.proofs.lemmas.List.Elements.{All-from_recursion, recursion_from_All, All-contains, All-weaker, All-nil, All-contains_itself}
-use Rattle.fol.specs.declared.symbols.Var.{Var}
-use Rattle.fol.specs.Syntax.{Term, Formula}
-use Rattle.fol.specs.Order.{formula_cmp}
-use Rattle.finite.specs.Finite as set
-use Rattle.finite.proofs.Finite.{has-listing}
 use Rattle.lk_rules.specs.declared.sequent.Sequent.{Sequent}
-use Rattle.lk_rules.specs.declared.sequent.Side.TheVariants.{Left, Right}
-use Rattle.lk_rules.specs.Formulas.{FormulaSet}
-use Rattle.lk_rules.specs.Sequents.{empty, image_sequent}
-use Rattle.proof_trees.specs.FormulaSets.{is_atom}
-use Rattle.proof_trees.proofs.FormulaSets.{tied}
-use Rattle.refutations.specs.Refutations.{resolvent}
-use Rattle.substitution.proofs.Booleans.{and_both, and_left, and_right}
-use Rattle.clause_laws.specs.Apart.{first_apart, second_apart}
-use Rattle.clause_laws.specs.Subsumption.{IsClause, IsVariant, IsTautology, AreApart}
+use Rattle.lk_rules.specs.Sequents.{empty}
+use Rattle.clause_laws.specs.Subsumption.{IsClause, IsTautology}
 use Rattle.clause_laws.specs.Resolvents.{IsFullResolvent}
-use Rattle.clause_laws.specs.Choices.{ByChoice}
 use Rattle.clause_laws.specs.Normal.{IsNormal, normal}
 use Rattle.clause_laws.specs.Rounds.{IsCovered, Covers, ResolventOf, WithResolvents, IsClosed, VariantOf, Level}
-use Rattle.clause_laws.specs.Keeping.{is_covered, with_each, IsReduced}
+use Rattle.clause_laws.specs.Keeping.{with_each, IsReduced}
 use Rattle.clause_laws.specs.Saturation.{IsSaturation}
-use Rattle.clause_laws.proofs.Listed.{sound_choice}
-use Rattle.clause_laws.proofs.Variants.{choice_apart}
-use Rattle.clause_laws.proofs.RenamedApart.{first_variant, second_variant, apart}
-use Rattle.clause_laws.proofs.Subsuming.{variant_back, variant_both, variant_subsumed}
-use Rattle.clause_laws.proofs.Atomic.{clause_image, clause_variant, clause_full}
-use Rattle.clause_laws.proofs.Lists.{contains_head, contains_later}
-use Rattle.clause_laws.proofs.Covering.{covered_more, variant_member, level_variant, level_later, level_resolvent, level_start, level_next}
-use Rattle.clause_laws.proofs.Kept.{covered-tested, each_kept, each_covers, each_reduced}
+use Rattle.clause_laws.proofs.Subsuming.{variant_back, variant_subsumed}
+use Rattle.clause_laws.proofs.Atomic.{clause_variant}
+use Rattle.clause_laws.proofs.Lists.{contains-map, from_map}
+use Rattle.clause_laws.proofs.Covering.{covered_member, covered_more, covered_by, variant_member, level_variant, level_later, level_resolvent, level_start, level_next}
+use Rattle.clause_laws.proofs.Kept.{each_kept, each_covers, each_reduced}
 use Rattle.clause_laws.proofs.Saturations.{closed-level, empty-level, saturation_later}
 use Rattle.clause_laws.proofs.Normalised.{normal_variant, normal_is}
-use Rattle.res_prover.specs.Resolved.{AreAtoms, IsResolvedBySome, IsFoundAmong, HasResolvent, HasAllOf}
-use Rattle.res_prover.specs.Reached.{AreResolventsOf, IsReached}
+use Rattle.res_prover.specs.declared.kept.Kept.{Kept}
+use Rattle.res_prover.specs.declared.partners.Partner.{Partner}
+use Rattle.res_prover.specs.declared.work.Stage.{Stage}
+use Rattle.res_prover.specs.declared.work.Stage.TheVariants.{Covered, Open, Empty}
+use Rattle.res_prover.specs.declared.work.Work.{Work}
+use Rattle.res_prover.specs.Kept.{kept_clauses, IsNew}
+use Rattle.res_prover.specs.Partners.{Aged, kept_aged, partner_aged, partner_clauses}
+use Rattle.res_prover.specs.Working.{stage_over, is_over, IsAt, WasThere, IsWork, GoesOver, FromOne, ByNew}
+use Rattle.res_prover.specs.Reached.{IsReached, AreOldResolved, IsKeptAfter, IsReady, IsRoundOf}
 
--- the sides of a clause have atoms alone
+-- the beginning of a round
 
-each_member : (P : Formula → Type 0) (fs : List Formula) → ((f : Formula) → list_any (eq_by_cmp formula_cmp f) fs ≡ true → P f) → AllByRecursion P fs
-each_member P [] h = tt
-each_member P (f ∷ fs) h = (
-  h f (or_left (eq_by_cmp formula_cmp f f) (list_any (eq_by_cmp formula_cmp f) fs) (tied f f refl)),
-  each_member P fs (λ g e. h g (or_right (eq_by_cmp formula_cmp g f) (list_any (eq_by_cmp formula_cmp g) fs) e)),
-)
+alone : (ks : List Kept) (c : Sequent) → Contains (kept_clauses ks) c → (b : Bool) × Contains (kept_aged ks) (c, b)
+alone ks c =
+    from_map (λ (k : Kept). k.clause) ks c
+    (λ k at is. (k.is_new, subst (λ d. Contains (kept_aged ks) (d, k.is_new)) is (contains-map (λ (j : Kept). let m : Aged = (j.clause, j.is_new) in m) ks k at)))
 
-side_atoms : (s : FormulaSet) → ((f : Formula) → set.has s f ≡ true → is_atom f ≡ true) → All (λ f. is_atom f ≡ true) (set.listing s)
-side_atoms s h = All-from_recursion (λ f. is_atom f ≡ true) (set.listing s) (each_member (λ f. is_atom f ≡ true) (set.listing s) (λ f e. h f (has-listing s f ∙ e)))
-
-pub clause_atoms : (c : Sequent) → IsClause c → AreAtoms c
-clause_atoms c h = record { left = side_atoms c.left (h Left); right = side_atoms c.right (h Right) }
-
-pub image_atoms : (g : Var → Option Term) (ks : List Sequent) → All IsClause ks → All AreAtoms (map (image_sequent g) ks)
-image_atoms g ks h = All-from_recursion AreAtoms (map (image_sequent g) ks) (each ks (recursion_from_All IsClause ks h))
+pub aged_alone : (ps : List Partner) (ks : List Kept) → partner_aged ps ≡ kept_aged ks → partner_clauses ps ≡ kept_clauses ks
+aged_alone ps ks same = sym (of_partners ps) ∙ ap (map (λ (m : Aged). m.0)) same ∙ of_kept ks
   where
-    each : (ks : List Sequent) → AllByRecursion IsClause ks → AllByRecursion AreAtoms (map (image_sequent g) ks)
-    each [] h = tt
-    each (k ∷ ks) h = (clause_atoms (image_sequent g k) (clause_image g k h.0), each ks h.1)
+    of_partners : (ps : List Partner) → map (λ (m : Aged). m.0) (partner_aged ps) ≡ partner_clauses ps
+    of_partners [] = refl
+    of_partners (p ∷ ps) = ap (λ cs. p.clause ∷ cs) (of_partners ps)
 
--- members of a mapped list
+    of_kept : (ks : List Kept) → map (λ (m : Aged). m.0) (kept_aged ks) ≡ kept_clauses ks
+    of_kept [] = refl
+    of_kept (k ∷ ks) = ap (λ cs. k.clause ∷ cs) (of_kept ks)
 
-pub record FromMapped {X Y : Type 0} (f : X → Y) (xs : List X) (y : Y) : Type 0 where
-  pub from : X
-  pub is_there : Contains xs from
-  pub is : y ≡ f from
+module _ (ks : List Sequent) where
+  were_there : (js : List Kept) → kept_clauses js ≡ ks → All (WasThere ks) js
+  were_there js same =
+      All-weaker (Contains js) (WasThere ks) (λ k at _. subst (λ cs. Contains cs k.clause) same (contains-map (λ (j : Kept). j.clause) js k at)) js (All-contains_itself js)
 
-later_mapped : {X Y : Type 0} (f : X → Y) (x : X) (xs : List X) (y : Y) → FromMapped f xs y → FromMapped f (x ∷ xs) y
-later_mapped f x xs y m = record { from = m.from; is_there = contains_later x xs m.from m.is_there; is = m.is }
+  pub begins : (stops : Bool) (w : Work) → w.stops ≡ stops → kept_clauses w.kept.items ≡ ks → w.stage ≡ Covered → IsReduced ks → All IsNormal ks → All IsClause ks → IsWork ks stops w
+  begins stops w so same stage reduced numbered clauses = record {
+    stops_so = so;
+    begun = clauses;
+    covers = λ c m. covered_member (Contains (kept_clauses w.kept.items)) c (subst (λ cs. Contains cs c) (sym same) m);
+    from = subst (All (λ c. Contains ks c ⊎ VariantOf (ResolventOf (Contains ks)) c)) (sym same) (All-weaker (Contains ks) (λ c. Contains ks c ⊎ VariantOf (ResolventOf (Contains ks)) c) (λ c m. inl m) ks (All-contains_itself ks));
+    reduced = subst IsReduced (sym same) reduced;
+    normal = subst (All IsNormal) (sym same) numbered;
+    clauses = subst (All IsClause) (sym same) clauses;
+    old = were_there w.kept.items same;
+    stage = subst (IsAt ks (kept_clauses w.kept.items)) (sym stage) same;
+  }
 
-from_mapped : {X Y : Type 0} (f : X → Y) (xs : List X) (y : Y) (k : ℕ) → k < length (map f xs) → get_or (map f xs) k y ≡ y → FromMapped f xs y
-from_mapped f [] y k below is = absurd (omega arith)
-from_mapped f (x ∷ xs) y zero below is = record { from = x; is_there = contains_head x xs; is = sym is }
-from_mapped f (x ∷ xs) y (suc k) below is = later_mapped f x xs y (from_mapped f xs y k (omega arith) is)
+-- the end of a round: all resolvents are covered, those of clauses that are not new from before
 
-to_mapped : {X Y : Type 0} (f : X → Y) (xs : List X) (x : X) (k : ℕ) → k < length xs → get_or xs k x ≡ x → Contains (map f xs) (f x)
-to_mapped f [] x k below is = absurd (omega arith)
-to_mapped f (y ∷ xs) x zero below is = subst (λ z. Contains (f y ∷ map f xs) (f z)) is (contains_head (f y) (map f xs))
-to_mapped f (y ∷ xs) x (suc k) below is = contains_later (f y) (map f xs) (f x) (to_mapped f xs x k (omega arith) is)
+or_false : (a b : Bool) → (a || b) ≡ false → (a ≡ false) × (b ≡ false)
+or_false true b e = cc
+or_false false b e = (refl, e)
 
-mapped : {X Y : Type 0} (f : X → Y) (xs : List X) (y : Y) → Contains (map f xs) y → FromMapped f xs y
-mapped f xs y m = from_mapped f xs y m.0 m.1 m.2
+module _ (ks : List Kept) (ps : List Partner) (aged : partner_aged ps ≡ kept_aged ks) (resolved : AreOldResolved ks) where
+  find_partner : {P : Type 0} (c : Sequent) (b : Bool) → ((p : Partner) → Contains ps p → p.clause ≡ c → p.is_new ≡ b → P) → Contains (kept_aged ks) (c, b) → P
+  find_partner c b use_it m =
+      let f : Partner → Aged = λ p. (p.clause, p.is_new) in
+      let pair : Aged = (c, b) in
+      from_map f ps pair (λ p at is. use_it p at (ap (λ (n : Aged). n.0) is) (ap (λ (n : Aged). n.1) is))
+      (subst (λ ms. Contains ms pair) (sym aged) m)
 
-put_mapped : {X Y : Type 0} (f : X → Y) (xs : List X) (x : X) → Contains xs x → Contains (map f xs) (f x)
-put_mapped f xs x m = to_mapped f xs x m.0 m.1 m.2
+  module _ (stops : Bool) (old new : Work) (g : GoesOver (kept_clauses ks) stops old new (FromOne (λ p. FromOne (ByNew p) ps) ps)) (not_over : is_over new ≡ false) where
+    abbrev now : Sequent → Type 0
+    now = Contains (kept_clauses new.kept.items)
 
--- resolvents of renamed clauses
+    by_flags : (c d r : Sequent) (a b : Bool) → Contains (kept_aged ks) (c, a) → Contains (kept_aged ks) (d, b) → IsFullResolvent c d r → (e : Bool) → (a || b) ≡ e → IsCovered now r
+    by_flags c d r a b in_c in_d full true some =
+        find_partner c a (λ p on_p is_c is_a. find_partner d b (λ n on_n is_d is_b.
+        g.further not_over r (record {
+          one = p;
+          is_one = on_p;
+          by = record {
+            one = n;
+            is_one = on_n;
+            by = record {
+              some_new = ap (λ f. f || n.is_new) is_a ∙ ap (λ f. a || f) is_b ∙ some;
+              full = subst (λ s. IsFullResolvent s n.clause r) (sym is_c) (subst (λ s. IsFullResolvent c s r) (sym is_d) full);
+            };
+          };
+        })) in_d) in_c
+    by_flags c d r a b in_c in_d full false none =
+        let neither = or_false a b none in
+        covered_by now (Contains (kept_clauses ks)) g.work.covers r
+        (resolved c d r (subst (λ f. Contains (kept_aged ks) (c, f)) neither.0 in_c) (subst (λ f. Contains (kept_aged ks) (d, f)) neither.1 in_d) full)
 
-module _ (ks rs : List Sequent) where
-  sound_pair : (c d p n r : Sequent) → Contains ks c → Contains ks d → p ≡ image_sequent first_apart c → n ≡ image_sequent second_apart d → IsResolvedBySome p n r → VariantOf (ResolventOf (Contains ks)) r
-  sound_pair c d p n r of_c of_d p_is n_is h =
-      let q = resolvent (image_sequent h.by.unifier p) (image_sequent h.by.unifier n) h.by.atom in
-      let full : IsFullResolvent c d q =
-      sound_choice c d p n (subst (IsVariant c) (sym p_is) (first_variant c)) (subst (IsVariant d) (sym n_is) (second_variant d)) (subst (λ s. AreApart s n) (sym p_is) (subst (AreApart (image_sequent first_apart c)) (sym n_is) (apart c d)))
-      h.positive h.negative h.is_positive h.is_negative h.by.unifier h.by.atom h.by.of_atoms h.by.most_general in
-      record {
-        member = q;
-        is_member = record { first = c; second = d; is_first = of_c; is_second = of_d; full = full };
-        variant = subst (IsVariant q) (sym h.by.is) (normal_variant q);
-      }
-
-  sound_found : (r : Sequent) → IsFoundAmong (map (image_sequent first_apart) ks) (map (image_sequent second_apart) ks) r → VariantOf (ResolventOf (Contains ks)) r
-  sound_found r h =
-      let one = mapped (image_sequent first_apart) ks h.positive h.is_positive in
-      let two = mapped (image_sequent second_apart) ks h.negative h.is_negative in
-      sound_pair one.from two.from h.positive h.negative r one.is_there two.is_there one.is two.is h.resolves
-
-  normal_found : (ps ns : List Sequent) (r : Sequent) → IsFoundAmong ps ns r → IsNormal r
-  normal_found ps ns r h = subst IsNormal (sym h.resolves.by.is) (normal_is (resolvent (image_sequent h.resolves.by.unifier h.positive) (image_sequent h.resolves.by.unifier h.negative) h.resolves.by.atom))
-
-  module _ (has : (p n : Sequent) → Contains (map (image_sequent first_apart) ks) p → Contains (map (image_sequent second_apart) ks) n → HasAllOf rs p n) where
-    complete_found : (r : Sequent) → ResolventOf (Contains ks) r → VariantOf (Contains rs) r
-    complete_found r h =
-        let p = image_sequent first_apart h.first in
-        let n = image_sequent second_apart h.second in
-        let choice : ByChoice p n r = choice_apart h.first h.second p n r (first_variant h.first) (second_variant h.second) (apart h.first h.second) h.full in
-        let found : HasResolvent rs p n choice.positive choice.negative =
-        has p n (put_mapped (image_sequent first_apart) ks h.first h.is_first) (put_mapped (image_sequent second_apart) ks h.second h.is_second) choice.positive choice.negative choice.is_positive choice.is_negative choice.map choice.atom choice.unifies in
-        let q = resolvent (image_sequent found.by.unifier p) (image_sequent found.by.unifier n) found.by.atom in
-        record {
-          member = found.resolvent;
-          is_member = found.is_there;
-          variant = subst (λ s. IsVariant s r) (sym found.by.is)
-              (variant_both (normal q) q r (variant_back q (normal q) (normal_variant q)) (choice.any found.by.unifier found.by.atom found.by.most_general));
-        }
-
-    pub are_resolvents : All (IsFoundAmong (map (image_sequent first_apart) ks) (map (image_sequent second_apart) ks)) rs → AreResolventsOf ks rs
-    are_resolvents found = record {
-      sound = All-weaker (IsFoundAmong (map (image_sequent first_apart) ks) (map (image_sequent second_apart) ks)) (VariantOf (ResolventOf (Contains ks))) sound_found rs found;
-      normal = All-weaker (IsFoundAmong (map (image_sequent first_apart) ks) (map (image_sequent second_apart) ks)) IsNormal (normal_found (map (image_sequent first_apart) ks) (map (image_sequent second_apart) ks)) rs found;
-      complete = complete_found;
-    }
-
--- whether the kept clauses are closed
-
-all_true : (f : Sequent → Bool) (rs : List Sequent) → AllByRecursion (λ r. f r ≡ true) rs → list_all f rs ≡ true
-all_true f [] h = refl
-all_true f (r ∷ rs) h = and_both (f r) (list_all f rs) h.0 (all_true f rs h.1)
-
-each_true : (f : Sequent → Bool) (rs : List Sequent) → list_all f rs ≡ true → AllByRecursion (λ r. f r ≡ true) rs
-each_true f [] e = tt
-each_true f (r ∷ rs) e = (and_left (f r) (list_all f rs) e, each_true f rs (and_right (f r) (list_all f rs) e))
-
-module _ (ks rs : List Sequent) (clauses : All IsClause ks) (h : AreResolventsOf ks rs) where
-  pub covered_closed : list_all (is_covered ks) rs ≡ true → IsClosed (Contains ks)
-  covered_closed e q of_q =
-      let v = h.complete q of_q in
-      let tested = All-contains (λ r. is_covered ks r ≡ true) rs v.member (All-from_recursion (λ r. is_covered ks r ≡ true) rs (each_true (is_covered ks) rs e)) v.is_member in
-      covered_more (Contains ks) v.member q ((covered-tested ks clauses v.member).0 tested) (variant_subsumed v.member q v.variant)
-
-  one_covered : IsClosed (Contains ks) → (r : Sequent) → VariantOf (ResolventOf (Contains ks)) r → is_covered ks r ≡ true
-  one_covered closed r v = (covered-tested ks clauses r).1 (covered_more (Contains ks) v.member r (closed v.member v.is_member) (variant_subsumed v.member r v.variant))
-
-  pub closed_covered : IsClosed (Contains ks) → list_all (is_covered ks) rs ≡ true
-  closed_covered closed = all_true (is_covered ks) rs (recursion_from_All (λ r. is_covered ks r ≡ true) rs (All-weaker (VariantOf (ResolventOf (Contains ks))) (λ r. is_covered ks r ≡ true) (one_covered closed) rs h.sound))
-
-  clause_found : (r : Sequent) → VariantOf (ResolventOf (Contains ks)) r → IsClause r
-  clause_found r v =
-      let of = v.is_member in
-      clause_variant v.member r v.variant (clause_full of.first of.second v.member (All-contains IsClause ks of.first clauses of.is_first) (All-contains IsClause ks of.second clauses of.is_second) of.full)
-
-  pub found_clauses : All IsClause rs
-  found_clauses = All-weaker (VariantOf (ResolventOf (Contains ks))) IsClause clause_found rs h.sound
+    pub ends : Covers now (ResolventOf (Contains (kept_clauses ks)))
+    ends r h =
+        let one = alone ks h.first h.is_first in
+        let two = alone ks h.second h.is_second in
+        by_flags h.first h.second r one.0 two.0 one.1 two.1 h.full (one.0 || two.0) refl
 
 -- the next round
 
-module _ (cs : List Sequent) (n : ℕ) (ks rs : List Sequent) (at : IsReached cs n ks) (h : AreResolventsOf ks rs) where
+module _ (cs : List Sequent) (n : ℕ) (ks : List Kept) (stops : Bool) (w : Work) (at : IsReached cs n (kept_clauses ks)) (of : IsRoundOf ks stops w) where
+  abbrev before : List Sequent
+  before = kept_clauses ks
+
+  abbrev after : List Sequent
+  after = kept_clauses w.kept.items
+
   later_one : (c : Sequent) → Level cs n c → Level cs (suc n) c
   later_one c m = let same : 1 + n ≡ suc n = omega arith in subst (λ k. Level cs k c) same (level_later cs n 1 c m)
 
-  level_found : (r : Sequent) → VariantOf (ResolventOf (Contains ks)) r → Level cs (suc n) r
-  level_found r v = level_variant cs (suc n) v.member r (level_resolvent cs n (Contains ks) at.reached v.member v.is_member) v.variant
+  pub level_found : (r : Sequent) → VariantOf (ResolventOf (Contains before)) r → Level cs (suc n) r
+  level_found r v = level_variant cs (suc n) v.member r (level_resolvent cs n (Contains before) at.reached v.member v.is_member) v.variant
 
-  covers_next : Covers (Contains (with_each ks rs)) (WithResolvents (Contains ks))
-  covers_next c m = ⊎_elim {C = IsCovered (Contains (with_each ks rs)) c}
-      (λ old. each_covers ks rs at.clauses (found_clauses ks rs at.clauses h) c (inl old))
-      (λ of.
-      let v = h.complete c of in
-      covered_more (Contains (with_each ks rs)) v.member c (each_covers ks rs at.clauses (found_clauses ks rs at.clauses h) v.member (inr v.is_member)) (variant_subsumed v.member c v.variant))
-      m
+  covers_next : is_over w ≡ false → Covers (Contains after) (WithResolvents (Contains before))
+  covers_next not_over c m = ⊎_elim {C = IsCovered (Contains after) c} (of.work.covers c) (of.covers not_over c) m
 
-  contained : All (Contains ks) ks
-  contained = All-contains_itself ks
+  reached_after : (c : Sequent) → Contains after c → Level cs (suc n) c
+  reached_after c m =
+      ⊎_elim {C = Level cs (suc n) c} (λ old. later_one c (at.reached c old)) (level_found c)
+      (All-contains (λ d. Contains before d ⊎ VariantOf (ResolventOf (Contains before)) d) after c of.work.from m)
 
-  reached_next : All (Level cs (suc n)) (with_each ks rs)
-  reached_next = each_kept (Level cs (suc n)) ks rs
-      (All-weaker (Contains ks) (Level cs (suc n)) (λ c m. later_one c (at.reached c m)) ks contained)
-      (All-weaker (VariantOf (ResolventOf (Contains ks))) (Level cs (suc n)) level_found rs h.sound)
-
-  pub next_reached : IsReached cs (suc n) (with_each ks rs)
-  next_reached = record {
-    covers = level_next cs (Contains (with_each ks rs)) n (Contains ks) at.covers covers_next;
-    reached = λ c m. All-contains (Level cs (suc n)) (with_each ks rs) c reached_next m;
-    reduced = each_reduced ks rs at.clauses (found_clauses ks rs at.clauses h) at.reduced;
-    normal = each_kept IsNormal ks rs at.normal h.normal;
-    clauses = each_kept IsClause ks rs at.clauses (found_clauses ks rs at.clauses h);
+  pub next_reached : is_over w ≡ false → IsReached cs (suc n) after
+  next_reached not_over = record {
+    covers = level_next cs (Contains after) n (Contains before) at.covers (covers_next not_over);
+    reached = reached_after;
+    reduced = of.work.reduced;
+    normal = of.work.normal;
+    clauses = of.work.clauses;
   }
+
+  old_there : (c : Sequent) → Contains (kept_aged w.kept.items) (c, false) → Contains before c
+  old_there c =
+      let f : Kept → Aged = λ k. (k.clause, k.is_new) in
+      let pair : Aged = (c, false) in
+      from_map f w.kept.items pair
+      (λ k on is. subst (Contains before) (ap (λ (m : Aged). m.0) is) (All-contains (WasThere before) w.kept.items k of.work.old on (ap (λ (m : Aged). m.1) is)))
+
+  pub next_resolved : is_over w ≡ false → AreOldResolved w.kept.items
+  next_resolved not_over c d r in_c in_d full = of.covers not_over r (record { first = c; second = d; is_first = old_there c in_c; is_second = old_there d in_d; full = full })
+
+  pub closed_now : is_over w ≡ false → after ≡ before → IsClosed (Contains before)
+  closed_now not_over same = subst (λ ds. Covers (Contains ds) (ResolventOf (Contains before))) same (of.covers not_over)
 
 -- the start
 
@@ -218,7 +172,7 @@ module _ (cs : List Sequent) (clauses : All IsClause cs) where
   start_covers : Covers (Contains (with_each [] (map normal cs))) (Contains cs)
   start_covers c m =
       covered_more (Contains (with_each [] (map normal cs))) (normal c) c
-      (each_covers [] (map normal cs) (All-nil IsClause) start_clauses (normal c) (inr (put_mapped normal cs c m)))
+      (each_covers [] (map normal cs) (All-nil IsClause) start_clauses (normal c) (inr (contains-map normal cs c m)))
       (variant_subsumed (normal c) c (variant_back c (normal c) (normal_variant c)))
 
   start_level : All (Level cs 0) (with_each [] (map normal cs))
@@ -232,6 +186,15 @@ module _ (cs : List Sequent) (clauses : All IsClause cs) where
     normal = each_kept IsNormal [] (map normal cs) (All-nil IsNormal) (mapped_each IsNormal (λ c m. normal_is c));
     clauses = each_kept IsClause [] (map normal cs) (All-nil IsClause) start_clauses;
   }
+
+-- where all clauses are new, none is old
+pub all_new : (ks : List Kept) → All IsNew ks → AreOldResolved ks
+all_new ks new c d r in_c in_d full =
+    let f : Kept → Aged = λ k. (k.clause, k.is_new) in
+    let pair : Aged = (c, false) in
+    from_map f ks pair
+    (λ k on is. let both : false ≡ true = sym (ap (λ (m : Aged). m.1) is) ∙ All-contains IsNew ks k new on in cc)
+    in_c
 
 -- the end
 
@@ -255,3 +218,44 @@ module _ (cs : List Sequent) (k : ℕ) (ks : List Sequent) (at : IsReached cs k 
 
   pub not_yet : (Contains ks empty → ⊥) → (IsClosed (Contains ks) → ⊥) → (Level cs k empty → ⊥) × (IsClosed (Level cs k) → ⊥)
   not_yet full open_yet = (λ m. full ((empty-level cs ks k at.covers at.reached).1 m), λ closed. open_yet ((closed-level cs ks k at.covers at.reached).1 closed))
+
+-- the empty clause of one round more
+pub later_empty : (cs : List Sequent) (k n : ℕ) → k ≤ n → Level cs k empty → Level cs n empty
+later_empty cs k n within m = let same : (n - k) + k ≡ n = omega arith in subst (λ i. Level cs i empty) same (level_later cs k (n - k) empty m)
+
+-- how a search goes on after a round, or ends
+
+pub ready : (cs : List Sequent) (n : ℕ) (ks : List Kept) → IsKeptAfter cs n ks → IsReady ks
+ready cs n ks at = record { reduced = at.reached.reduced; normal = at.reached.normal; clauses = at.reached.clauses; resolved = at.resolved }
+
+over_at : (b : Bool) (w : Work) (ks : List Sequent) → IsWork ks b w → (s : Stage) → w.stage ≡ s → is_over w ≡ stage_over b s
+over_at b w ks at s e = ap (λ a. stage_over a w.stage) at.stops_so ∙ ap (stage_over b) e
+
+module _ (cs : List Sequent) (k : ℕ) (ks : List Kept) (at : IsKeptAfter cs k ks) (stops : Bool) (w : Work) (of : IsRoundOf ks stops w) where
+  abbrev first : List Sequent
+  first = kept_clauses ks
+
+  stage_is : (s : Stage) → w.stage ≡ s → IsAt first (kept_clauses w.kept.items) s
+  stage_is s e = subst (IsAt first (kept_clauses w.kept.items)) e of.work.stage
+
+  pub saturated_by : (n : ℕ) → k ≤ n → (Contains first empty → ⊥) → w.stage ≡ Covered → (js : List Sequent) → js ≡ first → IsSaturation cs n js
+  saturated_by n within full e js same =
+      subst (IsSaturation cs n) (sym same)
+      (saturated cs k first at.reached n within full (closed_now cs k ks stops w at.reached of (over_at stops w first of.work Covered e) (stage_is Covered e)))
+
+  pub empty_by : (n : ℕ) → suc k ≤ n → w.stage ≡ Empty → Level cs n empty
+  empty_by n within e = later_empty cs (suc k) n within (level_found cs k ks stops w at.reached of empty (stage_is Empty e).1)
+
+  pub next_kept : stops ≡ false → w.stage ≡ Open → IsKeptAfter cs (suc k) w.kept.items
+  next_kept goes_on e =
+      let not_over : is_over w ≡ false = over_at stops w first of.work Open e ∙ goes_on in
+      record {
+        reached = next_reached cs k ks stops w at.reached of not_over;
+        resolved = next_resolved cs k ks stops w at.reached of not_over;
+      }
+
+  pub open_by : (Contains first empty → ⊥) → w.stage ≡ Open → (Level cs k empty → ⊥) × (IsClosed (Level cs k) → ⊥)
+  open_by full e = not_yet cs k first at.reached full (stage_is Open e)
+
+  pub empty_yet : (Contains first empty → ⊥) → w.stage ≡ Empty → (Level cs k empty → ⊥) × (IsClosed (Level cs k) → ⊥)
+  empty_yet full e = not_yet cs k first at.reached full (stage_is Empty e).0

@@ -1,6 +1,16 @@
 pub mod Lists
+pub mod Choosing
+pub mod Marks
+pub mod Clashes
+pub mod Kept
+pub mod Sending
+pub mod Marked
 pub mod Resolved
+pub mod GroundAtoms
+pub mod Bindings
+pub mod Partners
 pub mod Reached
+pub mod Working
 pub mod Outcomes
 pub mod Deriving
 pub mod Clauses

@@ -1,87 +1,87 @@
-//! Clauses that are kept: those that no other one makes needless.
-ghost use Rattle.std.specs.Prelude.{◌≡◌, ◌++◌, ◌∷◌, [], not as negated, filter, take, IfOk, OnOk};
-ghost use Rattle.std.specs.List.{list_any, list_all};
+//! Which clauses are kept: those that no other one makes needless.
+ghost use Rattle.std.specs.Prelude.{◌≡◌, ◌∷◌, ◌++◌, [], false, not as negated, filter, IfOk, OnOk};
+ghost use Rattle.std.specs.List.{All, list_any};
+ghost use Rattle.clause_laws.specs.Subsumption.{IsClause};
 ghost use Rattle.clause_laws.specs.Searching.{subsumes as does_subsume};
-ghost use Rattle.clause_laws.specs.Keeping.{is_covered as covered_by, with_clause as kept_with, with_each};
+ghost use Rattle.res_prover.specs.Kept.{kept_clauses, is_needless};
 
+use crate::kept::{Kept, copied};
 use crate::subsumption::{is_tautology, subsumes};
-use lk_rules::Sequent;
 use std::alloc::{AllocError, Global};
 
-/// Whether the clause is a tautology, or one of the others subsumes it.
-pub(crate) fn is_covered(
-    alloc: Global,
-    others: &[Sequent],
-    clause: &Sequent,
-) -> Result<bool, AllocError>
-    ensures { IfOk result (λ covered. covered ≡ covered_by others.now clause.now) }
+/// Whether the clause is a tautology, or one of those that are kept subsumes it.
+pub(crate) fn is_covered(alloc: Global, kept: &[Kept], one: &Kept) -> Result<bool, AllocError>
+    ensures { IfOk result (λ covered. All IsClause (kept_clauses kept.now) → covered ≡ is_needless kept.now one.now.clause) }
 {
-    if is_tautology(clause) {
+    if is_tautology(one.clause.clause()) {
         return Ok(true);
     }
-    for place in 0..others.len() {
-        if subsumes(alloc, &others[place], clause)? {
+    for place in 0..kept.len() {
+        if subsumes(alloc, &kept[place].clause, &one.clause)? {
             return Ok(true);
         }
     }
     Ok(false)
 }
 
-// The clause and those of the others that it doesn't subsume.
-fn in_front(alloc: Global, others: &[Sequent], clause: Sequent) -> Result<Vec<Sequent>, AllocError>
-    ensures { IfOk result (λ v. v.items ≡ clause ∷ filter (λ k. negated (does_subsume clause k)) others.now) }
+// Adds the other clause, unless the first one subsumes it.
+fn push_unless_subsumed(
+    alloc: Global,
+    kept: &mut Vec<Kept>,
+    one: &Kept,
+    other: &Kept,
+) -> Result<(), AllocError>
+    ensures { OnOk result (IsClause one.now.clause → kept.new.items ≡ kept.old.items ++ filter (λ k. negated (does_subsume one.now.clause k.clause)) (other.now ∷ [])) }
+{
+    if subsumes(alloc, &one.clause, &other.clause)? {
+        return Ok(());
+    }
+    kept.push(copied(other)?)?;
+    Ok(())
+}
+
+// Those of the others that the clause doesn't subsume.
+fn remaining(alloc: Global, others: &[Kept], one: &Kept) -> Result<Vec<Kept>, AllocError>
+    ensures { IfOk result (λ v. IsClause one.now.clause → v.items ≡ filter (λ k. negated (does_subsume one.now.clause k.clause)) others.now) }
 {
     let mut kept = Vec::with_capacity(alloc, others.len())?;
-    kept.push(clause.copy()?)?;
     for place in 0..others.len() {
-        if !subsumes(alloc, &clause, &others[place])? {
-            kept.push(others[place].copy()?)?;
-        }
+        push_unless_subsumed(alloc, &mut kept, one, &others[place])?;
     }
     Ok(kept)
 }
 
-/// Adds one more clause, unless it is covered. Those that it subsumes go.
-pub(crate) fn with_clause(
-    alloc: Global,
-    kept: Vec<Sequent>,
-    clause: Sequent,
-) -> Result<Vec<Sequent>, AllocError>
-    ensures { IfOk result (λ v. v.items ≡ kept_with kept.items clause) }
+/// The clause and those of the others that it doesn't subsume.
+pub(crate) fn in_front(alloc: Global, others: &[Kept], one: Kept) -> Result<Vec<Kept>, AllocError>
+    ensures { IfOk result (λ v. IsClause one.clause → v.items ≡ one ∷ filter (λ k. negated (does_subsume one.clause k.clause)) others.now) }
 {
-    if is_covered(alloc, kept.as_slice(), &clause)? {
+    let mut kept = remaining(alloc, others, &one)?;
+    kept.insert(0, one)?;
+    Ok(kept)
+}
+
+// Whether the clause subsumes one of the others.
+fn subsumes_some(alloc: Global, others: &[Kept], one: &Kept) -> Result<bool, AllocError>
+    ensures { IfOk result (λ some. IsClause one.now.clause → some ≡ list_any (λ k. does_subsume one.now.clause k.clause) others.now) }
+{
+    for place in 0..others.len() {
+        if subsumes(alloc, &one.clause, &others[place].clause)? {
+            return Ok(true);
+        }
+    }
+    Ok(false)
+}
+
+/// Those of the others that the clause doesn't subsume, and then the clause. Mostly these are all, and none is copied.
+pub(crate) fn put_last(alloc: Global, others: Vec<Kept>, one: Kept) -> Result<Vec<Kept>, AllocError>
+    ensures { IfOk result (λ v. IsClause one.clause → v.items ≡ filter (λ k. negated (does_subsume one.clause k.clause)) others.items ++ one ∷ []) }
+{
+    if !subsumes_some(alloc, others.as_slice(), &one)? {
+        let mut kept = others;
+        kept.push(one)?;
         return Ok(kept);
     }
-    in_front(alloc, kept.as_slice(), clause)
-}
-
-/// Adds further clauses, one after the other, each unless it is covered.
-pub(crate) fn with_all(
-    alloc: Global,
-    kept: Vec<Sequent>,
-    clauses: &[Sequent],
-) -> Result<Vec<Sequent>, AllocError>
-    ensures { IfOk result (λ v. v.items ≡ with_each kept.items clauses.now) }
-{
-    let mut kept = kept;
-    for place in 0..clauses.len() {
-        kept = with_clause(alloc, kept, clauses[place].copy()?)?;
-    }
+    let mut kept = remaining(alloc, others.as_slice(), &one)?;
+    kept.push(one)?;
     Ok(kept)
-}
-
-/// Whether each clause is covered.
-pub(crate) fn covers_all(
-    alloc: Global,
-    kept: &[Sequent],
-    clauses: &[Sequent],
-) -> Result<bool, AllocError>
-    ensures { IfOk result (λ all. all ≡ list_all (covered_by kept.now) clauses.now) }
-{
-    for place in 0..clauses.len() {
-        if !is_covered(alloc, kept, &clauses[place])? {
-            return Ok(false);
-        }
-    }
-    Ok(true)
 }

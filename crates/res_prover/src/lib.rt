@@ -2,20 +2,31 @@
 #![tactic(auto)]
 
 mod answer;
+mod bindings;
 mod choices;
+mod clashes;
+mod ground_atoms;
+mod imaging;
 mod keeping;
+mod kept;
+mod literals;
+mod marked;
+mod marks;
 mod normal;
 mod notes;
 mod pairing;
+mod partners;
 mod planning;
 mod refuting;
 mod renaming;
 mod resolving;
 mod rounds;
 mod saturating;
+mod starting;
 mod step_list;
 mod subsumption;
 mod unifiers;
+mod work;
 
 pub use answer::{Found, Lits};
 pub use rounds::ProveFault;

@@ -7,6 +7,7 @@ ghost use Rattle.refutations.specs.Clauses.{first_occurrences};
 ghost use Rattle.res_prover.specs.Lists.{unlisted};
 ghost use Rattle.clause_laws.specs.Normal.{numbered, variables as variables_of, normal as normal_of};
 
+use crate::imaging::image_by;
 use fol::{Term, Var};
 use lk_rules::Sequent;
 use std::alloc::{AllocError, Global};
@@ -70,6 +71,6 @@ pub(crate) fn normal(alloc: Global, clause: &Sequent) -> Result<(Sequent, Subst)
 {
     let vars = variables(alloc, clause)?;
     let map = numbering(alloc, vars.as_slice())?;
-    let image = clause.image(alloc, &map)?;
+    let image = image_by(alloc, clause, &map)?;
     Ok((image, map))
 }

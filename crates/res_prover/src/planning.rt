@@ -1,120 +1,44 @@
-//! The plan of a refutation: of the resolvents that a search has noted, those that the empty clause needs. Nothing is claimed of it.
+//! The plan of a refutation: of the clauses that a search has noted, those that the empty clause needs. Nothing is claimed of it.
 
-use crate::normal::{normal, variables};
-use crate::notes::{Note, Notes};
+use crate::normal::variables;
+use crate::notes::{Note, Notes, Source};
 use crate::renaming::new_name;
-use fol::{Term, TermNode, Var};
+use fol::{Formula, Term, TermNode};
 use lk_rules::Sequent;
 use refutations::ResStep;
 use std::alloc::{AllocError, Global};
 use substitution::{Subst, apply_term};
 
-// Where a clause is from.
-#[derive(Clone, Copy)]
-enum Origin {
-    /// It is the clause of this number, with numbered variables.
-    Input(usize),
-    /// It is the resolvent of this number.
-    Resolvent(usize),
-}
-
-// A resolvent that is needed.
-#[derive(Clone, Copy)]
-struct Needed {
-    number: usize,
-    positive: Origin,
-    negative: Origin,
-}
-
-// The steps so far, and which of them derive the clauses and the resolvents.
+// The steps so far, and which of them derive the clauses that were noted.
 #[derive(Drop)]
 struct Plan {
     steps: Vec<ResStep>,
-    inputs: Vec<Option<u64>>,
-    resolvents: Vec<Option<u64>>,
+    known: Vec<Option<u64>>,
 }
 
-// A clause with numbered variables, and the map that numbers them.
-#[derive(Drop)]
-struct Numbered {
-    clause: Sequent,
-    map: Subst,
-}
-
-fn numbered_all(alloc: Global, clauses: &[Sequent]) -> Result<Vec<Numbered>, AllocError> {
-    let mut all = Vec::with_capacity(alloc, clauses.len())?;
-    for clause in clauses {
-        let (clause, map) = normal(alloc, clause)?;
-        all.push(Numbered { clause, map })?;
-    }
-    Ok(all)
-}
-
-// The place of the first clause that is this one.
-fn input_of(inputs: &[Numbered], clause: &Sequent) -> Option<usize> {
-    inputs.iter().position(|input| input.clause == *clause)
-}
-
-fn resolvent_of(made: &[Note], clause: &Sequent) -> Option<usize> {
-    made.iter().position(|note| note.clause == *clause)
-}
-
-// Where the clause is from first.
-fn origin_of(inputs: &[Numbered], made: &[Note], clause: &Sequent) -> Result<Origin, AllocError> {
-    if let Some(number) = input_of(inputs, clause) {
-        return Ok(Origin::Input(number));
-    }
-    match resolvent_of(made, clause) {
-        Some(number) => Ok(Origin::Resolvent(number)),
-        None => Err(AllocError),
-    }
-}
-
-// Where a clause that a round began with is from.
-fn origin_at(
-    inputs: &[Numbered],
-    notes: &Notes,
-    round: usize,
-    place: usize,
-) -> Result<Origin, AllocError> {
-    match notes.kept(round, place) {
-        Some(clause) => origin_of(inputs, notes.made(), clause),
-        None => Err(AllocError),
-    }
-}
-
-fn mark(is_needed: &mut [bool], origin: Origin) {
-    if let Origin::Resolvent(number) = origin
-        && let Some(flag) = is_needed.get_mut(number)
-    {
+fn mark(is_needed: &mut [bool], number: usize) {
+    if let Some(flag) = is_needed.get_mut(number) {
         *flag = true;
     }
 }
 
-// The needed resolvents, the last one first: each is of clauses that are from earlier ones.
-fn needed_resolvents(
-    alloc: Global,
-    inputs: &[Numbered],
-    notes: &Notes,
-    last: usize,
-) -> Result<Vec<Needed>, AllocError> {
-    let mut is_needed = vec![in alloc; false; notes.made().len()]?;
-    mark(is_needed.as_mut_slice(), Origin::Resolvent(last));
-    let mut all = Vec::new(alloc);
-    for number in (0..notes.made().len()).rev() {
-        if let (Some(true), Some(note)) = (is_needed.get(number), notes.made().get(number)) {
-            let positive = origin_at(inputs, notes, note.round, note.positive)?;
-            let negative = origin_at(inputs, notes, note.round, note.negative)?;
-            mark(is_needed.as_mut_slice(), positive);
-            mark(is_needed.as_mut_slice(), negative);
-            all.push(Needed {
-                number,
+// Which clauses that one needs: each is from earlier ones.
+fn needed(alloc: Global, notes: &[Note], last: usize) -> Result<Vec<bool>, AllocError> {
+    let mut is_needed = vec![in alloc; false; notes.len()]?;
+    mark(is_needed.as_mut_slice(), last);
+    for number in (0..notes.len()).rev() {
+        if let (Some(true), Some(note)) = (is_needed.get(number), notes.get(number))
+            && let Source::Resolvent {
                 positive,
                 negative,
-            })?;
+                ..
+            } = &note.source
+        {
+            mark(is_needed.as_mut_slice(), *positive);
+            mark(is_needed.as_mut_slice(), *negative);
         }
     }
-    Ok(all)
+    Ok(is_needed)
 }
 
 // Whether the map sends each of its variables to itself.
@@ -142,20 +66,15 @@ fn renamed_unifier(
 }
 
 impl Plan {
-    fn new(alloc: Global, inputs: usize, resolvents: usize) -> Result<Plan, AllocError> {
+    fn new(alloc: Global, notes: usize) -> Result<Plan, AllocError> {
         Ok(Plan {
             steps: Vec::new(alloc),
-            inputs: vec![in alloc; None; inputs]?,
-            resolvents: vec![in alloc; None; resolvents]?,
+            known: vec![in alloc; None; notes]?,
         })
     }
 
     fn into_steps(self) -> Vec<ResStep> {
-        let Plan {
-            steps,
-            inputs: _,
-            resolvents: _,
-        } = self;
+        let Plan { steps, known: _ } = self;
         steps
     }
 
@@ -173,106 +92,77 @@ impl Plan {
         self.push(ResStep::Subst(of, map))
     }
 
-    // The step that derives a clause with numbered variables.
-    fn input(
-        &mut self,
-        alloc: Global,
-        inputs: &[Numbered],
-        number: usize,
-    ) -> Result<u64, AllocError> {
-        if let Some(Some(step)) = self.inputs.get(number) {
-            return Ok(*step);
-        }
-        let Some(input) = inputs.get(number) else {
-            return Err(AllocError);
-        };
-        let first = self.push(ResStep::Input(number as u64))?;
-        let step = self.push_image(first, input.map.copy(alloc)?)?;
-        if let Some(known) = self.inputs.get_mut(number) {
-            *known = Some(step);
-        }
-        Ok(step)
-    }
-
-    fn step_of(
-        &mut self,
-        alloc: Global,
-        inputs: &[Numbered],
-        origin: Origin,
-    ) -> Result<u64, AllocError> {
-        match origin {
-            Origin::Input(number) => self.input(alloc, inputs, number),
-            Origin::Resolvent(number) => match self.resolvents.get(number) {
-                Some(Some(step)) => Ok(*step),
-                _ => Err(AllocError),
-            },
-        }
-    }
-
-    // The image of a clause that a round began with, under the unifier.
+    // The image under the unifier of a clause that was noted.
     fn unified(
         &mut self,
         alloc: Global,
-        clause: &Sequent,
-        step: u64,
+        notes: &[Note],
+        number: usize,
         is_second: bool,
         unifier: &Subst,
     ) -> Result<u64, AllocError> {
-        let map = renamed_unifier(alloc, clause, is_second, unifier)?;
+        let (Some(Some(step)), Some(note)) = (self.known.get(number), notes.get(number)) else {
+            return Err(AllocError);
+        };
+        let step = *step;
+        let map = renamed_unifier(alloc, &note.clause, is_second, unifier)?;
         self.push_image(step, map)
     }
 
-    // The steps of a resolvent.
-    fn resolve(
+    // The resolvent of two clauses that were noted.
+    fn resolved(
         &mut self,
         alloc: Global,
-        inputs: &[Numbered],
-        notes: &Notes,
-        needed: &Needed,
-    ) -> Result<(), AllocError> {
-        let Some(note) = notes.made().get(needed.number) else {
-            return Err(AllocError);
-        };
-        let Some(first) = notes.kept(note.round, note.positive) else {
-            return Err(AllocError);
-        };
-        let Some(second) = notes.kept(note.round, note.negative) else {
-            return Err(AllocError);
-        };
-        let positive = self.step_of(alloc, inputs, needed.positive)?;
-        let negative = self.step_of(alloc, inputs, needed.negative)?;
-        let positive = self.unified(alloc, first, positive, false, &note.unifier)?;
-        let negative = self.unified(alloc, second, negative, true, &note.unifier)?;
-        let atom = note.atom.copy()?;
-        let whole = self.push(ResStep::Resolve {
+        notes: &[Note],
+        positive: usize,
+        negative: usize,
+        unifier: &Subst,
+        atom: &Formula,
+    ) -> Result<u64, AllocError> {
+        let positive = self.unified(alloc, notes, positive, false, unifier)?;
+        let negative = self.unified(alloc, notes, negative, true, unifier)?;
+        let atom = atom.copy()?;
+        self.push(ResStep::Resolve {
             positive,
             negative,
             atom,
-        })?;
+        })
+    }
+
+    // The steps of a clause that was noted.
+    fn derive(&mut self, alloc: Global, notes: &[Note], number: usize) -> Result<(), AllocError> {
+        let Some(note) = notes.get(number) else {
+            return Err(AllocError);
+        };
+        let whole = match &note.source {
+            Source::Input(number) => self.push(ResStep::Input(*number as u64))?,
+            Source::Resolvent {
+                positive,
+                negative,
+                unifier,
+                atom,
+            } => self.resolved(alloc, notes, *positive, *negative, unifier, atom)?,
+        };
         let step = self.push_image(whole, note.numbering.copy(alloc)?)?;
-        if let Some(known) = self.resolvents.get_mut(needed.number) {
+        if let Some(known) = self.known.get_mut(number) {
             *known = Some(step);
         }
         Ok(())
     }
 }
 
-/// The steps that lead to the empty clause, which is one of the clauses or of the resolvents that were noted.
-pub(crate) fn plan_of(
-    alloc: Global,
-    clauses: &[Sequent],
-    notes: &Notes,
-) -> Result<Vec<ResStep>, AllocError> {
-    let inputs = numbered_all(alloc, clauses)?;
-    let mut plan = Plan::new(alloc, inputs.len(), notes.made().len())?;
-    match origin_of(&inputs, notes.made(), &Sequent::empty(alloc))? {
-        Origin::Input(number) => {
-            plan.push(ResStep::Input(number as u64))?;
-        }
-        Origin::Resolvent(last) => {
-            for resolvent in needed_resolvents(alloc, &inputs, notes, last)?.iter().rev() {
-                plan.resolve(alloc, &inputs, notes, resolvent)?;
-            }
+/// The steps that lead to the empty clause, which is one of those that were noted.
+pub(crate) fn plan_of(alloc: Global, notes: &Notes) -> Result<Vec<ResStep>, AllocError> {
+    let notes = notes.all();
+    let none = Sequent::empty(alloc);
+    let Some(last) = notes.iter().position(|note| note.clause == none) else {
+        return Err(AllocError);
+    };
+    let is_needed = needed(alloc, notes, last)?;
+    let mut plan = Plan::new(alloc, notes.len())?;
+    for number in 0..notes.len() {
+        if let Some(true) = is_needed.get(number) {
+            plan.derive(alloc, notes, number)?;
         }
     }
     Ok(plan.into_steps())

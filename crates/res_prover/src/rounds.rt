@@ -1,20 +1,20 @@
 //! Rounds of resolution.
-ghost use Rattle.std.specs.Prelude.{◌≡◌, [], map, true, false, Contains, IfOk, Err};
+ghost use Rattle.std.specs.Prelude.{◌≡◌, true, false, Contains, IfOk, Err};
 ghost use Rattle.std.specs.List.{All};
 ghost use Rattle.lk_rules.specs.Sequents.{empty};
 ghost use Rattle.clause_laws.specs.Subsumption.{IsClause};
-ghost use Rattle.clause_laws.specs.Normal.{normal as normal_of};
-ghost use Rattle.clause_laws.specs.Keeping.{with_each};
 ghost use Rattle.clause_laws.specs.Rounds.{IsClosed, Level};
 ghost use Rattle.res_prover.specs.declared.rounds.ProveFault.TheVariants.{Rounds};
-ghost use Rattle.res_prover.specs.Reached.{IsReached};
-ghost use Rattle.res_prover.specs.Outcomes.{IsLook, IsOutcome};
+ghost use Rattle.res_prover.specs.Kept.{kept_clauses};
+ghost use Rattle.res_prover.specs.Reached.{IsReady, IsRoundOf};
+ghost use Rattle.res_prover.specs.Outcomes.{IsOutcome};
 
-use crate::keeping::{covers_all, with_all};
-use crate::normal::normal;
+use crate::kept::{Kept, all_as_old, clauses_alone};
 use crate::notes::Notes;
-use crate::pairing::all_resolvents;
-use crate::renaming::renamed_all;
+use crate::pairing::add_all;
+use crate::partners::prepare_all;
+use crate::starting::start;
+use crate::work::{Stage, Work};
 use lk_rules::Sequent;
 use std::alloc::{AllocError, Global};
 
@@ -37,17 +37,6 @@ impl From<AllocError> for ProveFault {
     }
 }
 
-/// What is known of kept clauses.
-#[derive(Drop)]
-pub(crate) enum Look {
-    /// The empty clause is one of them.
-    Empty,
-    /// A further round brings nothing.
-    Closed,
-    /// A further round brings these resolvents.
-    Open(Vec<Sequent>),
-}
-
 /// What rounds have come to.
 #[derive(Drop)]
 pub(crate) enum Outcome {
@@ -58,56 +47,33 @@ pub(crate) enum Outcome {
 }
 
 // Whether the empty clause is there.
-fn has_empty(alloc: Global, kept: &[Sequent]) -> bool
-    ensures yes { result ≡ true → Contains kept.now empty }
-    ensures no { result ≡ false → ¬ Contains kept.now empty }
+fn has_empty(alloc: Global, kept: &[Kept]) -> bool
+    ensures yes { result ≡ true → Contains (kept_clauses kept.now) empty }
+    ensures no { result ≡ false → ¬ Contains (kept_clauses kept.now) empty }
 {
     let none = Sequent::empty(alloc);
     for place in 0..kept.len() {
-        if kept[place] == none {
+        if *kept[place].clause.clause() == none {
             return true;
         }
     }
     false
 }
 
-// Looks at kept clauses, and makes their resolvents.
-fn examine(alloc: Global, kept: &[Sequent], notes: &mut Notes) -> Result<Look, AllocError>
-    requires { All IsClause kept.now }
-    ensures { IfOk result (IsLook kept.now) }
+// One round more. If it stops, it is over with the first resolvent that is not covered.
+fn round(alloc: Global, kept: &[Kept], stops: bool, notes: &mut Notes) -> Result<Work, AllocError>
+    requires { IsReady kept.now }
+    ensures { IfOk result (IsRoundOf kept.now stops) }
 {
-    if has_empty(alloc, kept) {
-        return Ok(Look::Empty);
-    }
-    notes.begin_round(alloc, kept)?;
-    let firsts = renamed_all(alloc, kept, false)?;
-    let seconds = renamed_all(alloc, kept, true)?;
-    let found = all_resolvents(alloc, firsts.as_slice(), seconds.as_slice(), notes)?;
-    if covers_all(alloc, kept, found.as_slice())? {
-        return Ok(Look::Closed);
-    }
-    Ok(Look::Open(found))
-}
-
-// The clauses with numbered variables.
-fn normals(alloc: Global, clauses: &[Sequent]) -> Result<Vec<Sequent>, AllocError>
-    ensures { IfOk result (λ v. v.items ≡ map normal_of clauses.now) }
-{
-    let mut images = Vec::with_capacity(alloc, clauses.len())?;
-    for place in 0..clauses.len() {
-        let (image, _) = normal(alloc, &clauses[place])?;
-        images.push(image)?;
-    }
-    Ok(images)
-}
-
-// What is kept of the clauses before the first round.
-fn start(alloc: Global, clauses: &[Sequent]) -> Result<Vec<Sequent>, AllocError>
-    ensures { IfOk result (λ v. v.items ≡ with_each [] (map normal_of clauses.now)) }
-{
-    let images = normals(alloc, clauses)?;
-    let kept = with_all(alloc, Vec::new(alloc), images.as_slice())?;
-    Ok(kept)
+    let old = all_as_old(alloc, kept)?;
+    let work = Work {
+        kept: old,
+        stops,
+        stage: Stage::Covered,
+    };
+    let partners = prepare_all(alloc, kept)?;
+    let added = add_all(alloc, partners.as_slice(), work, notes)?;
+    Ok(added)
 }
 
 /// Makes at most this many rounds of resolution, in which clauses that are covered are dropped, until the empty clause is met or a further round
@@ -122,17 +88,31 @@ pub(crate) fn search(
     ensures outcome { IfOk result (IsOutcome clauses.now rounds) }
     ensures rounds { result ≡ Err Rounds → (¬ Level clauses.now rounds empty) × (¬ IsClosed (Level clauses.now rounds)) }
 {
-    let mut kept = start(alloc, clauses)?;
+    let mut kept = start(alloc, clauses, notes)?;
     for _ in 0..rounds {
-        match examine(alloc, kept.as_slice(), notes)? {
-            Look::Empty => return Ok(Outcome::Empty),
-            Look::Closed => return Ok(Outcome::Saturated(kept)),
-            Look::Open(found) => kept = with_all(alloc, kept, found.as_slice())?,
+        if has_empty(alloc, kept.as_slice()) {
+            return Ok(Outcome::Empty);
+        }
+        let work = round(alloc, kept.as_slice(), false, notes)?;
+        match work.stage {
+            Stage::Covered => {
+                let ended = clauses_alone(alloc, kept.as_slice())?;
+                return Ok(Outcome::Saturated(ended));
+            }
+            Stage::Empty => return Ok(Outcome::Empty),
+            Stage::Open => kept = work.kept,
         }
     }
-    match examine(alloc, kept.as_slice(), notes)? {
-        Look::Empty => Ok(Outcome::Empty),
-        Look::Closed => Ok(Outcome::Saturated(kept)),
-        Look::Open(_) => Err(ProveFault::Rounds),
+    if has_empty(alloc, kept.as_slice()) {
+        return Ok(Outcome::Empty);
+    }
+    let work = round(alloc, kept.as_slice(), true, notes)?;
+    match work.stage {
+        Stage::Covered => {
+            let ended = clauses_alone(alloc, kept.as_slice())?;
+            Ok(Outcome::Saturated(ended))
+        }
+        Stage::Open => Err(ProveFault::Rounds),
+        Stage::Empty => Err(ProveFault::Rounds),
     }
 }

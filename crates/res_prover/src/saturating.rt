@@ -42,11 +42,11 @@ fn literals(alloc: Global, sequents: &[Sequent]) -> Result<Vec<Lits>, AllocError
     Ok(all)
 }
 
-/// Makes rounds of resolution, at most so many: in each, all clauses that are kept are taken against each other, with factors, and tautologies and
-/// clauses that another one subsumes are dropped. It ends with a refutation, which has only the steps that the empty clause needs, or with
-/// clauses that a further round brings nothing to (Robinson 1965; Leitsch, The Resolution Calculus, 1997). The steps are looked at once more,
-/// and refused as want of memory if they are no refutation. A round takes all pairs and holds all their resolvents; no bound on its time is
-/// claimed.
+/// Makes rounds of resolution, at most so many: in each, the clauses that the round before added are taken against all that are kept, with factors,
+/// and tautologies and clauses that another one subsumes are dropped. It ends with a refutation, which has only the steps that the empty clause
+/// needs, or with clauses that a further round brings nothing to (Robinson 1965; Leitsch, The Resolution Calculus, 1997). The steps are looked at
+/// once more, and refused as want of memory if they are no refutation. A resolvent is tested as soon as it is made, so no more is held than is
+/// kept; no bound on time is claimed.
 pub fn saturate(alloc: Global, clauses: &[Lits], rounds: u64) -> Result<Found, ProveFault>
     requires { All IsClause (clauses_of clauses.now) }
     ensures found { IfOk result (IsFound (clauses_of clauses.now) rounds) }
@@ -56,7 +56,7 @@ pub fn saturate(alloc: Global, clauses: &[Lits], rounds: u64) -> Result<Found, P
     let mut notes = Notes::new(alloc);
     match search(alloc, sequents.as_slice(), rounds, &mut notes) {
         Ok(Outcome::Empty) => {
-            let plan = plan_of(alloc, sequents.as_slice(), &notes)?;
+            let plan = plan_of(alloc, &notes)?;
             let steps = refutation(alloc, sequents.as_slice(), plan.as_slice())?;
             Ok(Found::Refutation(steps))
         }

@@ -1,126 +1,119 @@
 //! Whether a clause subsumes another one.
-ghost use Rattle.std.specs.Prelude.{◌≡◌, ◌++◌, [], true, false, IfOk, refl};
+ghost use Rattle.std.specs.Prelude.{◌≡◌, true, false, Ok, IfOk};
 ghost use Rattle.std.specs.List.{list_any};
-ghost use Rattle.finite.specs.Finite as set;
-ghost use Rattle.fol_unify.specs.Matches.{map_if};
-ghost use Rattle.clause_laws.specs.Searching.{match_atom as match_of, sends_each, goes_on, subsumes as does_subsume, is_tautology as is_valid};
+ghost use Rattle.std.specs.Ordering.{eq_by_cmp};
+ghost use Rattle.fol.specs.Order.{formula_cmp};
+ghost use Rattle.clause_laws.specs.Subsumption.{IsClause};
+ghost use Rattle.clause_laws.specs.Searching.{match_atom as match_of, goes_on, subsumes as does_subsume, is_tautology as is_valid};
+ghost use Rattle.res_prover.specs.Bindings.{map_of, IsFront};
+ghost use Rattle.res_prover.specs.Sending.{sends_literals};
 
-use fol::{Formula, FormulaNode};
-use fol_unify::match_terms;
+use crate::bindings::{Binding, match_atom};
+use crate::literals::{Literal, ordered_literals};
+use crate::marked::MarkedClause;
+use crate::marks::MarkedAtom;
+use fol::Formula;
 use lk_rules::Sequent;
 use std::alloc::{AllocError, Global};
-use substitution::Subst;
 
-// Whether the map has terms for further variables of the atom, under which it becomes the other one.
-fn match_atom(map: &mut Subst, atom: &Formula, other: &Formula) -> Result<bool, AllocError>
-    ensures { IfOk result (λ found. map_if found map.new ≡ match_of atom.now other.now map.old) }
-{
-    let FormulaNode::Atom(predicate, terms) = atom.node() else {
-        return Ok(false);
-    };
-    let FormulaNode::Atom(same, others) = other.node() else {
-        return Ok(false);
-    };
-    if predicate != same {
-        return Ok(false);
-    }
-    match_terms(map, terms, others)
-}
-
-// Whether a map that does what this one does sends each atom to one of the others.
+// Whether a map that has these bindings sends each literal to an atom on its side of the other clause. Where none does, the bindings stay.
 #[cycle(sends)]
-fn sends_all(
-    alloc: Global,
-    atoms: &[Formula],
-    others: &[Formula],
-    map: &Subst,
+fn sends_all<'a>(
+    literals: &[Literal<'a>],
+    other: &'a MarkedClause,
+    bindings: &mut Vec<Binding<'a>>,
 ) -> Result<bool, AllocError>
-    ensures { IfOk result (λ sent. sent ≡ sends_each atoms.now others.now (λ m. true) map.now) }
+    ensures sent { IfOk result (λ sent. sent ≡ sends_literals literals.now other.now (map_of bindings.old.items)) }
+    ensures back { result ≡ Ok false → bindings.new.items ≡ bindings.old.items }
 {
-    let [first, rest @ ..] = atoms else {
+    let [first, rest @ ..] = literals else {
         return Ok(true);
     };
+    let others = other.side(first.is_left);
     for place in 0..others.len() {
-        if sends_first(alloc, first, &others[place], rest, others, map)? {
+        if sends_first(first, &others[place], rest, other, bindings)? {
             return Ok(true);
         }
     }
     Ok(false)
 }
 
-// Whether such a map sends one atom to another, and each further one to some.
+// Whether such a map sends one literal to an atom, and each further one to some.
 #[cycle(sends)]
-fn sends_first(
-    alloc: Global,
-    atom: &Formula,
-    other: &Formula,
-    rest: &[Formula],
-    others: &[Formula],
-    map: &Subst,
+fn sends_first<'a>(
+    first: &Literal<'a>,
+    target: &'a MarkedAtom,
+    rest: &[Literal<'a>],
+    other: &'a MarkedClause,
+    bindings: &mut Vec<Binding<'a>>,
 ) -> Result<bool, AllocError>
-    ensures { IfOk result (λ sent. sent ≡ goes_on (sends_each rest.now others.now (λ m. true)) (match_of atom.now other.now map.now)) }
+    ensures sent { IfOk result (λ sent. sent ≡ goes_on (sends_literals rest.now other.now) (match_of first.now.atom.now target.now (map_of bindings.old.items))) }
+    ensures back { result ≡ Ok false → bindings.new.items ≡ bindings.old.items }
 {
-    let mut further = map.copy(alloc)?;
-    if !match_atom(&mut further, atom, other)? {
+    if !first.atom.is_within(target) {
         return Ok(false);
     }
-    sends_all(alloc, rest, others, &further)
-}
-
-// Whether such a map sends each atom on the left of a clause to one on the left of the other, and then each one on the right.
-#[cycle(sends_both)]
-fn sends_left(
-    alloc: Global,
-    atoms: &[Formula],
-    clause: &Sequent,
-    other: &Sequent,
-    map: &Subst,
-) -> Result<bool, AllocError>
-    ensures { IfOk result (λ sent. sent ≡ sends_each atoms.now (set.listing other.now.left) (sends_each (set.listing clause.now.right) (set.listing other.now.right) (λ m. true)) map.now) }
-{
-    let [first, rest @ ..] = atoms else {
-        return sends_all(alloc, clause.right(), other.right(), map);
-    };
-    let others = other.left();
-    for place in 0..others.len() {
-        if sends_left_first(alloc, first, &others[place], rest, clause, other, map)? {
-            return Ok(true);
-        }
+    let count = bindings.len();
+    if goes_further(first.atom.atom(), target.atom(), rest, other, bindings)? {
+        return Ok(true);
     }
+    bindings.truncate(count);
     Ok(false)
 }
 
-#[cycle(sends_both)]
-fn sends_left_first(
-    alloc: Global,
-    atom: &Formula,
-    target: &Formula,
-    rest: &[Formula],
-    clause: &Sequent,
-    other: &Sequent,
-    map: &Subst,
+// The same for an atom and its target. Where there is no such map, further bindings may be left.
+#[cycle(sends)]
+fn goes_further<'a>(
+    atom: &'a Formula,
+    target: &'a Formula,
+    rest: &[Literal<'a>],
+    other: &'a MarkedClause,
+    bindings: &mut Vec<Binding<'a>>,
 ) -> Result<bool, AllocError>
-    ensures { IfOk result (λ sent. sent ≡ goes_on (sends_each rest.now (set.listing other.now.left) (sends_each (set.listing clause.now.right) (set.listing other.now.right) (λ m. true))) (match_of atom.now target.now map.now)) }
+    ensures sent { IfOk result (λ sent. sent ≡ goes_on (sends_literals rest.now other.now) (match_of atom.now target.now (map_of bindings.old.items))) }
+    ensures front { result ≡ Ok false → IsFront bindings.old.items bindings.new.items }
 {
-    let mut further = map.copy(alloc)?;
-    if !match_atom(&mut further, atom, target)? {
+    if !match_atom(bindings, atom, target)? {
         return Ok(false);
     }
-    sends_left(alloc, rest, clause, other, &further)
+    let sent = sends_all(rest, other, bindings)?;
+    Ok(sent)
 }
 
 /// Whether the first clause subsumes the second: a search for the map that sends each atom of the first to one of the second.
-#[tactic(auto, unfolding(clause_laws::specs::Searching::subsumes))]
-pub(crate) fn subsumes(alloc: Global, clause: &Sequent, other: &Sequent) -> Result<bool, AllocError>
-    ensures { IfOk result (λ found. found ≡ does_subsume clause.now other.now) }
+#[inline(always)]
+pub(crate) fn subsumes(
+    alloc: Global,
+    one: &MarkedClause,
+    other: &MarkedClause,
+) -> Result<bool, AllocError>
+    ensures { IfOk result (λ found. IsClause one.now → found ≡ does_subsume one.now other.now) }
 {
-    let map = Subst::new(alloc);
-    sends_left(alloc, clause.left(), clause, other, &map)
+    if !one.is_within(other) {
+        return Ok(false);
+    }
+    let all = ordered_literals(alloc, one, other)?;
+    let mut bindings = Vec::new(alloc);
+    let sent = sends_all(all.as_slice(), other, &mut bindings)?;
+    Ok(sent)
+}
+
+// Whether the atom is one of these. Unequal atoms mostly have unlike fingerprints, so each costs a look.
+fn is_among(atom: &Formula, others: &[Formula]) -> bool
+    ensures { result ≡ list_any (eq_by_cmp formula_cmp atom.now) others.now }
+{
+    others.iter().any(|other| atom == other)
+}
+
+fn is_some_among(atoms: &[Formula], others: &[Formula]) -> bool
+    ensures { result ≡ list_any (λ f. list_any (eq_by_cmp formula_cmp f) others.now) atoms.now }
+{
+    atoms.iter().any(|atom| is_among(atom, others))
 }
 
 /// Whether an atom stands on both sides.
 pub(crate) fn is_tautology(clause: &Sequent) -> bool
     ensures { result ≡ is_valid clause.now }
 {
-    clause.left().iter().any(|atom| clause.right.has(atom))
+    is_some_among(clause.left(), clause.right())
 }

@@ -1,7 +1,9 @@
 //! Most general unifiers of atoms.
 ghost use Rattle.std.specs.Prelude.{◌≡◌, ◌∷◌, true, Option, None, Ok, IfOk, IfSome, map};
 ghost use Rattle.std.specs.List.{All, list_all};
+ghost use Rattle.std.specs.Ordering.{eq_by_cmp};
 ghost use Rattle.fol.specs.declared.symbols.Var.{Var as Variable};
+ghost use Rattle.fol.specs.Order.{formula_cmp};
 ghost use Rattle.fol.specs.Syntax.{Term as Meaning, Formula as Atom};
 ghost use Rattle.clause_laws.specs.Unifiers.{set_of, MakesAll, term_of, same_predicate as are_of_one, equations as equations_of};
 ghost use Rattle.res_prover.specs.Resolved.{IsAtomFormed, IsUnifierFor};
@@ -50,6 +52,13 @@ fn all_same(first: &Formula, others: &[Formula]) -> bool
     others.iter().all(|other| same_predicate(first, other))
 }
 
+// Whether all atoms are equal.
+fn all_equal(first: &Formula, others: &[Formula]) -> bool
+    ensures { result ≡ list_all (eq_by_cmp formula_cmp first.now) others.now }
+{
+    others.iter().all(|other| first == other)
+}
+
 // The equations between the first atom and each other one.
 fn equations(
     alloc: Global,
@@ -78,6 +87,10 @@ pub(crate) fn unifier(
     ensures none { result ≡ Ok None → (h : Variable → Option Meaning) (b : Atom) → MakesAll h (set_of (first.now ∷ others.now)) b → ⊥ }
 {
     laws::unifiers_of_atoms();
+    if all_equal(first, others) {
+        let unchanged = Subst::new(alloc);
+        return Ok(Some(unchanged));
+    }
     if !all_same(first, others) {
         return Ok(None);
     }

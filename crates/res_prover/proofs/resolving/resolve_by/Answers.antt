@@ -20,11 +20,14 @@ unifier-requires c =
     let whole = ap (λ gs. f ∷ gs) (c.as_slice.ensures.value ∙ c.in_ok-others.ensures) ∙ ap (λ fs. fs ++ c.args.lefts.now) (front_rest c.args.rights.now f c.in-len1-up.len_at_least c.first-item.is) in
     subst (All IsAtomFormed) (sym whole) c.requires.atoms
 
+pub returns-then-first_clash-clause-none : goal.returns-then-first_clash-clause-none
+returns-then-first_clash-clause-none c _ = c.first_clash.ensures c.if-first_clash.true
+
 pub returns-in_default-2-clause-none : goal.returns-in_default-2-clause-none
-returns-in_default-2-clause-none c _ h b each =
+returns-in_default-2-clause-none c _ u =
     let f = c.first-item.result in
     let whole = ap (λ gs. f ∷ gs) (c.as_slice.ensures.value ∙ c.in_ok-others.ensures) ∙ ap (λ fs. fs ++ c.args.lefts.now) (front_rest c.args.rights.now f c.in-len1-up.len_at_least c.first-item.is) in
-    c.in_ok-map.ensures.none (ap Ok c.in_default-2.is) h b (subst (λ fs. MakesAll h (set_of fs) b) (sym whole) each)
+    c.in_ok-map.ensures.none (ap Ok c.in_default-2.is) u.map u.atom (subst (λ fs. MakesAll u.map (set_of fs) u.atom) (sym whole) u.unifies)
 
 pub returns-clause-by : goal.returns-clause-by
 returns-clause-by c =

@@ -5,9 +5,16 @@ use Rattle.std.specs.FinMap as fin
 use Rattle.std.proofs.lemmas.List.Elements.{All-head}
 use Rattle.substitution.specs.Image.{image}
 use Rattle.unify_laws.specs.Equations.{AreFormed, Unifies}
-use Rattle.res_prover.specs.Resolved.{IsAtomFormed}
+use Rattle.res_prover.specs.Resolved.{IsAtomFormed, IsUnifierFor}
+use Rattle.res_prover.proofs.Alike.{unified_alike}
 use Rattle.res_prover.proofs.UnifiedAtoms.{solves, makes, not_of_one, formed_equations}
 use Rattle.res_prover.proofs.unifiers.unifier.Goals as goal
+
+pub returns-then-all_equal-clause-some : goal.returns-then-all_equal-clause-some
+returns-then-all_equal-clause-some c =
+    let f = c.args.first.now in
+    let gs = c.args.others.now in
+    subst (IsUnifierFor f gs) (sym c.new-unchanged.ensures) (unified_alike f gs (sym c.all_equal.ensures ∙ c.if-all_equal.true))
 
 pub returns-then-not-all_same-clause-none : goal.returns-then-not-all_same-clause-none
 returns-then-not-all_same-clause-none c _ h b all =
