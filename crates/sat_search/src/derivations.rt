@@ -1,7 +1,6 @@
 //! How the clauses of a search were derived.
 
 use crate::literal::Literal;
-use crate::tables::{at, put};
 use std::alloc::{AllocError, Global};
 
 /// Resolution with a clause: the literal goes from the clause so far, and its negation from this one.
@@ -49,6 +48,11 @@ impl Derivations {
         Ok(())
     }
 
+    /// How many derivations there are.
+    pub fn len(&self) -> usize {
+        self.chains.len()
+    }
+
     /// A derivation: its first clause and its links.
     pub fn get(&self, number: usize) -> Option<(u32, &[Link])> {
         if number >= self.chains.len() {
@@ -62,28 +66,5 @@ impl Derivations {
         let chain = self.chains[number];
         let links = self.links.get(start..chain.end)?;
         Some((chain.first, links))
-    }
-
-    /// Which clauses the last derivation needs, where there are so many input clauses: one entry for each clause.
-    pub fn needed(&self, alloc: Global, inputs: usize) -> Result<Vec<bool>, AllocError> {
-        let count = inputs.saturating_add(self.chains.len());
-        let mut needed = vec![in alloc; false; count]?;
-        put(&mut needed, count.saturating_sub(1), true);
-        for number in (0..self.chains.len()).rev() {
-            if at(&needed, inputs.saturating_add(number), false) {
-                self.mark(number, &mut needed);
-            }
-        }
-        Ok(needed)
-    }
-
-    // Marks the clauses that a derivation names.
-    fn mark(&self, number: usize, needed: &mut [bool]) {
-        if let Some((first, links)) = self.get(number) {
-            put(needed, first as usize, true);
-            for link in links {
-                put(needed, link.clause as usize, true);
-            }
-        }
     }
 }

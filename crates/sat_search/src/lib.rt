@@ -3,14 +3,18 @@
 
 mod analysis;
 mod answer;
+mod clause_index;
 mod clauses;
 mod derivations;
 mod ground;
 mod literal;
+mod literal_set;
 mod models;
 mod numbering;
 mod order;
+mod recycling;
 mod refuting;
+mod resolutions;
 mod solver;
 mod solving;
 mod tables;

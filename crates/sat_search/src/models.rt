@@ -8,6 +8,7 @@ ghost use Rattle.ground_laws.specs.Models.{satisfies, IsModel};
 ghost use Rattle.sat_search.specs.Grounds.{clause_of, clauses_of};
 
 use crate::ground::Ground;
+use crate::literal::Literal;
 use crate::numbering::Numbering;
 use crate::solver::Solver;
 use fol::Formula;
@@ -32,7 +33,7 @@ fn has_one(atoms: &Formulas, formulas: &Formulas) -> bool
 fn holds(atoms: &Formulas, clause: &Ground) -> bool
     ensures { result ≡ satisfies atoms.now (clause_of clause.now) }
 {
-    lacks_one(atoms, &clause.negative) || has_one(atoms, &clause.positive)
+    has_one(atoms, &clause.positive) || lacks_one(atoms, &clause.negative)
 }
 
 // Whether all clauses do.
@@ -42,20 +43,24 @@ fn all_hold(atoms: &Formulas, clauses: &[Ground]) -> bool
     clauses.iter().all(|clause| holds(atoms, clause))
 }
 
-// Appends the positive atoms of a clause that a search made true.
+// Appends the positive atoms of a clause, with these literals, that a search made true.
 fn push_true(
     atoms: &mut Vec<Formula>,
-    numbering: &Numbering,
+    literals: &[Literal],
     solver: &Solver,
     clause: &Ground,
 ) -> Result<(), AllocError>
     ensures formed { All IsFormed atoms.old.items → OnOk result (All IsFormed atoms.new.items) }
     ensures own { (p : Atom → Bool) → list_all p (set.listing clause.now.positive) ≡ true → list_all p atoms.old.items ≡ true → OnOk result (list_all p atoms.new.items ≡ true) }
 {
+    let mut place = clause.negative.as_slice().len();
     for atom in clause.positive.as_slice() {
-        if solver.is_true(numbering.literal(atom, false)) {
+        if let Some(literal) = literals.get(place)
+            && solver.is_true(*literal)
+        {
             atoms.push(atom.copy()?)?;
         }
+        place = place.saturating_add(1);
     }
     Ok(())
 }
@@ -70,8 +75,10 @@ pub(crate) fn model(
     ensures { IfOk result (λ model. IsModel model (clauses_of clauses.now)) }
 {
     let mut atoms = Vec::new(alloc);
+    let mut number: usize = 0;
     for clause in clauses {
-        push_true(&mut atoms, numbering, solver, clause)?;
+        push_true(&mut atoms, numbering.literals(number), solver, clause)?;
+        number = number.saturating_add(1);
     }
     let atoms = Formulas::from_vec(alloc, atoms)?;
     if !all_hold(&atoms, clauses) {

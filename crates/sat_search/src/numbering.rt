@@ -2,39 +2,113 @@
 
 use crate::ground::Ground;
 use crate::literal::Literal;
+use crate::tables::put;
 use fol::Formula;
-use free_variables::rising::{push_shared, sort_distinct};
 use lk_rules::Formulas;
 use std::alloc::{AllocError, Global};
 
 /// So many atoms are refused as want of memory.
 const TOO_MANY: usize = 1 << 31;
 
-/// The atoms of clauses in rising order. The number of an atom is its place.
+/// A literal where it stands, by the number of that place.
+struct Occurrence {
+    atom: Formula,
+    is_negative: bool,
+    place: usize,
+}
+
+impl Drop for Occurrence {
+    fn drop(self) {
+        let Occurrence {
+            atom,
+            is_negative: _,
+            place: _,
+        } = self;
+        drop(atom);
+    }
+}
+
+// Appends the occurrences of atoms or their negations.
+fn push_occurrences(
+    occurrences: &mut Vec<Occurrence>,
+    atoms: &Formulas,
+    is_negative: bool,
+) -> Result<(), AllocError> {
+    for atom in atoms.as_slice() {
+        let place = occurrences.len();
+        occurrences.push(Occurrence {
+            atom: atom.copy()?,
+            is_negative,
+            place,
+        })?;
+    }
+    Ok(())
+}
+
+/// The atoms of clauses in rising order, and the clauses by number. The number of an atom is its place.
 pub(crate) struct Numbering {
     atoms: Vec<Formula>,
+    // The literals of all clauses, and where those of each clause end.
+    literals: Vec<Literal>,
+    ends: Vec<usize>,
 }
 
 impl Drop for Numbering {
     fn drop(self) {
-        let Numbering { atoms } = self;
+        let Numbering {
+            atoms,
+            literals,
+            ends,
+        } = self;
         drop(atoms);
+        drop(literals);
+        drop(ends);
     }
 }
 
 impl Numbering {
-    /// The numbering of the atoms of these clauses.
+    /// The numbering of the atoms of these clauses, in O(n log n) comparisons.
     pub fn new(alloc: Global, clauses: &[Ground]) -> Result<Numbering, AllocError> {
-        let mut atoms = Vec::new(alloc);
+        let mut occurrences = Vec::new(alloc);
+        let mut ends = Vec::with_capacity(alloc, clauses.len())?;
         for clause in clauses {
-            push_shared(&mut atoms, clause.negative.as_slice())?;
-            push_shared(&mut atoms, clause.positive.as_slice())?;
+            push_occurrences(&mut occurrences, &clause.negative, true)?;
+            push_occurrences(&mut occurrences, &clause.positive, false)?;
+            ends.push(occurrences.len())?;
         }
-        sort_distinct(&mut atoms);
-        if atoms.len() >= TOO_MANY {
+        occurrences.sort_unstable_by(|one, other| one.atom.cmp(&other.atom));
+        let mut numbering = Numbering {
+            atoms: Vec::new(alloc),
+            literals: vec![in alloc; Literal::new(0, false); occurrences.len()]?,
+            ends,
+        };
+        for occurrence in &occurrences {
+            numbering.note(occurrence)?;
+        }
+        Ok(numbering)
+    }
+
+    // Notes an occurrence, whose atom is the last one so far or the next.
+    fn note(&mut self, occurrence: &Occurrence) -> Result<(), AllocError> {
+        if !self.ends_with(&occurrence.atom) {
+            self.atoms.push(occurrence.atom.copy()?)?;
+        }
+        if self.atoms.len() >= TOO_MANY {
             return Err(AllocError);
         }
-        Ok(Numbering { atoms })
+        let Ok(number) = u32::try_from(self.atoms.len().saturating_sub(1)) else {
+            return Err(AllocError);
+        };
+        let literal = Literal::new(number, occurrence.is_negative);
+        put(&mut self.literals, occurrence.place, literal);
+        Ok(())
+    }
+
+    fn ends_with(&self, atom: &Formula) -> bool {
+        match self.atoms.last() {
+            Some(last) => last == atom,
+            None => false,
+        }
     }
 
     /// How many atoms there are.
@@ -47,24 +121,19 @@ impl Numbering {
         self.atoms.get(number)
     }
 
-    /// An atom or its negation by number.
-    pub fn literal(&self, atom: &Formula, is_negative: bool) -> Literal {
-        let number = match self.atoms.binary_search(atom) {
-            Ok(number) | Err(number) => number,
-        };
-        Literal::new(u32::try_from(number).unwrap_or(u32::MAX), is_negative)
-    }
-
-    /// Appends atoms or their negations by number.
-    pub fn push_literals(
-        &self,
-        literals: &mut Vec<Literal>,
-        atoms: &Formulas,
-        is_negative: bool,
-    ) -> Result<(), AllocError> {
-        for atom in atoms.as_slice() {
-            literals.push(self.literal(atom, is_negative))?;
+    /// The literals of a clause: the negative ones and then the positive ones, in the order of its atoms.
+    pub fn literals(&self, clause: usize) -> &[Literal] {
+        if clause >= self.ends.len() {
+            return &[];
         }
-        Ok(())
+        let start = if clause == 0 {
+            0
+        } else {
+            self.ends[clause - 1]
+        };
+        match self.literals.get(start..self.ends[clause]) {
+            Some(literals) => literals,
+            None => &[],
+        }
     }
 }

@@ -10,7 +10,7 @@ const LARGE: u64 = 1 << 60;
 const SHIFT: u32 = 40;
 
 /// A heap of atoms with the highest score on top. Atoms that stand in recent conflicts have high scores: what each conflict adds is a
-/// twentieth more than what the one before added.
+/// fiftieth more than what the one before added.
 #[derive(Drop)]
 pub(crate) struct Order {
     scores: Vec<u64>,
@@ -138,6 +138,6 @@ impl Order {
 
     /// Later conflicts add more.
     pub fn age(&mut self) {
-        self.gain = self.gain.saturating_add(self.gain / 20);
+        self.gain = self.gain.saturating_add(self.gain / 50);
     }
 }

@@ -1,4 +1,4 @@
-//! Refutations of clauses. The derivations of a search are a plan: each step that the last one needs is made once more, with the clauses
+//! Refutations of clauses. The resolutions of a search are a plan: each one that the empty clause needs is made once more, with the clauses
 //! themselves, and looked at.
 ghost use Rattle.std.specs.Prelude.{◌≡◌, ◌<◌, List, length, Ok, IfOk, OnOk};
 ghost use Rattle.lk_rules.specs.declared.sequent.Sequent.{Sequent as Disjunction};
@@ -8,9 +8,9 @@ ghost use Rattle.sat_search.specs.Grounds.{clauses_of};
 ghost use Rattle.sat_search.specs.Derived.{conclusions, IsSound, IsDerived, AreDerived, Derives};
 
 use crate::answer::SatSteps;
-use crate::derivations::{Derivations, Link};
 use crate::ground::Ground;
 use crate::numbering::Numbering;
+use crate::resolutions::{Resolution, Resolutions};
 use fol::Formula;
 use ground_laws::SatStep;
 use lk_rules::Sequent;
@@ -89,7 +89,7 @@ fn resolve(
     push(clauses, steps, step, clause)
 }
 
-// The clause that was derived with a number of the search.
+// The clause that was derived with a number of the plan.
 fn earlier(table: &[Option<Derived>], clause: u32) -> Result<&Derived, AllocError>
     ensures { (cs : List Disjunction) (steps : List Inference) → AreDerived cs steps table.now → IfOk result (λ d. IsDerived cs steps d.now) }
 {
@@ -99,45 +99,33 @@ fn earlier(table: &[Option<Derived>], clause: u32) -> Result<&Derived, AllocErro
     }
 }
 
-// The clause of a derivation, from those of smaller numbers.
+// The clause that a resolution derives, from those of smaller numbers.
 fn derive(
     alloc: Global,
     clauses: &[Ground],
     numbering: &Numbering,
     table: &[Option<Derived>],
     steps: &mut Vec<SatStep>,
-    derivation: (u32, &[Link]),
+    resolution: Resolution,
 ) -> Result<Derived, AllocError>
     requires sound { IsSound (clauses_of clauses.now) steps.old.items }
     requires derived { AreDerived (clauses_of clauses.now) steps.old.items table.now }
     ensures { IfOk result (Derives (clauses_of clauses.now) steps.old.items steps.new.items) }
 {
-    let (first, links) = derivation;
-    let first = earlier(table, first)?;
-    let mut current = Derived {
-        step: first.step,
-        clause: first.clause.copy()?,
+    let positive = earlier(table, resolution.positive)?;
+    let negative = earlier(table, resolution.negative)?;
+    let Some(atom) = numbering.atom(resolution.atom) else {
+        return Err(AllocError);
     };
-    for link in links {
-        let other = earlier(table, link.clause)?;
-        let Some(atom) = numbering.atom(link.literal.atom()) else {
-            return Err(AllocError);
-        };
-        current = if link.literal.is_negative() {
-            resolve(alloc, clauses, steps, other, &current, atom)?
-        } else {
-            resolve(alloc, clauses, steps, &current, other, atom)?
-        };
-    }
-    Ok(current)
+    resolve(alloc, clauses, steps, positive, negative, atom)
 }
 
-// The next clause after those of a table, by its number in the search.
+// The next clause after those of a table, by its number in the plan.
 fn next(
     alloc: Global,
     clauses: &[Ground],
     numbering: &Numbering,
-    derivations: &Derivations,
+    resolutions: &Resolutions,
     table: &[Option<Derived>],
     steps: &mut Vec<SatStep>,
 ) -> Result<Derived, AllocError>
@@ -149,8 +137,8 @@ fn next(
     if number < clauses.len() {
         return input(clauses, steps, number);
     }
-    match derivations.get(number - clauses.len()) {
-        Some(derivation) => derive(alloc, clauses, numbering, table, steps, derivation),
+    match resolutions.get(number) {
+        Some(resolution) => derive(alloc, clauses, numbering, table, steps, resolution),
         None => Err(AllocError),
     }
 }
@@ -160,7 +148,7 @@ fn push_next(
     alloc: Global,
     clauses: &[Ground],
     numbering: &Numbering,
-    derivations: &Derivations,
+    resolutions: &Resolutions,
     table: &mut Vec<Option<Derived>>,
     steps: &mut Vec<SatStep>,
     is_needed: bool,
@@ -174,7 +162,7 @@ fn push_next(
         table.push(None)?;
         return Ok(());
     }
-    let next = next(alloc, clauses, numbering, derivations, table, steps)?;
+    let next = next(alloc, clauses, numbering, resolutions, table, steps)?;
     table.push(Some(next))?;
     Ok(())
 }
@@ -206,11 +194,11 @@ pub(crate) fn refutation(
     alloc: Global,
     clauses: &[Ground],
     numbering: &Numbering,
-    derivations: &Derivations,
+    resolutions: &Resolutions,
 ) -> Result<SatSteps, AllocError>
     ensures { IfOk result (IsRefutation (clauses_of clauses.now)) }
 {
-    let needed = derivations.needed(alloc, clauses.len())?;
+    let needed = resolutions.needed(alloc)?;
     let mut steps = Vec::new(alloc);
     let mut table = Vec::new(alloc);
     for is_needed in &needed {
@@ -218,7 +206,7 @@ pub(crate) fn refutation(
             alloc,
             clauses,
             numbering,
-            derivations,
+            resolutions,
             &mut table,
             &mut steps,
             *is_needed,

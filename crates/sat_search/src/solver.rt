@@ -18,10 +18,13 @@ const RESTART: u64 = 64;
 const KEPT: usize = 1000;
 
 /// So many more before each later one.
-const MORE_KEPT: usize = 20;
+const MORE_KEPT: usize = 100;
 
 /// A learned clause whose literals have so few levels is always kept (Audemard, Simon 2009).
 const GLUE: usize = 2;
+
+/// After so many conflicts the values to choose are changed first, and each later time after so many more.
+const REPHASE: u64 = 1000;
 
 /// How a search ended.
 #[derive(Clone, Copy, PartialEq, Eq)]
@@ -58,6 +61,26 @@ impl Luby {
     }
 }
 
+/// When the values to choose are changed: the number of the next time, and how many conflicts there have been since the last.
+#[derive(Clone, Copy)]
+struct Rephasing {
+    turn: u64,
+    conflicts: u64,
+}
+
+impl Rephasing {
+    // Counts a conflict, and says whether it is time.
+    fn is_due(&mut self) -> bool {
+        self.conflicts = self.conflicts.saturating_add(1);
+        let is_due = self.conflicts >= self.turn.saturating_mul(REPHASE);
+        if is_due {
+            self.turn = self.turn.saturating_add(1);
+            self.conflicts = 0;
+        }
+        is_due
+    }
+}
+
 /// A search for a model or for the empty clause.
 #[derive(Drop)]
 pub(crate) struct Solver {
@@ -76,6 +99,7 @@ pub(crate) struct Solver {
     learned: Vec<u32>,
     limit: usize,
     luby: Luby,
+    rephasing: Rephasing,
     conflicts: u64,
     // An input clause that is false from the start.
     fault: Option<u32>,
@@ -97,6 +121,10 @@ impl Solver {
             learned: Vec::new(alloc),
             limit: KEPT,
             luby: Luby { turn: 1, value: 1 },
+            rephasing: Rephasing {
+                turn: 1,
+                conflicts: 0,
+            },
             conflicts: 0,
             fault: None,
         })
@@ -105,6 +133,11 @@ impl Solver {
     /// The derivations so far; the last one is that of the empty clause, where the clauses are refuted.
     pub fn derivations(&self) -> &Derivations {
         &self.derivations
+    }
+
+    /// The clauses: the input clauses first.
+    pub fn clauses(&self) -> &Clauses {
+        &self.clauses
     }
 
     /// Whether a literal is true.
@@ -161,7 +194,11 @@ impl Solver {
                 Ok(Some(Verdict::Refuted))
             }
             Some(conflict) => {
+                self.trail.note_targets();
                 self.learn(conflict)?;
+                if self.rephasing.is_due() {
+                    self.trail.rephase(self.rephasing.turn % 2 == 0);
+                }
                 Ok(None)
             }
             None => self.go_on(),

@@ -12,24 +12,44 @@ use crate::answer::SatAnswer;
 use crate::ground::Ground;
 use crate::models::model;
 use crate::numbering::Numbering;
+use crate::recycling::recycled;
 use crate::refuting::refutation;
+use crate::resolutions::Resolutions;
 use crate::solver::{Solver, Verdict};
 use std::alloc::{AllocError, Global};
 
 // A search with these clauses.
 fn solver(alloc: Global, clauses: &[Ground], numbering: &Numbering) -> Result<Solver, AllocError> {
     let mut solver = Solver::new(alloc, numbering.len())?;
-    for clause in clauses {
+    for (number, clause) in clauses.iter().enumerate() {
         if clause.is_tautology() {
             solver.add_tautology()?;
         } else {
-            let mut literals = Vec::new(alloc);
-            numbering.push_literals(&mut literals, &clause.negative, true)?;
-            numbering.push_literals(&mut literals, &clause.positive, false)?;
-            solver.add(&literals)?;
+            solver.add(numbering.literals(number))?;
         }
     }
     Ok(solver)
+}
+
+// The resolutions that the refutation of a search needs, where there are so many clauses.
+fn shortened(
+    alloc: Global,
+    clauses: usize,
+    numbering: &Numbering,
+    solver: &Solver,
+) -> Result<Resolutions, AllocError> {
+    let derivations = solver.derivations();
+    let kept = recycled(alloc, derivations, clauses, numbering.len())?;
+    let mut resolutions = Resolutions::new(
+        alloc,
+        clauses,
+        numbering.len(),
+        kept.links(),
+        derivations.len(),
+    )?;
+    resolutions.add_inputs(solver.clauses())?;
+    resolutions.replay_all(&kept)?;
+    Ok(resolutions)
 }
 
 /// A model or a refutation of the clauses. The search learns from conflicts: after Davis, Putnam, Logemann and Loveland (1962), Marques-Silva
@@ -45,7 +65,8 @@ pub fn solve(alloc: Global, clauses: &[Ground]) -> Result<SatAnswer, AllocError>
     match solver.run()? {
         Verdict::Satisfied => Ok(SatAnswer::Model(model(alloc, clauses, &numbering, &solver)?)),
         Verdict::Refuted => {
-            let steps = refutation(alloc, clauses, &numbering, solver.derivations())?;
+            let resolutions = shortened(alloc, clauses.len(), &numbering, &solver)?;
+            let steps = refutation(alloc, clauses, &numbering, &resolutions)?;
             Ok(SatAnswer::Refutation(steps))
         }
     }

@@ -34,6 +34,9 @@ pub(crate) struct Trail {
     assignments: Vec<Assignment>,
     // The value that each atom had last.
     phases: Vec<bool>,
+    // The values in the longest trail without a conflict since these were forgotten last, and how long it was.
+    targets: Vec<Option<bool>>,
+    target_size: usize,
     literals: Vec<Literal>,
     levels: Vec<usize>,
     visited: usize,
@@ -46,6 +49,8 @@ impl Trail {
             truths: vec![in alloc; Truth::Unset; atoms.saturating_mul(2)]?,
             assignments: vec![in alloc; NEVER; atoms]?,
             phases: vec![in alloc; false; atoms]?,
+            targets: vec![in alloc; None; atoms]?,
+            target_size: 0,
             literals: Vec::new(alloc),
             levels: Vec::new(alloc),
             visited: 0,
@@ -72,9 +77,38 @@ impl Trail {
         self.assignment(literal).reason
     }
 
-    /// Whether an atom was true when it last had a value.
+    /// The value to choose for an atom: the one in the longest trail without a conflict, or else the one that it had last.
     pub fn phase(&self, atom: usize) -> bool {
-        at(&self.phases, atom, false)
+        match at(&self.targets, atom, None) {
+            Some(target) => target,
+            None => at(&self.phases, atom, false),
+        }
+    }
+
+    /// Notes the values of all levels but the last, in which there is a conflict, where these are more than were noted before.
+    pub fn note_targets(&mut self) {
+        let size = at(&self.levels, self.levels.len().saturating_sub(1), 0);
+        if size > self.target_size {
+            self.target_size = size;
+            for literal in self.literals.iter().take(size) {
+                let target = Some(!literal.is_negative());
+                put(&mut self.targets, literal.atom(), target);
+            }
+        }
+    }
+
+    /// Forgets what was noted, and goes on from those values, or else from the other values of all atoms.
+    pub fn rephase(&mut self, is_noted: bool) {
+        for atom in 0..self.phases.len() {
+            let phase = if is_noted {
+                self.phase(atom)
+            } else {
+                !at(&self.phases, atom, false)
+            };
+            put(&mut self.phases, atom, phase);
+            put(&mut self.targets, atom, None);
+        }
+        self.target_size = 0;
     }
 
     /// How many levels there are besides level 0.
