@@ -15,6 +15,7 @@ pub record IsBranchOf {M : Type 0} (t : Tree) (n : ℕ) (b : Branch M) : Type 0 
   pub budget : b.made ≡ Err Budget → elimination t n ≡ None
   pub counted_ok : IfOk b.made (λ made. b.steps ≤ made.reductions)
   pub counted : b.steps ≤ n
+  pub least : b.steps ≡ 0 → IfOk b.made (λ made. made.reductions ≡ 0)
 
 -- what is reached from l and from r, each within the whole budget n, where the numbers of contractions are at most n together
 pub record AreBoth (a : List Item) (l r : Tree) (n : ℕ) (b : Both) : Type 0 where

@@ -9,6 +9,7 @@ ghost use Rattle.proof_graph.specs.Graphs.{IsOf};
 ghost use Rattle.proof_graph.specs.contracts.graph.Graph as graph_contract;
 ghost use Rattle.proof_subst.specs.Benches.{graph_of, images_in, arena_in};
 
+use crate::begun::Begun;
 use crate::known::{Elimination, Eliminations, Reduced};
 use memo_table::{Memo, MemoPass};
 use proof_graph::ProofRef;
@@ -21,6 +22,7 @@ use std::sync::Wait;
 pub struct Desk {
     bench: Bench,
     eliminations: Memo<Eliminations>,
+    begun: Begun,
     // The table is one of the bench's graph.
     ghost home: { home_of eliminations ≡ graph_of bench } by { Coded-set graph_contract.the_row.coded _ _ },
 }
@@ -59,6 +61,7 @@ impl Desk {
             Desk {
                 bench,
                 eliminations,
+                begun: Begun::new(alloc),
             },
             pass,
         ))
@@ -116,6 +119,7 @@ impl Desk {
         let Desk {
             bench,
             eliminations,
+            begun: _,
         } = self;
         let DeskPass {
             bench: bench_pass,
@@ -132,6 +136,7 @@ impl Desk {
         let Desk {
             bench,
             eliminations,
+            begun: _,
         } = self;
         let DeskPass {
             bench: bench_pass,
@@ -146,6 +151,11 @@ impl Desk {
         ensures { result.now ≡ bench_of self.now }
     {
         &self.bench
+    }
+
+    // The eliminations that workers are at.
+    pub(crate) fn begun(&self) -> &Begun {
+        &self.begun
     }
 
     /// The pass of the bench.

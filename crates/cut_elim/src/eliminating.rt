@@ -51,6 +51,8 @@ fn eliminate_tree<L: Ledger>(
     ensures pass_stays { IsBenchPassOf bench.now pass.new }
     ensures counted_ok { IfOk result (λ made. steps.new ≤ steps.old + made.reductions) }
     ensures counted { steps.new ≤ steps.old + budget }
+    ensures rises { steps.old ≤ steps.new }
+    ensures least { steps.new ≡ steps.old → IfOk result (λ made. made.reductions ≡ 0) }
 {
     laws::results();
     proof.known();
@@ -84,6 +86,8 @@ fn eliminate_below<L: Ledger>(
     ensures grown { Extends arena.old arena.new }
     ensures counted_ok { IfOk result (λ made. steps.new + (both.left.reductions + both.right.reductions) ≤ steps.old + made.reductions) }
     ensures counted { steps.new + (both.left.reductions + both.right.reductions) ≤ steps.old + budget }
+    ensures rises { steps.old ≤ steps.new }
+    ensures least { steps.new ≡ steps.old → IfOk result (λ made. made.reductions ≡ both.left.reductions + both.right.reductions) }
 {
     laws::forks();
     laws::budgets();
@@ -140,6 +144,8 @@ fn eliminate_forked<R: Wait + Threads, L: Ledger, M: Ledger + Send + 'static>(
     ensures pass_stays { IsBenchPassOf bench.now pass.new }
     ensures counted_ok { IfOk result (λ made. steps.new ≤ steps.old + made.reductions) }
     ensures counted { steps.new ≤ steps.old + 2 * budget }
+    ensures rises { steps.old ≤ steps.new }
+    ensures least { steps.new ≡ steps.old → IfOk result (λ made. made.reductions ≡ 0) }
 {
     laws::forks();
     let graph = bench.graph();
@@ -194,6 +200,8 @@ fn eliminate_number<R: Wait + Threads, L: Ledger>(
     ensures pass_stays { IsBenchPassOf bench.now pass.new }
     ensures counted_ok { IfOk result (λ made. steps.new ≤ steps.old + made.reductions) }
     ensures counted { steps.new ≤ steps.old + 2 * budget }
+    ensures rises { steps.old ≤ steps.new }
+    ensures least { steps.new ≡ steps.old → IfOk result (λ made. made.reductions ≡ 0) }
 {
     match proof.premises() {
         [left, right] if are_worth_a_fork(alloc, left, right) => {
@@ -247,6 +255,7 @@ fn compute<R: Wait + Threads, L: Ledger>(
     ensures extends { ExtendsBench bench.now pass.old pass.new }
     ensures counted_ok { IfOk result (λ made. steps.new ≤ steps.old + made.reductions) }
     ensures counted { steps.new ≤ steps.old + 2 * budget }
+    ensures least { steps.new ≡ steps.old → IfOk result (λ made. made.reductions ≡ 0) }
 {
     if proof.counts().cuts == 0 {
         return itself(proof);
@@ -296,7 +305,8 @@ fn answer(proof: &ProofRef, known: Reduced, budget: u64) -> Result<Reduced, Elim
 /// own. Each has the whole budget, so up to twice as many contractions may be counted where the budget doesn't suffice.
 ///
 /// What the elimination came to is noted in the table of the desk. Where the table has it no contraction is made, and the answer within
-/// each budget follows from what is noted. A proof without cuts is its own elimination, and isn't taken apart.
+/// each budget follows from what is noted. So where another worker is at the same elimination, by a budget that is no greater, this one waits
+/// for it. A proof without cuts is its own elimination, and isn't taken apart.
 pub fn eliminate<R: Wait + Threads, L: Ledger>(
     rt: &R,
     alloc: Global,
@@ -326,19 +336,29 @@ pub fn eliminate<R: Wait + Threads, L: Ledger>(
 {
     laws::results();
     proof.known();
+    let begun = desk.begun().begin(rt, proof.number(), budget);
     let known = match desk.look_up(rt, alloc, pass, proof) {
         Ok(known) => known,
-        Err(_) => return Err(ElimFault::Memory),
+        Err(_) => {
+            desk.begun().end(rt, begun);
+            return Err(ElimFault::Memory);
+        }
     };
     if let Some(known) = known {
+        desk.begun().end(rt, begun);
         return answer(proof, known, budget);
     }
     let bench_pass = Desk::bench_pass(pass);
     let made = match compute(rt, alloc, desk.bench(), bench_pass, proof, budget, steps) {
         Ok(made) => made,
-        Err(fault) => return Err(fault),
+        Err(fault) => {
+            desk.begun().end(rt, begun);
+            return Err(fault);
+        }
     };
-    match desk.note(rt, pass, proof, &made) {
+    let noted = desk.note(rt, pass, proof, &made);
+    desk.begun().end(rt, begun);
+    match noted {
         Ok(()) => Ok(made),
         Err(_) => Err(ElimFault::Memory),
     }

@@ -2,6 +2,7 @@
 //! is left.
 #![tactic(auto)]
 
+mod begun;
 mod desk;
 mod eliminating;
 mod forking;

@@ -15,7 +15,7 @@ use Rattle.job_workers.specs.Events.{is_taken, put_of, is_done}
 use Rattle.job_workers.specs.Needs.{is_met, meaning_of, AreGiven, OnValue, HoldFitting, Fits}
 use Rattle.job_workers.specs.Machine.{IsFirstReady}
 use Rattle.job_workers.specs.Tickets.{place_of, given_to, IsFor, Answers, TicketFits}
-use Rattle.job_workers.specs.Desks.{IsInOrder}
+use Rattle.job_workers.specs.Slates.{IsInOrder}
 use Rattle.job_workers.proofs.Growth.{put_of_append, put_of_stays, is_taken_last, given_stays}
 use Rattle.job_workers.proofs.Goodness.{Runs-more, first_of}
 

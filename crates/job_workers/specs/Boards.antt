@@ -11,7 +11,7 @@ use Rattle.job_workers.specs.declared.events.Event.TheVariants.{Take, Put}
 use Rattle.job_workers.specs.declared.tasks.Task.{Task}
 use Rattle.job_workers.specs.Events.{is_done, put_of}
 use Rattle.job_workers.specs.Machine.{IsFirstReady, IsRun}
-use Rattle.job_workers.specs.Desks.{DeskView}
+use Rattle.job_workers.specs.Slates.{SlateView}
 
 -- the tasks of a board, in the order in which they were handed to it
 abbrev pub tasks_of : {J H L : Type 0} → BoardOf J H L → List (Task J H)
@@ -19,12 +19,12 @@ tasks_of board = board.tasks.items
 
 module _ {J H P R : Type 0} where
   -- a runner with the board's home
-  abbrev pub runner_of : BoardOf J H (TurnLog (DeskView J H P R) (Event P H)) → R
+  abbrev pub runner_of : BoardOf J H (TurnLog (SlateView J H P R) (Event P H)) → R
   runner_of board = (opening board.log).runner
 
   -- the pass is of the board, and what it has seen is a run of the machine
-  pub record IsPassOf {S : Type 0} (sense : H → S) (Belongs : J → List S → P → S → Type 0) (board : BoardOf J H (TurnLog (DeskView J H P R) (Event P H)))
-      (pass : PassOf (DeskView J H P R) (Event P H)) : Type 0 where
+  pub record IsPassOf {S : Type 0} (sense : H → S) (Belongs : J → List S → P → S → Type 0) (board : BoardOf J H (TurnLog (SlateView J H P R) (Event P H)))
+      (pass : PassOf (SlateView J H P R) (Event P H)) : Type 0 where
     pub of : IsOf board.log pass
     pub rest : is_out pass ≡ false
     pub tasks : (opening board.log).tasks ≡ tasks_of board

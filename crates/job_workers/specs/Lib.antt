@@ -3,5 +3,5 @@ pub mod Records
 pub mod Needs
 pub mod Machine
 pub mod Tickets
-pub mod Desks
+pub mod Slates
 pub mod Boards

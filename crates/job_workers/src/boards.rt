@@ -8,8 +8,8 @@ ghost use Rattle.job_workers.specs.Needs.{AreWindow, AreAnswers, HoldFitting};
 ghost use Rattle.job_workers.specs.Machine.{IsIdle};
 ghost use Rattle.job_workers.specs.Records.{slot_at};
 
-use crate::desks::Desk;
 use crate::runners::Runner;
+use crate::slates::Slate;
 use crate::tasks::Task;
 use crate::tickets::Ticket;
 use std::alloc::{AllocError, Global};
@@ -23,10 +23,10 @@ pub struct BoardOf<J, H, L> {
 }
 
 /// A board for the tasks of a runner.
-pub type Board<R> = BoardOf<<R as Runner>::Job, <R as Runner>::Held, TurnLog<Desk<R>>>;
+pub type Board<R> = BoardOf<<R as Runner>::Job, <R as Runner>::Held, TurnLog<Slate<R>>>;
 
 /// The right of one worker to take and put tasks, with the events that it has seen.
-pub type BoardPass<R> = Pass<Desk<R>>;
+pub type BoardPass<R> = Pass<Slate<R>>;
 
 impl<J, H, L> BoardOf<J, H, L> {
     ghost use Rattle.job_workers.specs.Boards.{tasks_of};
@@ -48,7 +48,7 @@ impl<J, H, L> BoardOf<J, H, L> {
     }
 }
 
-impl<R: Runner> BoardOf<R::Job, R::Held, TurnLog<Desk<R>>> {
+impl<R: Runner> BoardOf<R::Job, R::Held, TurnLog<Slate<R>>> {
     ghost use Rattle.job_workers.specs.Boards.{tasks_of, runner_of, IsPassOf, TakesFirst, PutsOnce, EndsWith};
     ghost use Rattle.job_workers.specs.Tickets.{place_of, IsFor, Answers, TicketFits};
 
@@ -64,8 +64,8 @@ impl<R: Runner> BoardOf<R::Job, R::Held, TurnLog<Desk<R>>> {
         ensures pass { IfOk result (λ made. IsPassOf R.sense R.Belongs made.0 made.1) }
         ensures seen { IfOk result (λ made. seen made.1 ≡ []) }
     {
-        let desk = Desk::new(alloc, runner, &tasks)?;
-        let (log, pass) = TurnLog::new(alloc, desk)?;
+        let slate = Slate::new(alloc, runner, &tasks)?;
+        let (log, pass) = TurnLog::new(alloc, slate)?;
         Ok((BoardOf { tasks, log }, pass))
     }
 

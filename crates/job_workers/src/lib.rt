@@ -2,7 +2,6 @@
 #![tactic(auto)]
 
 mod boards;
-mod desks;
 mod events;
 mod gates;
 mod given;
@@ -10,17 +9,18 @@ mod laws;
 mod progress;
 mod records;
 mod runners;
+mod slates;
 mod tasks;
 mod tickets;
 mod windows;
 mod workers;
 
 pub use boards::{Board, BoardOf, BoardPass};
-pub use desks::Desk;
 pub use events::Event;
 pub use gates::{Gate, NoGate};
 pub use laws::board_laws;
 pub use runners::Runner;
+pub use slates::Slate;
 pub use tasks::{Need, Task};
 pub use tickets::Ticket;
 pub use windows::run_window;

@@ -4,6 +4,7 @@ ghost use mathlib.Core.List.{IsPrefix};
 ghost use Rattle.turn_log.specs.Passes.{seen};
 ghost use Rattle.turn_log.specs.Rules.{longer};
 ghost use Rattle.memo_table.specs.Pairs.{IsIn, IsAbsent, IsLegal};
+ghost use Rattle.memo_table.specs.Events.{AddsAtMost};
 ghost use Rattle.memo_table.specs.Memos.{home_of, IsPassOf};
 
 use crate::law::Law;
@@ -77,6 +78,7 @@ impl<L: Law> MemoOf<TurnLog<Rows<L>>> {
         ensures grown { IsPrefix (seen pass.old) (seen pass.new) }
         ensures legal { IsLegal (L.Truth (home_of self.now)) L.Key.cmp (seen pass.new) }
         ensures stands { OnOk result (IsIn L.Key.cmp (seen pass.new) key) }
+        ensures adds { OnOk result (AddsAtMost L.Key.cmp (seen pass.old) key val (seen pass.new)) }
     {
         let mut turn = self.log.take(rt, pass);
         let noted = turn.value_mut().note(key, val);

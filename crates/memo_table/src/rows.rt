@@ -2,6 +2,7 @@
 ghost use Rattle.std.specs.Prelude.{◌≡◌, ◌++◌, ◌∷◌, [], IfOk, OnOk, OnErr, MatchBool, IfSome, IsNone, IsSome, length, map};
 ghost use mathlib.Core.List.{IsPrefix};
 ghost use Rattle.memo_table.specs.Pairs.{IsIn, IsAbsent, IsLegal, pair};
+ghost use Rattle.memo_table.specs.Events.{Adds};
 
 use crate::law::Law;
 use std::alloc::{AllocError, Global};
@@ -103,8 +104,7 @@ impl<L: Law> Rows<L> {
     /// Adds a pair, unless its key stands here.
     pub fn note(&mut self, key: L::Key, val: L::Val) -> Result<(), AllocError>
         requires { L.Truth self.old.home key val }
-        ensures known { IsIn L.Key.cmp self.old.pairs key → self.new.pairs ≡ self.old.pairs }
-        ensures added { IsAbsent L.Key.cmp self.old.pairs key → OnOk result (self.new.pairs ≡ self.old.pairs ++ pair key val ∷ []) }
+        ensures adds { OnOk result (Adds L.Key.cmp self.old.pairs key val self.new.pairs) }
         ensures err { OnErr result (self.new.pairs ≡ self.old.pairs) }
         ensures stands { OnOk result (IsIn L.Key.cmp self.new.pairs key) }
         ensures grown { IsPrefix self.old.pairs self.new.pairs }

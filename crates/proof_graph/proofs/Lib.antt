@@ -6,5 +6,6 @@ pub mod Growth
 pub mod Standing
 pub mod Premises
 pub mod Several
+pub mod Candidates
 pub mod Crossing
 pub mod Sent

@@ -26,6 +26,10 @@ StandsAt history key n = (r : Reference) × Contains history r × (key_of r ≡ 
 abbrev pub IsAbsent : List Reference → Node → Type 0
 IsAbsent history key = All (λ r. key_of r ≢ key) history
 
+-- the key of each reference stands at its number
+abbrev pub StandEach : List Reference → List Reference → Type 0
+StandEach history rs = All (λ r. StandsAt history (key_of r) r.number) rs
+
 -- a history that has the key stays as it is, for the reference's number; to one that hasn't the reference is added at the end
 abbrev pub Adds : List Reference → Node → Reference → List Reference → Type 0
 Adds history key r new = (StandsAt history key r.number × (new ≡ history)) ⊎ (IsAbsent history key × (new ≡ history ++ r ∷ []))

@@ -6,6 +6,7 @@ pub mod Drafts
 pub mod History
 pub mod Unique
 pub mod Events
+pub mod Places
 pub mod Indexed
 pub mod Graphs
 pub mod Inferences

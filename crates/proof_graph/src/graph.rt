@@ -10,13 +10,13 @@ ghost use Rattle.std.specs.Coded.{Coded-set};
 ghost use Rattle.proof_trees.specs.Trees.{node, below, IsInference};
 ghost use Rattle.proof_trees.specs.TreeLists.{tree_at};
 ghost use Rattle.proof_graph.specs.References.{key_of, key_over, trees_of, numbers_of};
-ghost use Rattle.proof_graph.specs.History.{IsLegal, StandsAt, AddsAtMost, AddsAtMostEach, AddsFirst};
+ghost use Rattle.proof_graph.specs.History.{IsLegal, StandsAt, StandEach, AddsAtMost, AddsAtMostEach, AddsFirst};
 ghost use Rattle.proof_graph.specs.Unique.{legal_prop};
 ghost use Rattle.proof_graph.specs.Drafts.{IsDraftOf, drafted, AreDrafts, keys_in, trees_in};
-ghost use Rattle.proof_graph.specs.Entered.{IsEntered, tree_entered, made_in};
+ghost use Rattle.proof_graph.specs.Entered.{IsCandidate, AreCandidates, IsEntered, key_entered, tree_entered, made_in};
 
 use crate::boxed::BoxedIndex;
-use crate::index::{Entered, settle_each};
+use crate::index::{Entered, are_right, settle_each};
 use crate::inference::Inference;
 use crate::key::Key;
 use crate::node::Node;
@@ -80,7 +80,8 @@ impl Graph {
 
     /// The reference of the tree whose last inference has this rule and this end sequent over the trees of the premises. Its key is the
     /// rule, the end sequent and the numbers of the premises. A key that is there keeps its number, whoever interned it. All that can be
-    /// made before is made before the one short turn, in which the key is looked for by its hash, and put in where it isn't there.
+    /// made before is made before the one short turn, in which the key's fingerprint is looked for, and the key put in where no key has it.
+    /// A key that has it is compared after the turn. Where it is another, a second turn looks for the key itself.
     pub fn intern<R: Wait>(
         &self,
         rt: &R,
@@ -111,8 +112,8 @@ impl Graph {
     }
 
     /// The references of the trees whose last inferences these are, each over the trees of its premises, in their order: as `intern` gives
-    /// them one after another, but in one short turn for all. Keys, references and room are made before it, and what is left over is
-    /// dropped after it. Where memory runs out, some of the first may have been put in.
+    /// them one after another, but in one short turn for all, or a second one. Keys, references and room are made before it, and what is
+    /// left over is dropped after it. Where memory runs out, some may have been put in.
     pub fn intern_each<R: Wait>(
         &self,
         rt: &R,
@@ -133,10 +134,10 @@ impl Graph {
         ensures pass_stays { IsPassOf self.now pass.new }
     {
         let count = inferences.len();
-        let entered = Vec::with_capacity(alloc, count)?;
+        let room = Vec::with_capacity(alloc, count)?;
         let made = Vec::with_capacity(alloc, count)?;
         let drafts = self.drafts(alloc, inferences)?;
-        let entered = self.add_each(rt, pass, drafts, entered)?;
+        let entered = self.add_each(rt, alloc, pass, drafts, room)?;
         Ok(settle_each(&self.nodes, entered, made))
     }
 
@@ -180,7 +181,8 @@ impl Graph {
         Ok(drafts)
     }
 
-    // The reference of a key, which is added in a turn where it isn't there. What is then left over is dropped after the turn.
+    // The reference of a key, which is added in a turn where no key has its fingerprint. Else the key that has it is compared after the
+    // turn, and where it is another, a second turn looks for the key itself. What is left over is dropped after the turns.
     fn add<R: Wait>(
         &self,
         rt: &R,
@@ -197,35 +199,140 @@ impl Graph {
         ensures grown { IsPrefix (history pass.old) (history pass.new) }
         ensures pass_stays { IsPassOf self.now pass.new }
     {
-        let mut turn = self.index.take(rt, &mut pass.pass);
-        let entered = turn.value_mut().index.intern(rt, &self.nodes, key, draft);
-        self.index.give(&mut pass.pass, turn);
-        Ok(entered?.settle(&self.nodes))
+        let entered = self.enter(rt, pass, key, draft)?;
+        if entered.is_right(&self.nodes) {
+            return Ok(entered.settle(&self.nodes));
+        }
+        let entered = self.intern_left(rt, pass, entered)?;
+        Ok(entered.settle(&self.nodes))
     }
 
-    // What becomes of several drafts in one turn.
-    fn add_each<R: Wait>(
+    // What becomes of a draft in a turn in which no keys are compared.
+    fn enter<R: Wait>(
         &self,
         rt: &R,
         pass: &mut GraphPass,
+        key: Key,
+        draft: Draft,
+    ) -> Result<Entered, AllocError>
+        requires pass_of { IsPassOf self.now pass.old }
+        requires draft { IsDraftOf self.now.nodes key draft }
+        ensures candidate { IfOk result (IsCandidate self.now.nodes) }
+        ensures key { IfOk result (λ e. key_entered e ≡ key) }
+        ensures tree { IfOk result (λ e. tree_entered e ≡ drafted draft) }
+        ensures adds { IfOk result (λ e. AddsAtMost (history pass.old) (key_of e.made) e.made (history pass.new)) }
+        ensures grown { IsPrefix (history pass.old) (history pass.new) }
+        ensures pass_stays { IsPassOf self.now pass.new }
+    {
+        let mut turn = self.index.take(rt, &mut pass.pass);
+        let entered = turn.value_mut().index.enter(rt, &self.nodes, key, draft);
+        self.index.give(&mut pass.pass, turn);
+        entered
+    }
+
+    // What becomes in a turn of a draft that was left over: its key is looked for, and added where it isn't there.
+    fn intern_left<R: Wait>(
+        &self,
+        rt: &R,
+        pass: &mut GraphPass,
+        candidate: Entered,
+    ) -> Result<Entered, AllocError>
+        requires pass_of { IsPassOf self.now pass.old }
+        requires candidate { IsCandidate self.now.nodes candidate }
+        requires stands { StandsAt (history pass.old) (key_of candidate.made) candidate.made.number }
+        ensures entered { IfOk result (IsEntered self.now.nodes) }
+        ensures key { IfOk result (λ e. key_of e.made ≡ key_entered candidate) }
+        ensures tree { IfOk result (λ e. tree_entered e ≡ tree_entered candidate) }
+        ensures adds { IfOk result (λ e. AddsAtMost (history pass.old) (key_entered candidate) e.made (history pass.new)) }
+        ensures grown { IsPrefix (history pass.old) (history pass.new) }
+        ensures pass_stays { IsPassOf self.now pass.new }
+    {
+        let mut turn = self.index.take(rt, &mut pass.pass);
+        let entered = turn
+            .value_mut()
+            .index
+            .intern_left(rt, &self.nodes, candidate);
+        self.index.give(&mut pass.pass, turn);
+        entered
+    }
+
+    // What becomes of several drafts: in one turn, and where a candidate is another key, in a second one.
+    fn add_each<R: Wait>(
+        &self,
+        rt: &R,
+        alloc: Global,
+        pass: &mut GraphPass,
         drafts: Vec<(Key, Draft)>,
-        entered: Vec<Entered>,
+        room: Vec<Entered>,
     ) -> Result<Vec<Entered>, AllocError>
         requires pass_of { IsPassOf self.now pass.old }
         requires drafts { AreDrafts self.now.nodes drafts.items }
-        requires empty { entered.items ≡ [] }
-        requires room { length drafts.items ≤ vec_capacity entered }
+        requires empty { room.items ≡ [] }
+        requires room { length drafts.items ≤ vec_capacity room }
         ensures entered { IfOk result (λ es. All (IsEntered self.now.nodes) es.items) }
         ensures keys { IfOk result (λ es. map key_of (made_in es.items) ≡ keys_in drafts.items) }
         ensures trees { IfOk result (λ es. map tree_entered es.items ≡ trees_in drafts.items) }
         ensures adds { IfOk result (λ es. AddsAtMostEach (history pass.old) (made_in es.items) (history pass.new)) }
-        ensures err { OnErr result (AddsFirst (history pass.old) (keys_in drafts.items) (history pass.new)) }
+        ensures grown { IsPrefix (history pass.old) (history pass.new) }
+        ensures pass_stays { IsPassOf self.now pass.new }
+    {
+        let entered = self.enter_each(rt, pass, drafts, room)?;
+        if are_right(&self.nodes, &entered) {
+            return Ok(entered);
+        }
+        let room = Vec::with_capacity(alloc, entered.len())?;
+        self.intern_left_each(rt, pass, entered, room)
+    }
+
+    // What becomes of several drafts in one turn in which no keys are compared.
+    fn enter_each<R: Wait>(
+        &self,
+        rt: &R,
+        pass: &mut GraphPass,
+        drafts: Vec<(Key, Draft)>,
+        room: Vec<Entered>,
+    ) -> Result<Vec<Entered>, AllocError>
+        requires pass_of { IsPassOf self.now pass.old }
+        requires drafts { AreDrafts self.now.nodes drafts.items }
+        requires empty { room.items ≡ [] }
+        requires room { length drafts.items ≤ vec_capacity room }
+        ensures candidates { IfOk result (λ es. AreCandidates self.now.nodes es.items) }
+        ensures keys { IfOk result (λ es. map key_entered es.items ≡ keys_in drafts.items) }
+        ensures trees { IfOk result (λ es. map tree_entered es.items ≡ trees_in drafts.items) }
+        ensures adds { IfOk result (λ es. AddsAtMostEach (history pass.old) (made_in es.items) (history pass.new)) }
         ensures grown { IsPrefix (history pass.old) (history pass.new) }
         ensures pass_stays { IsPassOf self.now pass.new }
     {
         let mut turn = self.index.take(rt, &mut pass.pass);
         let index = &mut turn.value_mut().index;
-        let entered = index.intern_each(rt, &self.nodes, drafts, entered);
+        let entered = index.enter_each(rt, &self.nodes, drafts, room);
+        self.index.give(&mut pass.pass, turn);
+        entered
+    }
+
+    // What becomes in one turn of several drafts that were left over.
+    fn intern_left_each<R: Wait>(
+        &self,
+        rt: &R,
+        pass: &mut GraphPass,
+        candidates: Vec<Entered>,
+        room: Vec<Entered>,
+    ) -> Result<Vec<Entered>, AllocError>
+        requires pass_of { IsPassOf self.now pass.old }
+        requires candidates { AreCandidates self.now.nodes candidates.items }
+        requires stand { StandEach (history pass.old) (made_in candidates.items) }
+        requires empty { room.items ≡ [] }
+        requires room { length candidates.items ≤ vec_capacity room }
+        ensures entered { IfOk result (λ es. All (IsEntered self.now.nodes) es.items) }
+        ensures keys { IfOk result (λ es. map key_of (made_in es.items) ≡ map key_entered candidates.items) }
+        ensures trees { IfOk result (λ es. map tree_entered es.items ≡ map tree_entered candidates.items) }
+        ensures adds { IfOk result (λ es. AddsAtMostEach (history pass.old) (made_in es.items) (history pass.new)) }
+        ensures grown { IsPrefix (history pass.old) (history pass.new) }
+        ensures pass_stays { IsPassOf self.now pass.new }
+    {
+        let mut turn = self.index.take(rt, &mut pass.pass);
+        let index = &mut turn.value_mut().index;
+        let entered = index.intern_left_each(rt, &self.nodes, candidates, room);
         self.index.give(&mut pass.pass, turn);
         entered
     }

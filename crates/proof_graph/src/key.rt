@@ -81,8 +81,8 @@ impl Key {
         Ok(Key { fingerprint, node })
     }
 
-    // A number in which unequal keys mostly differ.
-    fn fingerprint(&self) -> u64
+    /// A number in which unequal keys mostly differ.
+    pub(crate) fn fingerprint(&self) -> u64
         ensures { result ≡ node_fingerprint self.now }
     {
         self.fingerprint
@@ -98,8 +98,8 @@ fn is_same(one: &Node, other: &Node) -> bool
         && one.end == other.end
 }
 
-// Whether the keys are equal. Unequal ones mostly differ in their fingerprints, so that their nodes are left alone.
-fn is_same_key(one: &Key, other: &Key) -> bool
+/// Whether the keys are equal. Unequal ones mostly differ in their fingerprints, so that their nodes are left alone.
+pub(crate) fn is_same_key(one: &Key, other: &Key) -> bool
     ensures { IsTrue result ↔ (one.now ≡ other.now) }
 {
     one.fingerprint() == other.fingerprint() && is_same(one.node(), other.node())

@@ -9,6 +9,7 @@ mod inference;
 mod key;
 pub mod laws;
 mod node;
+mod places;
 mod reference;
 mod tree;
 

@@ -7,3 +7,7 @@ use Rattle.std.specs.declared.cmp.Ordering.TheVariants.{Equal}
 
 pub sum_respects : (home a b val : ℕ) → nat_cmp a b ≡ Equal → val ≡ home + a → val ≡ home + b
 sum_respects home a b val same e = grind (arith, nat_tests)
+
+-- The law of keys: the value of a key is the key.
+pub key_respects : {Home : Type 0} (home : Home) (a b val : ℕ) → nat_cmp a b ≡ Equal → val ≡ a → val ≡ b
+key_respects home a b val same e = grind (arith, nat_tests)

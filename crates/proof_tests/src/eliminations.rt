@@ -35,6 +35,15 @@ fn told(made: &Result<Reduced, ElimFault>) -> Result<u64, bool> {
     }
 }
 
+// The text of a proof, how many contractions its elimination takes, the text of what it comes to, and whether two threads work on it.
+#[derive(Drop)]
+struct Elimination {
+    cuts: String,
+    reductions: u64,
+    reduced: String,
+    by_two_threads: bool,
+}
+
 // Sees that two eliminations came to one proof.
 fn see_same<R: Abort>(rt: &R, desk: &Desk, made: &ProofRef, again: &ProofRef)
     requires made { IsOf (graph_of (bench_of desk.now)) made.now }
@@ -61,14 +70,15 @@ fn see_short<R: Abort + Wait + Threads + Sync, L: Ledger>(
     assert!(rt; told(&made) == Err(true));
 }
 
-// Sees that the elimination takes just so many contractions, and that none is made once it is known.
+// Sees that the elimination takes just so many contractions, and that none is made once it is known. Where one contraction is lacking, more
+// than the budget are counted only by two threads, each of which has the whole budget.
 fn see_known<R: Abort + Wait + Threads + Sync, L: Ledger>(
     rt: &R,
     alloc: Global,
     desk: &Desk,
     pass: &mut DeskPass,
     proof: &ProofRef,
-    reductions: u64,
+    wanted: &Elimination,
     steps: &mut Steps<L>,
 ) -> Result<ProofRef, Fail>
     requires pass_of { IsDeskPassOf desk.now pass.old }
@@ -76,8 +86,10 @@ fn see_known<R: Abort + Wait + Threads + Sync, L: Ledger>(
     ensures of { IfOk result (IsOf (graph_of (bench_of desk.now))) }
     ensures pass_stays { IsDeskPassOf desk.now pass.new }
 {
+    let reductions = wanted.reductions;
     let less = reductions.saturating_sub(1);
     see_short(rt, alloc, desk, pass, proof, less, steps);
+    assert_eq!(rt; steps.count() > less, wanted.by_two_threads);
     let made = eliminate(rt, alloc, desk, pass, proof, reductions, steps)?;
     assert_eq!(rt; made.reductions, reductions);
     let counted = steps.count();
@@ -88,14 +100,6 @@ fn see_known<R: Abort + Wait + Threads + Sync, L: Ledger>(
     see_short(rt, alloc, desk, pass, proof, less, steps);
     assert_eq!(rt; steps.count(), counted);
     Ok(made.proof)
-}
-
-// A last step below the six cuts, how many contractions the elimination then takes, and the text of what it comes to.
-#[derive(Drop)]
-struct Elimination {
-    last: String,
-    reductions: u64,
-    reduced: String,
 }
 
 // Sees on a desk what an elimination takes and comes to.
@@ -113,12 +117,11 @@ fn see_elimination<R: Abort + Wait + Threads + Sync, L: Ledger>(
     requires pass_of { IsDeskPassOf desk.now pass.old }
     ensures { IsDeskPassOf desk.now pass.new }
 {
-    let text = format!(in alloc; "{CUTS};{}", wanted.last.as_str())?;
     let graph = desk.bench().graph();
     let graph_pass = Bench::graph_pass(Desk::bench_pass(pass));
-    let cuts = proof(rt, alloc, graph, graph_pass, text.as_str())?;
+    let cuts = proof(rt, alloc, graph, graph_pass, wanted.cuts.as_str())?;
     let mut steps = Steps::<L>::new(ledger);
-    let made = see_known(rt, alloc, desk, pass, &cuts, wanted.reductions, &mut steps);
+    let made = see_known(rt, alloc, desk, pass, &cuts, wanted, &mut steps);
     steps.end();
     let made = made?;
     let graph_pass = Bench::graph_pass(Desk::bench_pass(pass));
@@ -154,9 +157,10 @@ fn assert_elimination<R: Abort + Wait + Threads + Sync>(
 #[test]
 fn work_in_both_premises_of_a_cut(rt: HostRuntime) -> Result<(), Fail> {
     let wanted = Elimination {
-        last: String::from_str(rt.alloc(), "cut p p/p 6,6")?,
+        cuts: format!(in rt.alloc(); "{CUTS};cut p p/p 6,6")?,
         reductions: 127,
         reduced: format!(in rt.alloc(); "{WEAKENINGS};weak - p/p 6")?,
+        by_two_threads: false,
     };
     assert_elimination(&rt, rt.alloc(), &wanted)
 }
@@ -164,9 +168,10 @@ fn work_in_both_premises_of_a_cut(rt: HostRuntime) -> Result<(), Fail> {
 #[test]
 fn work_in_both_premises_of_another_rule(rt: HostRuntime) -> Result<(), Fail> {
     let wanted = Elimination {
-        last: String::from_str(rt.alloc(), "andR {p&p} p/{p&p} 6,6")?,
+        cuts: format!(in rt.alloc(); "{CUTS};andR {{p&p}} p/{{p&p}} 6,6")?,
         reductions: 126,
         reduced: format!(in rt.alloc(); "{WEAKENINGS};andR {{p&p}} p/{{p&p}} 6,6")?,
+        by_two_threads: false,
     };
     assert_elimination(&rt, rt.alloc(), &wanted)
 }
@@ -174,9 +179,10 @@ fn work_in_both_premises_of_another_rule(rt: HostRuntime) -> Result<(), Fail> {
 #[test]
 fn work_in_the_left_premise(rt: HostRuntime) -> Result<(), Fail> {
     let wanted = Elimination {
-        last: String::from_str(rt.alloc(), "cut p p/p 6,0")?,
+        cuts: format!(in rt.alloc(); "{CUTS};cut p p/p 6,0")?,
         reductions: 64,
         reduced: format!(in rt.alloc(); "{WEAKENINGS};weak - p/p 6")?,
+        by_two_threads: false,
     };
     assert_elimination(&rt, rt.alloc(), &wanted)
 }
@@ -184,9 +190,63 @@ fn work_in_the_left_premise(rt: HostRuntime) -> Result<(), Fail> {
 #[test]
 fn work_in_the_right_premise(rt: HostRuntime) -> Result<(), Fail> {
     let wanted = Elimination {
-        last: String::from_str(rt.alloc(), "cut p p/p 0,6")?,
+        cuts: format!(in rt.alloc(); "{CUTS};cut p p/p 0,6")?,
         reductions: 64,
         reduced: String::from_str(rt.alloc(), "ax p p/p;weak - p/p 0")?,
+        by_two_threads: false,
+    };
+    assert_elimination(&rt, rt.alloc(), &wanted)
+}
+
+// How many cuts each of two chains has: so many are worth a thread of their own.
+const CHAIN: u64 = 16;
+
+// Adds a chain to a text: an atom from a universal formula of which it is an instance, and then cuts on it, each over the one before, or in
+// place of each the weakening that it comes to. The first step has that number.
+fn push_chain(
+    alloc: Global,
+    text: &mut String,
+    atom: char,
+    first: u64,
+    is_reduced: bool,
+) -> Result<(), Fail> {
+    let instance = first.wrapping_add(1);
+    let start = format!(in alloc; "ax {atom} abA/{atom};allL A@{atom} abA/{atom} {first};")?;
+    text.push_str(start.as_str())?;
+    for cut in 0..CHAIN {
+        let last = instance.wrapping_add(cut);
+        let step = if is_reduced {
+            format!(in alloc; "weak - abA/{atom} {last};")?
+        } else {
+            format!(in alloc; "cut {atom} abA/{atom} {last},{instance};")?
+        };
+        text.push_str(step.as_str())?;
+    }
+    Ok(())
+}
+
+// Two chains on two instances above one inference.
+fn two_chains(alloc: Global, is_reduced: bool) -> Result<String, Fail> {
+    let mut text = String::new(alloc);
+    push_chain(alloc, &mut text, 'a', 0, is_reduced)?;
+    push_chain(alloc, &mut text, 'b', CHAIN + 2, is_reduced)?;
+    let both = format!(in alloc;
+        "andR {{u(a)&u(b)}} abA/{{u(a)&u(b)}} {},{}",
+        CHAIN + 1,
+        2 * CHAIN + 3
+    )?;
+    text.push_str(both.as_str())?;
+    Ok(text)
+}
+
+// Both threads count: together more contractions than the budget, within which each comes to an end.
+#[test]
+fn work_in_both_premises_by_two_threads(rt: HostRuntime) -> Result<(), Fail> {
+    let wanted = Elimination {
+        cuts: two_chains(rt.alloc(), false)?,
+        reductions: 2 * CHAIN,
+        reduced: two_chains(rt.alloc(), true)?,
+        by_two_threads: true,
     };
     assert_elimination(&rt, rt.alloc(), &wanted)
 }

@@ -11,6 +11,8 @@ mod eliminations;
 #[cfg(test)]
 mod inferences;
 #[cfg(test)]
+mod meetings;
+#[cfg(test)]
 mod merges;
 #[cfg(test)]
 mod messages;
@@ -24,3 +26,5 @@ mod sharing;
 mod tables;
 #[cfg(test)]
 mod threads;
+#[cfg(test)]
+mod turns;

@@ -34,6 +34,36 @@ fn assert_one_number<R: Abort + Wait>(
     Ok(())
 }
 
+// Keys whose fingerprints are equal are told apart, and each keeps its number.
+fn assert_own_numbers<R: Abort + Wait>(
+    rt: &R,
+    alloc: Global,
+    graph: &Graph,
+    pass: &mut GraphPass,
+) -> Result<(), Fail>
+    requires { IsPassOf graph.now pass.old }
+    ensures { IsPassOf graph.now pass.new }
+{
+    let first = "ax {u(V0)} {u(V0)}/{u(V0)}";
+    let second = "ax {w(V7933695308399017924)} {w(V7933695308399017924)}/{w(V7933695308399017924)}";
+    let third = "ax {v(V5782278949438213727)} {v(V5782278949438213727)}/{v(V5782278949438213727)}";
+    assert_eq!(rt; proof(rt, alloc, graph, pass, first)?.number(), 0);
+    assert_eq!(rt; proof(rt, alloc, graph, pass, second)?.number(), 1);
+    assert_eq!(rt; proof(rt, alloc, graph, pass, third)?.number(), 2);
+    assert_eq!(rt; proof(rt, alloc, graph, pass, second)?.number(), 1);
+    assert_eq!(rt; proof(rt, alloc, graph, pass, third)?.number(), 2);
+    assert_eq!(rt; proof(rt, alloc, graph, pass, first)?.number(), 0);
+    Ok(())
+}
+
+#[test]
+fn keys_with_one_fingerprint(rt: HostRuntime) -> Result<(), Fail> {
+    let (graph, mut pass) = Graph::new(rt.alloc())?;
+    let seen = assert_own_numbers(&rt, rt.alloc(), &graph, &mut pass);
+    graph.close(&rt, pass);
+    seen
+}
+
 #[test]
 fn one_key_has_one_number(rt: HostRuntime) -> Result<(), Fail> {
     let (graph, mut pass) = Graph::new(rt.alloc())?;

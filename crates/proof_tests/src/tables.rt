@@ -6,10 +6,12 @@ ghost use Rattle.memo_table.specs.Pairs.{IsIn};
 ghost use Rattle.memo_table.specs.Memos.{home_of, IsPassOf};
 ghost use Rattle.proof_tests.specs.Sums.{sum_respects};
 
+use crate::meetings::meets;
 use memo_table::{Law, Memo, MemoPass};
 use std::alloc::{AllocError, Global};
 use std::process::Abort;
 use std::sync::Wait;
+use std::sync::atomic::AtomicU64;
 use std::test::Fail;
 use std::thread::{Threads, join};
 
@@ -32,22 +34,27 @@ impl Law for Sums {
     ghost respects_cmp = { sum_respects };
 }
 
+// Notes the sum of a key, once two threads have come.
 fn note_as<R: Wait>(
     rt: &R,
     memo: &Memo<Sums>,
     mut pass: MemoPass<Sums>,
     home: u32,
     key: u32,
+    came: &AtomicU64,
 ) -> (MemoPass<Sums>, Result<(), AllocError>)
     requires { IsPassOf memo.now pass × (home_of memo.now ≡ home) }
     ensures of { IsPassOf memo.now result.0 }
     ensures ok { OnOk result.1 (IsIn nat_cmp (seen result.0) key) }
 {
+    if !meets(came, 2) {
+        return (pass, Err(AllocError));
+    }
     let noted = memo.note(rt, &mut pass, key, u64::from(home) + u64::from(key));
     (pass, noted)
 }
 
-// Two threads note a key each, and the sum of the first is found.
+// Two threads note a key each, from the same moment on, and the sum of the first is found.
 #[tactic(auto, using(memo_table::proofs::Listed::in_prefix))]
 fn noted_by_two<R: Threads + Wait + Sync>(
     rt: &R,
@@ -61,16 +68,17 @@ fn noted_by_two<R: Threads + Wait + Sync>(
 {
     let (memo, mut one) = Memo::<Sums>::new(alloc, &home)?;
     let two = memo.split(&mut one);
+    let came = AtomicU64::new(0);
     let ((mut one, a), (two, b)) = join(
         rt,
         || -> (MemoPass<Sums>, Result<(), AllocError>)
             requires { IsPassOf memo one × (home_of memo ≡ home) }
             ensures { IsPassOf memo result.0 × OnOk result.1 (IsIn nat_cmp (seen result.0) first) }
-        { note_as(rt, &memo, one, home, first) },
+        { note_as(rt, &memo, one, home, first, &came) },
         || -> (MemoPass<Sums>, Result<(), AllocError>)
             requires { IsPassOf memo two × (home_of memo ≡ home) }
             ensures { IsPassOf memo result.0 }
-        { note_as(rt, &memo, two, home, second) },
+        { note_as(rt, &memo, two, home, second, &came) },
     );
     memo.join(&mut one, two);
     let found = memo.find(rt, alloc, &mut one, &home, &first);

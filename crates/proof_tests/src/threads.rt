@@ -4,6 +4,7 @@ ghost use Rattle.std.specs.List.{All};
 ghost use Rattle.lk_rules.specs.Rules.{IsFormedRule};
 ghost use Rattle.proof_graph.specs.Graphs.{IsOf, IsPassOf};
 
+use crate::meetings::meets;
 use crate::samples::{proof, steps};
 use lk_check::admit;
 use lk_rules::Step;
@@ -11,27 +12,32 @@ use proof_graph::{Graph, GraphPass, ProofRef};
 use std::alloc::Global;
 use std::process::Abort;
 use std::sync::Wait;
+use std::sync::atomic::AtomicU64;
 use std::test::Fail;
 use std::thread::{Threads, join};
 
-// The proof of a list of steps, put in by a pass that is handed back.
+// The proof of a list of steps, put in by a pass that is handed back, once two threads have come.
 fn put<R: Wait>(
     rt: &R,
     alloc: Global,
     graph: &Graph,
     mut pass: GraphPass,
     list: &[Step],
+    came: &AtomicU64,
 ) -> (GraphPass, Option<ProofRef>)
     requires pass_of { IsPassOf graph.now pass }
     requires formed { All (λ step. IsFormedRule step.rule) list.now }
     ensures pass_stays { IsPassOf graph.now result.0 }
     ensures of { IfSome result.1 (IsOf graph.now) }
 {
+    if !meets(came, 2) {
+        return (pass, None);
+    }
     let made = admit(rt, alloc, graph, &mut pass, list).ok();
     (pass, made)
 }
 
-// The proofs of two lists of steps, each put in by a thread of its own.
+// The proofs of two lists of steps, each put in by a thread of its own, from the same moment on.
 fn put_both<R: Abort + Threads + Wait + Sync>(
     rt: &R,
     alloc: Global,
@@ -48,16 +54,17 @@ fn put_both<R: Abort + Threads + Wait + Sync>(
 {
     let one = graph.split(pass);
     let two = graph.split(pass);
+    let came = AtomicU64::new(0);
     let ((one, first), (two, second)) = join(
         rt,
         || -> (GraphPass, Option<ProofRef>)
             requires { IsPassOf graph.now one × All (λ step. IsFormedRule step.rule) first.now }
             ensures { IsPassOf graph.entry.now result.0 × IfSome result.1 (IsOf graph.entry.now) }
-        { put(rt, alloc, graph, one, first) },
+        { put(rt, alloc, graph, one, first, &came) },
         || -> (GraphPass, Option<ProofRef>)
             requires { IsPassOf graph.now two × All (λ step. IsFormedRule step.rule) second.now }
             ensures { IsPassOf graph.entry.now result.0 × IfSome result.1 (IsOf graph.entry.now) }
-        { put(rt, alloc, graph, two, second) },
+        { put(rt, alloc, graph, two, second, &came) },
     );
     graph.join(pass, one);
     graph.join(pass, two);
@@ -66,8 +73,32 @@ fn put_both<R: Abort + Threads + Wait + Sync>(
     Ok((first, second))
 }
 
+// How often two threads put in a node of the same key, each time another one.
+const ROUNDS: u64 = 1000;
+
 // Two threads put in one node each, of the same key. It has one number, which it keeps.
 fn assert_same_key<R: Abort + Threads + Wait + Sync>(
+    rt: &R,
+    alloc: Global,
+    graph: &Graph,
+    pass: &mut GraphPass,
+    round: u64,
+) -> Result<(), Fail>
+    requires { IsPassOf graph.now pass.old }
+    ensures { IsPassOf graph.now pass.new }
+{
+    let text = format!(in alloc; "ax {{p{round}}} {{p{round}}}/{{p{round}}}")?;
+    let list = steps(alloc, text.as_str())?;
+    let (first, second) = put_both(rt, alloc, graph, pass, &list, &list)?;
+    assert_eq!(rt; first.number(), second.number());
+    let third = proof(rt, alloc, graph, pass, text.as_str())?;
+    assert_eq!(rt; first.number(), third.number());
+    assert!(rt; graph.same(&first, &third));
+    Ok(())
+}
+
+// The same for so many keys, and no other node gets a number.
+fn assert_same_keys<R: Abort + Threads + Wait + Sync>(
     rt: &R,
     alloc: Global,
     graph: &Graph,
@@ -76,20 +107,17 @@ fn assert_same_key<R: Abort + Threads + Wait + Sync>(
     requires { IsPassOf graph.now pass.old }
     ensures { IsPassOf graph.now pass.new }
 {
-    let text = "ax p p/p";
-    let list = steps(alloc, text)?;
-    let (first, second) = put_both(rt, alloc, graph, pass, &list, &list)?;
-    assert_eq!(rt; first.number(), second.number());
-    let third = proof(rt, alloc, graph, pass, text)?;
-    assert_eq!(rt; first.number(), third.number());
-    assert!(rt; graph.same(&first, &third));
+    for round in 0..ROUNDS {
+        assert_same_key(rt, alloc, graph, pass, round)?;
+    }
+    assert_eq!(rt; count(rt, alloc, graph, pass)?, ROUNDS);
     Ok(())
 }
 
 #[test]
 fn same_key_two_threads(rt: HostRuntime) -> Result<(), Fail> {
     let (graph, mut pass) = Graph::new(rt.alloc())?;
-    let seen = assert_same_key(&rt, rt.alloc(), &graph, &mut pass);
+    let seen = assert_same_keys(&rt, rt.alloc(), &graph, &mut pass);
     graph.close(&rt, pass);
     seen
 }

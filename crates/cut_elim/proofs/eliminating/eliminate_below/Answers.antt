@@ -47,3 +47,9 @@ returns-in-Ok-eliminate_in-clause-formed g c =
     c.results.ensures.end (tree_at c.put_node.new.arena c.in-Ok.number) (tree_at c.eliminate_in.new.arena last.proof) last.reductions (c.args.budget - above) c.in-Ok-eliminate_in.ensures.ok
     ∙ ap concl (is_tree c.put_node.new.arena c.in-Ok.number made c.in-Ok.ensures.tree) in
     subst (λ (s : Sequent). IsFormedSequent s) (sym end) c.see_formed.ensures
+
+pub returns-in-Ok-eliminate_in-clause-grown : goal.returns-in-Ok-eliminate_in-clause-grown
+returns-in-Ok-eliminate_in-clause-grown g c = λ n t h. c.eliminate_in.ensures.grown n t (c.put_node.ensures.grown n t h)
+
+pub returns-clause-grown : goal.returns-clause-grown
+returns-clause-grown g c = λ n t h. c.eliminate_in.ensures.grown n t (c.put_node.ensures.grown n t h)
