@@ -102,7 +102,7 @@ module _ (a b : List Item) (grown : Extends a b) (ns closed images numbers : Lis
       let lists : map (formula_at b) (closed ++ images) ≡ map g (filter (is_closed_at a) ns ++ filter (is_open_at a) ns) =
       map-append (formula_at b) closed images ∙ (λ i. fixed i ++ moved i) ∙ sym (map-append g closed others) ∙ (λ i. map g (parts i ++ rest i)) in
       shown_alike formula_total formula_ties (formula_at b) numbers (closed ++ images) same
-      ∙ ap (set.adds_each set.empty) lists
+      ∙ ap set.of_list lists
       ∙ shown_alike formula_total formula_ties g (filter (is_closed_at a) ns ++ filter (is_open_at a) ns) ns (parted a ns)
-      ∙ ap (set.adds_each set.empty) (sym (map-map (image (fin.get m)) (formula_at a) ns))
+      ∙ ap set.of_list (sym (map-map (image (fin.get m)) (formula_at a) ns))
       ∙ image_shown (image (fin.get m)) (map (formula_at a) ns)

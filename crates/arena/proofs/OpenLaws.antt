@@ -90,5 +90,5 @@ module _ (a : List Item) (f : ℕ) (there : IsFormulaAt a f) where
       ap negated (open_is ∙ no_variable (formula_at a f) empty))
       (λ closed.
       let shut : is_open (formula_at a f) ≡ false = sym open_is ∙ not_true (is_open_at a f) closed in
-      let same : HasVariables a vs set.empty = found ∙ ap (λ (s : VarSet). Some (variables s)) (ap (set.adds_each set.empty) (list-shut (formula_at a f) shut)) in
+      let same : HasVariables a vs set.empty = found ∙ ap (λ (s : VarSet). Some (variables s)) (ap set.of_list (list-shut (formula_at a f) shut)) in
       decides.1 (once vs none _ same nothing))

@@ -50,21 +50,21 @@ module _ {K : Type 0} {R : K → K → Ordering} (o : IsTotalOrder R) (ties : fi
   any_listing p xs = same_any p _ xs (λ q. sym (has-listing (set.adds_each (set.empty {R = R}) xs) q) ∙ has-list xs q)
 
   -- sets of lists with the same members are equal
-  pub same_sets : (xs ys : List K) → ((q : K) → list_any (eq_by_cmp R q) xs ≡ list_any (eq_by_cmp R q) ys) → set.adds_each (set.empty {R = R}) xs ≡ set.adds_each set.empty ys
+  pub same_sets : (xs ys : List K) → ((q : K) → list_any (eq_by_cmp R q) xs ≡ list_any (eq_by_cmp R q) ys) → set.adds_each (set.empty {R = R}) xs ≡ set.of_list ys
   same_sets xs ys same = same_members o ties _ _ (λ q. has-list xs q ∙ same q ∙ sym (has-list ys q))
 
-  pub set_append : (xs ys : List K) → set.adds_each (set.empty {R = R}) (xs ++ ys) ≡ union_of (set.adds_each set.empty xs) (set.adds_each set.empty ys)
+  pub set_append : (xs ys : List K) → set.adds_each (set.empty {R = R}) (xs ++ ys) ≡ union_of (set.of_list xs) (set.of_list ys)
   set_append xs ys = same_members o ties _ _ (λ q.
       has-list (xs ++ ys) q ∙ list_any-append (eq_by_cmp R q) xs ys ∙ (λ i. sym (has-list xs q) i || sym (has-list ys q) i)
-      ∙ sym (has-union o (set.adds_each set.empty xs) (set.adds_each set.empty ys) q))
+      ∙ sym (has-union o (set.of_list xs) (set.of_list ys) q))
 
-  pub set_cons : (x : K) (xs : List K) → set.adds_each (set.empty {R = R}) (x ∷ xs) ≡ set.adds (set.adds_each set.empty xs) x
+  pub set_cons : (x : K) (xs : List K) → set.adds_each (set.empty {R = R}) (x ∷ xs) ≡ set.adds (set.of_list xs) x
   set_cons x xs = same_members o ties _ _ (λ q.
-      has-list (x ∷ xs) q ∙ ap (λ b. eq_by_cmp R q x || b) (sym (has-list xs q)) ∙ sym (has-adds o (set.adds_each set.empty xs) x q))
+      has-list (x ∷ xs) q ∙ ap (λ b. eq_by_cmp R q x || b) (sym (has-list xs q)) ∙ sym (has-adds o (set.of_list xs) x q))
 
 -- numbers with the same members show the same set
 module _ {K : Type 0} {R : K → K → Ordering} (o : IsTotalOrder R) (ties : fin.IsAntisymmetric R) (f : ℕ → K) where
-  pub shown_alike : (xs ys : List ℕ) → HasSameMembers xs ys → set.adds_each (set.empty {R = R}) (map f xs) ≡ set.adds_each set.empty (map f ys)
+  pub shown_alike : (xs ys : List ℕ) → HasSameMembers xs ys → set.adds_each (set.empty {R = R}) (map f xs) ≡ set.of_list (map f ys)
   shown_alike xs ys same = same_sets o ties (map f xs) (map f ys) (λ q.
       list_any-map (eq_by_cmp R q) f xs ∙ same_any nat_cmp_total fin.nat_cmp-IsAntisymmetric (λ n. eq_by_cmp R q (f n)) xs ys same ∙ sym (list_any-map (eq_by_cmp R q) f ys))
 

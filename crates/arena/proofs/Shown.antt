@@ -40,12 +40,12 @@ same_subset o s t same = subset_of_members o s t (λ q there. ap (λ u. set.has 
 
 module _ {K : Type 0} {R : K → K → Ordering} (o : IsTotalOrder R) (ties : fin.IsAntisymmetric R) (f : ℕ → K) where
   pub union_shown : (xs ys ns : List ℕ) → HasSameMembers ns (xs ++ ys)
-      → set.adds_each (set.empty {R = R}) (map f ns) ≡ union_of (set.adds_each set.empty (map f xs)) (set.adds_each set.empty (map f ys))
+      → set.adds_each (set.empty {R = R}) (map f ns) ≡ union_of (set.of_list (map f xs)) (set.of_list (map f ys))
   union_shown xs ys ns same =
-      shown_alike o ties f ns (xs ++ ys) same ∙ ap (set.adds_each set.empty) (map-append f xs ys) ∙ set_append o ties (map f xs) (map f ys)
+      shown_alike o ties f ns (xs ++ ys) same ∙ ap set.of_list (map-append f xs ys) ∙ set_append o ties (map f xs) (map f ys)
 
   pub with_shown : (x : ℕ) (xs ns : List ℕ) → HasSameMembers ns (x ∷ xs)
-      → set.adds_each (set.empty {R = R}) (map f ns) ≡ set.adds (set.adds_each set.empty (map f xs)) (f x)
+      → set.adds_each (set.empty {R = R}) (map f ns) ≡ set.adds (set.of_list (map f xs)) (f x)
   with_shown x xs ns same = shown_alike o ties f ns (x ∷ xs) same ∙ set_cons o ties (f x) (map f xs)
 
   module _ (P : ℕ → Type 0) (one : (m n : ℕ) → P m → P n → f m ≡ f n → m ≡ n) where
@@ -88,7 +88,7 @@ module _ {K : Type 0} {R : K → K → Ordering} (o : IsTotalOrder R) (ties : fi
 
     -- a set is within another where its list is
     pub subset_shown : (xs ys : List ℕ) → set.IsRising nat_cmp xs → set.IsRising nat_cmp ys → All P xs → All P ys
-        → set.subset (set.of_rising {R = nat_cmp} xs) (set.of_rising ys) ≡ set.subset (set.adds_each (set.empty {R = R}) (map f xs)) (set.adds_each set.empty (map f ys))
+        → set.subset (set.of_rising {R = nat_cmp} xs) (set.of_rising ys) ≡ set.subset (set.adds_each (set.empty {R = R}) (map f xs)) (set.of_list (map f ys))
     subset_shown xs ys up rises h g =
         same_truth _ _
         (λ sub. subset_of_members o _ _ (λ q there.

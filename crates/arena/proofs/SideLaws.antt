@@ -46,11 +46,11 @@ each_more a b ns n f grown h s =
     map-append (formula_at b) ns (n ∷ []) ∙ (λ i. formulas_stay a b grown ns h i ++ is_formula b n f s i ∷ [])
 
 -- the set of a set's listing
-pub listed_set : (s : FormulaSet) → set.adds_each set.empty (set.listing s) ≡ s
+pub listed_set : (s : FormulaSet) → set.of_list (set.listing s) ≡ s
 listed_set s = same_members formula_total formula_ties _ _ (λ q. has-list formula_total formula_ties (set.listing s) q ∙ sym (has-listing s q))
 
 -- the image of the set of a list
-pub image_shown : (g : Formula → Formula) (fs : List Formula) → set.adds_each (set.empty {R = formula_cmp}) (map g fs) ≡ set.adds_each set.empty (map g (set.listing (set.adds_each (set.empty {R = formula_cmp}) fs)))
+pub image_shown : (g : Formula → Formula) (fs : List Formula) → set.adds_each (set.empty {R = formula_cmp}) (map g fs) ≡ set.of_list (map g (set.listing (set.adds_each (set.empty {R = formula_cmp}) fs)))
 image_shown g fs = same_sets formula_total formula_ties _ _ (λ q.
     list_any-map (eq_by_cmp formula_cmp q) g fs
     ∙ sym (any_listing formula_total formula_ties (λ f. eq_by_cmp formula_cmp q (g f)) fs)
@@ -61,7 +61,7 @@ free_in_one v [] = refl
 free_in_one v (f ∷ fs) = list_any-append (eq_by_cmp var_cmp v) (var_list f) (var_lists fs) ∙ λ i. is_free-var_list v f i || free_in_one v fs i
 
 -- the variables of the set of a list
-pub vars_shown : (fs : List Formula) → set.adds_each (set.empty {R = var_cmp}) (var_lists fs) ≡ set.adds_each set.empty (var_lists (set.listing (set.adds_each (set.empty {R = formula_cmp}) fs)))
+pub vars_shown : (fs : List Formula) → set.adds_each (set.empty {R = var_cmp}) (var_lists fs) ≡ set.of_list (var_lists (set.listing (set.adds_each (set.empty {R = formula_cmp}) fs)))
 vars_shown fs = same_sets var_total var_ties _ _ (λ v.
     free_in_one v fs ∙ sym (any_listing formula_total formula_ties (is_free_in v) fs)
     ∙ sym (free_in_one v (set.listing (set.adds_each (set.empty {R = formula_cmp}) fs))))
@@ -88,8 +88,8 @@ var_lists-push [] f = append-nil (var_list f)
 var_lists-push (g ∷ fs) f = ap (λ vs. var_list g ++ vs) (var_lists-push fs f) ∙ sym (append_assoc (var_list g) (var_lists fs) (var_list f))
 
 -- the variables of one more formula
-pub vars_more : (fs : List Formula) (f : Formula) → union_of (set.adds_each (set.empty {R = var_cmp}) (var_lists fs)) (vars_formula f set.empty) ≡ set.adds_each set.empty (var_lists (fs ++ f ∷ []))
-vars_more fs f = sym (set_append var_total var_ties (var_lists fs) (var_list f)) ∙ ap (set.adds_each set.empty) (sym (var_lists-push fs f))
+pub vars_more : (fs : List Formula) (f : Formula) → union_of (set.adds_each (set.empty {R = var_cmp}) (var_lists fs)) (vars_formula f set.empty) ≡ set.of_list (var_lists (fs ++ f ∷ []))
+vars_more fs f = sym (set_append var_total var_ties (var_lists fs) (var_list f)) ∙ ap set.of_list (sym (var_lists-push fs f))
 
 -- what each member of a set passes, each of its list does
 pub formed_members : (fs : List Formula) → list_all is_formed (set.listing (set.adds_each (set.empty {R = formula_cmp}) fs)) ≡ true → All IsFormed fs

@@ -47,9 +47,9 @@ shut_binding v k (sequent x) h = refl
 shut_binding v k (tree x) h = refl
 
 pub shut_vars : (i : Item) → is_open_item i ≡ false → vars_item i ≡ set.empty
-shut_vars (term t) h = ap (set.adds_each set.empty) (list-shut_term t h)
-shut_vars (terms ts) h = ap (set.adds_each set.empty) (list-shut_terms ts h)
-shut_vars (formula f) h = ap (set.adds_each set.empty) (list-shut f h)
+shut_vars (term t) h = ap set.of_list (list-shut_term t h)
+shut_vars (terms ts) h = ap set.of_list (list-shut_terms ts h)
+shut_vars (formula f) h = ap set.of_list (list-shut f h)
 shut_vars (symbol x) h = refl
 shut_vars (variables x) h = refl
 shut_vars (substitution x) h = refl

@@ -22,13 +22,13 @@ use Rattle.arena.specs.TreeVariables.{vars_tree}
 -- the free variables of a term, a list of terms or a formula; other items have none of their own
 abbrev pub vars_item : Item → VarSet
 vars_item (term t) = vars_term t set.empty
-vars_item (terms ts) = set.adds_each set.empty (var_list_terms ts)
+vars_item (terms ts) = set.of_list (var_list_terms ts)
 vars_item (formula f) = vars_formula f set.empty
 vars_item i = set.empty
 
 -- the free variables of a set of formulas
 abbrev pub vars_side : FormulaSet → VarSet
-vars_side s = set.adds_each set.empty (var_lists (set.listing s))
+vars_side s = set.of_list (var_lists (set.listing s))
 
 -- the free variables of an item of any kind
 abbrev pub vars_any : Item → VarSet

@@ -27,7 +27,7 @@ vars_named r = union_of (vars_named_formula (formula_of r)) (vars_named_term (te
 
 -- the variables of a set but for the eigenvariable of a rule
 abbrev pub without_eigen : Rule → VarSet → VarSet
-without_eigen r vs = set.adds_each set.empty (filter (λ v. not (is_eigen v r)) (set.listing vs))
+without_eigen r vs = set.of_list (filter (λ v. not (is_eigen v r)) (set.listing vs))
 
 -- the free variables of a tree: those of its conclusion and of what its rule names, and those of the premises but for the eigenvariable
 abbrev mutual

@@ -277,7 +277,7 @@ impl Arena {
     // The free variables of the formulas at the numbers.
     fn vars_of_each(&mut self, alloc: Global, numbers: &[u32]) -> Result<u32, AllocError>
         requires { All (IsFormulaAt self.old) numbers.now }
-        ensures set { IfOk result (λ n. HasVariables self.new n (set.adds_each set.empty (var_lists (each (formula_at self.old) numbers.now)))) }
+        ensures set { IfOk result (λ n. HasVariables self.new n (set.of_list (var_lists (each (formula_at self.old) numbers.now)))) }
         ensures grown { Extends self.old self.new }
     {
         let mut vars = self.no_variable(alloc)?;

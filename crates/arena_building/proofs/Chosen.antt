@@ -28,16 +28,16 @@ at_next t e is None = refl
 at_next t e is (Some n) = refl
 
 -- by one test or the other
-next_by : (vs : List Var) (t : Term) (e : Exp) (is : Insts) (b : Bool) → first_ready vs is ≡ at_place is (ready_place (set.adds_each set.empty vs) is)
-    → (if not b then Some (record { term = t; tree = e; others = is }) else option_map (behind t e) (first_ready vs is)) ≡ at_place (more t e is) (if b then option_map suc (ready_place (set.adds_each set.empty vs) is) else Some 0)
-next_by vs t e is true h = ap (option_map (behind t e)) h ∙ sym (at_next t e is (ready_place (set.adds_each set.empty vs) is))
+next_by : (vs : List Var) (t : Term) (e : Exp) (is : Insts) (b : Bool) → first_ready vs is ≡ at_place is (ready_place (set.of_list vs) is)
+    → (if not b then Some (record { term = t; tree = e; others = is }) else option_map (behind t e) (first_ready vs is)) ≡ at_place (more t e is) (if b then option_map suc (ready_place (set.of_list vs) is) else Some 0)
+next_by vs t e is true h = ap (option_map (behind t e)) h ∙ sym (at_next t e is (ready_place (set.of_list vs) is))
 next_by vs t e is false h = refl
 
-first_placed : (vs : List Var) (is : Insts) → first_ready vs is ≡ at_place is (ready_place (set.adds_each set.empty vs) is)
+first_placed : (vs : List Var) (is : Insts) → first_ready vs is ≡ at_place is (ready_place (set.of_list vs) is)
 first_placed vs none = refl
 first_placed vs (more t e is) =
     ap (λ b. if b then Some (record { term = t; tree = e; others = is }) else option_map (behind t e) (first_ready vs is)) (ready_by_set vs t)
-    ∙ next_by vs t e is (has_some (set.adds_each set.empty vs) t) (first_placed vs is)
+    ∙ next_by vs t e is (has_some (set.of_list vs) t) (first_placed vs is)
 
 -- the step of the instance at the place, where there is one
 abbrev pub step_at_place : Placed → Option ℕ → Option Step
@@ -48,17 +48,17 @@ weak_placed : (s : Side) (f : Formula) (is : Insts) (o : Option ℕ) → option_
 weak_placed s f is None = refl
 weak_placed s f is (Some n) = refl
 
-tree_placed : (vs : List Var) (s : Side) (e : Exp) → instance_of vs s e ≡ step_at_place (record { side = s; tree = e }) (ready_in (set.adds_each set.empty vs) e)
+tree_placed : (vs : List Var) (s : Side) (e : Exp) → instance_of vs s e ≡ step_at_place (record { side = s; tree = e }) (ready_in (set.of_list vs) e)
 tree_placed vs s (wk f) = refl
 tree_placed vs s (leaf f) = refl
 tree_placed vs s (neg e) = refl
 tree_placed vs s (conj d e) = refl
 tree_placed vs s (disj d e) = refl
 tree_placed vs s (impl d e) = refl
-tree_placed vs s (weak f is) = ap (option_map (instantiated s f)) (first_placed vs is) ∙ weak_placed s f is (ready_place (set.adds_each set.empty vs) is)
+tree_placed vs s (weak f is) = ap (option_map (instantiated s f)) (first_placed vs is) ∙ weak_placed s f is (ready_place (set.of_list vs) is)
 tree_placed vs s (strong f y e) = refl
 
-pub instance_placed : (vs : List Var) (p : Placed) → instance_at vs p ≡ step_at_place p (ready_in (set.adds_each set.empty vs) p.tree)
+pub instance_placed : (vs : List Var) (p : Placed) → instance_at vs p ≡ step_at_place p (ready_in (set.of_list vs) p.tree)
 instance_placed vs p = tree_placed vs p.side p.tree
 
 -- the instance at a place of a list
@@ -136,10 +136,10 @@ placed_alike s (weak f is) vs =
     ] refl
 placed_alike s (strong f y e) vs = refl
 
-pub ready_alike : (vs : List Var) (p : Placed) → is_some (instance_at vs p) ≡ is_some (ready_in (set.adds_each set.empty vs) p.tree)
-ready_alike vs p = ap is_some (instance_placed vs p) ∙ placed_alike p.side p.tree (set.adds_each set.empty vs)
+pub ready_alike : (vs : List Var) (p : Placed) → is_some (instance_at vs p) ≡ is_some (ready_in (set.of_list vs) p.tree)
+ready_alike vs p = ap is_some (instance_placed vs p) ∙ placed_alike p.side p.tree (set.of_list vs)
 
-pub position_alike : (vs : List Var) (l : List Placed) → position (λ p. is_some (instance_at vs p)) l ≡ position (λ p. is_some (ready_in (set.adds_each set.empty vs) p.tree)) l
+pub position_alike : (vs : List Var) (l : List Placed) → position (λ p. is_some (instance_at vs p)) l ≡ position (λ p. is_some (ready_in (set.of_list vs) p.tree)) l
 position_alike vs l = λ i. position (λ p. ready_alike vs p i) l
 
 -- there is an instance at the place that is ready

@@ -76,7 +76,7 @@ leaves_put s (q ∷ l) (suc n) p h =
     ∙ (ap (λ (fs : List Formula). option_to_list (leaf_on s q) ++ fs) (leaves_put s l n p h) ∙ sym (leaf_first s q l))
 
 open_put : (l : List Placed) (n : ℕ) (p : Placed) → ((s : Side) → leaf_on s p ≡ None) → closing_rule (leaf_sequent (put l n (p ∷ []))) ≡ closing_rule (leaf_sequent l)
-open_put l n p h = λ i. closing_rule (record { left = set.adds_each set.empty (leaves_put Left l n p (h Left) i); right = set.adds_each set.empty (leaves_put Right l n p (h Right) i) })
+open_put l n p h = λ i. closing_rule (record { left = set.of_list (leaves_put Left l n p (h Left) i); right = set.of_list (leaves_put Right l n p (h Right) i) })
 
 open_removed : (l : List Placed) (n : ℕ) (p : Placed) → slice_get l n ≡ Some p → ((s : Side) → leaf_on s p ≡ None) → IsOpen l → IsOpen (remove l n)
 open_removed l n p there unused h = sym (open_put (remove l n) n p unused) ∙ (ap (λ (ps : List Placed). closing_rule (leaf_sequent ps)) (put_back l n p there) ∙ h)

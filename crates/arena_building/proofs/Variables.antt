@@ -38,11 +38,11 @@ any_swapped r (x ∷ xs) ys = ap (λ b. list_any (r x) ys || b) (any_swapped r x
 in_set : (vs : List Var) (v : Var) → set.has (set.adds_each (set.empty {R = var_cmp}) vs) v ≡ list_any (eq_by_cmp var_cmp v) vs
 in_set vs v = has-adds_each var_total set.empty vs v ∙ ap (λ b. b || list_any (eq_by_cmp var_cmp v) vs) (has-empty var_cmp v)
 
-some_stands : (vs : List Var) (t : Term) → has_some (set.adds_each set.empty vs) t ≡ list_any (λ v. is_free_in_term v t) vs
+some_stands : (vs : List Var) (t : Term) → has_some (set.of_list vs) t ≡ list_any (λ v. is_free_in_term v t) vs
 some_stands vs t =
     (λ i. list_any (λ u. in_set vs u i) (var_list_term t))
     ∙ (any_swapped (eq_by_cmp var_cmp) (var_list_term t) vs
     ∙ (λ i. list_any (λ v. ((λ j. list_any (λ u. (eq_by_cmp_equiv var_total).symm u v j) (var_list_term t)) ∙ is_free-var_list_term v t) i) vs))
 
-pub ready_by_set : (vs : List Var) (t : Term) → is_ready vs t ≡ not (has_some (set.adds_each set.empty vs) t)
+pub ready_by_set : (vs : List Var) (t : Term) → is_ready vs t ≡ not (has_some (set.of_list vs) t)
 ready_by_set vs t = ap not (sym (some_stands vs t))

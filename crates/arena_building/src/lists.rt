@@ -71,7 +71,7 @@ impl<'e> Rest<'e> {
 
 // The variables of the strong quantifiers that are still in the list.
 fn strong_vars(alloc: Global, list: &[PlacedExp<'_>]) -> Result<Vars, AllocError>
-    ensures { IfOk result (λ vars. vars ≡ set.adds_each set.empty (strongs_in_list (placed_in list.now))) }
+    ensures { IfOk result (λ vars. vars ≡ set.of_list (strongs_in_list (placed_in list.now))) }
 {
     let mut vars = Vec::new(alloc);
     for placed in list {
@@ -95,7 +95,7 @@ fn begins_closed(list: &[PlacedExp<'_>]) -> bool
 /// Variables by which the first instance is found that may be taken. The variables of the strong quantifiers are looked for only where the
 /// first instance of all has a free variable.
 pub(crate) fn awaited_vars(alloc: Global, list: &[PlacedExp<'_>]) -> Result<Vars, AllocError>
-    ensures { IfOk result (λ vars. IsAsReady vars (set.adds_each set.empty (strongs_in_list (placed_in list.now))) (placed_in list.now)) }
+    ensures { IfOk result (λ vars. IsAsReady vars (set.of_list (strongs_in_list (placed_in list.now))) (placed_in list.now)) }
 {
     if begins_closed(list) {
         return Ok(Vars::new(alloc));

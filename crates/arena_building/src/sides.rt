@@ -181,7 +181,7 @@ fn side_of(
     side: Side,
 ) -> Result<u32, AllocError>
     requires { All (IsNumbered arena.old) list.now }
-    ensures side { IfOk result (λ n. HasSide arena.new n (set.adds_each set.empty (map shallow (trees_on side (trees list.now))))) }
+    ensures side { IfOk result (λ n. HasSide arena.new n (set.of_list (map shallow (trees_on side (trees list.now))))) }
     ensures grown { Extends arena.old arena.new }
 {
     let mut formulas = Vec::new(alloc);

@@ -85,7 +85,7 @@ fn take_instance<'e>(
 ) -> Result<Taken<'e>, AllocError>
     requires numbers { All (IsNumbered arena.old) list.items }
     requires open_leaves { IsOpen (trees list.items) }
-    requires vars { IsAsReady vars.now (set.adds_each set.empty (strongs_in_list (trees list.items))) (trees list.items) }
+    requires vars { IsAsReady vars.now (set.of_list (strongs_in_list (trees list.items))) (trees list.items) }
     requires place { position (λ q. is_some (ready_in vars.now q.placed.tree)) list.items ≡ Some place }
     ensures step { IfOk result (λ t. first_step (instance_at (strongs_in_list (trees list.entry.items))) (trees list.entry.items) ≡ Some (step_of arena.new t)) }
     ensures rule { IfOk result (λ t. HasRuleParts arena.new t.rule) }

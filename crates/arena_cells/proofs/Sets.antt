@@ -72,7 +72,7 @@ module _ {K : Type 0} {R : K → K → Ordering} (o : IsTotalOrder R) (ties : fi
 
   -- rising lists of numbers that show one set are one list
   pub one_list : (ns ms : List ℕ) → set.IsRising nat_cmp ns → set.IsRising nat_cmp ms → All P ns → All P ms
-      → set.adds_each (set.empty {R = R}) (map f ns) ≡ set.adds_each set.empty (map f ms) → ns ≡ ms
+      → set.adds_each (set.empty {R = R}) (map f ns) ≡ set.of_list (map f ms) → ns ≡ ms
   one_list ns ms up rises h g same =
       let members : (q : K) → list_any (eq_by_cmp R q) (map f ns) ≡ list_any (eq_by_cmp R q) (map f ms) =
       λ q. sym (has-set_of o f ns q) ∙ ap (λ s. set.has s q) same ∙ has-set_of o f ms q in

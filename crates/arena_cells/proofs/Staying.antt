@@ -148,9 +148,9 @@ module _ (a b : List Item) (grown : Extends a b) where
   meaning_stays (Imp f g) h = λ i. formula (fol.imp (formula_stays f h.0 i) (formula_stays g h.1 i))
   meaning_stays (Forall f) h = λ i. formula (fol.all (formula_stays f h i))
   meaning_stays (Ex f) h = λ i. formula (fol.ex (formula_stays f h i))
-  meaning_stays (Variables ns) h = λ i. variables (set.adds_each set.empty (variables_stay ns h.members i))
+  meaning_stays (Variables ns) h = λ i. variables (set.of_list (variables_stay ns h.members i))
   meaning_stays (Map vs ts) h = λ i. substitution (bindings (variables_stay vs h.variables.members i) (values_stay ts h.values i))
-  meaning_stays (Side ns) h = λ i. side (set.adds_each set.empty (formulas_stay ns h.members i))
+  meaning_stays (Side ns) h = λ i. side (set.of_list (formulas_stay ns h.members i))
   meaning_stays (Sequent l r) h = λ i. sequent (record { left = side_stays l h.0 i; right = side_stays r h.1 i })
   meaning_stays (Tree r e ps) h = λ i. tree (node (rule_stays r h.0 i) (sequent_stays e h.1.0 i) (trees_stay ps h.1.1 i))
 

@@ -55,11 +55,11 @@ trees_at a (Two p q) = more (tree_at a p) (more (tree_at a q) none)
 
 -- the set of the formulas at the numbers
 abbrev pub formulas_of : List Item → List ℕ → FormulaSet
-formulas_of a ns = set.adds_each set.empty (map (formula_at a) ns)
+formulas_of a ns = set.of_list (map (formula_at a) ns)
 
 -- the set of the variables at the numbers
 abbrev pub vars_of : List Item → List ℕ → VarSet
-vars_of a ns = set.adds_each set.empty (map (variable_at a) ns)
+vars_of a ns = set.of_list (map (variable_at a) ns)
 
 -- the map from variables to the terms at the same places
 abbrev pub bindings : List Var → List Term → Substitution

@@ -16,3 +16,7 @@ pub record IsEliminated (a : List Item) (n : ℕ) (e : Reduced) : Type 0 where
 -- each entry of a table does
 abbrev pub AreEliminated : {S : Type 0} → List Item → HashMap ℕ Reduced S → Type 0
 AreEliminated a table = (n : ℕ) → IfSome (hash.get nat_eq table n) (IsEliminated a n)
+
+-- no entry took a contraction
+abbrev pub AreFree : {S : Type 0} → HashMap ℕ Reduced S → Type 0
+AreFree table = (n : ℕ) → IfSome (hash.get nat_eq table n) (λ e. e.reductions ≡ 0)

@@ -71,14 +71,15 @@ fn by_case(arena: &mut Arena, alloc: Global, cut: Cut, case: Case) -> Result<u32
 }
 
 /// The contraction of a cut, after Gentzen (1935), by the numbers of its conclusion, its formula and its premises: cuts that stand higher
-/// or are on smaller formulas take its place, or none. The conclusion stays.
-pub fn contract_in(
+/// or are on smaller formulas take its place, or none. The conclusion stays. It is one step, also where memory is wanting.
+pub fn contract_in<L: Ledger>(
     arena: &mut Arena,
     alloc: Global,
     end: u32,
     formula: u32,
     left: u32,
     right: u32,
+    steps: &mut Steps<L>,
 ) -> Result<u32, AllocError>
     requires end { IsSequentAt arena.old end }
     requires formula { IsFormulaAt arena.old formula }
@@ -88,7 +89,9 @@ pub fn contract_in(
     requires right_valid { IsValid (tree_at arena.old right) }
     ensures tree { IfOk result (λ n. HasTree arena.new n (con (sequent_at arena.old end) (formula_at arena.old formula) (tree_at arena.old left) (tree_at arena.old right))) }
     ensures grown { Extends arena.old arena.new }
+    ensures counted { steps.new ≡ steps.old + 1 }
 {
+    steps.tick();
     let cut = Cut {
         end,
         formula,
@@ -97,22 +100,4 @@ pub fn contract_in(
     };
     let case = case_at(arena, cut);
     by_case(arena, alloc, cut, case)
-}
-
-/// The contraction of a cut as one step, also where memory is wanting.
-pub(crate) fn contract_counted<L: Ledger>(
-    arena: &mut Arena,
-    alloc: Global,
-    cut: Cut,
-    steps: &mut Steps<L>,
-) -> Result<u32, AllocError>
-    requires cut { IsCutAt arena.old cut }
-    requires left_valid { IsValid (tree_at arena.old cut.left) }
-    requires right_valid { IsValid (tree_at arena.old cut.right) }
-    ensures tree { IfOk result (λ n. HasTree arena.new n (con (sequent_at arena.old cut.end) (formula_at arena.old cut.formula) (tree_at arena.old cut.left) (tree_at arena.old cut.right))) }
-    ensures grown { Extends arena.old arena.new }
-    ensures counted { steps.new ≡ steps.old + 1 }
-{
-    steps.tick();
-    contract_in(arena, alloc, cut.end, cut.formula, cut.left, cut.right)
 }

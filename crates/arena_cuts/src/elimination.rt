@@ -7,10 +7,10 @@ ghost use Rattle.cut_laws.specs.Budgets.{contracted, elimination_all};
 ghost use Rattle.arena_cells.specs.Standing.{Extends, sequent_at, formula_at, tree_at, IsSequentAt, IsFormulaAt, IsTreeAt};
 ghost use Rattle.arena_cells.specs.Meaning.{trees_at, HasPremises};
 ghost use Rattle.arena_cuts.specs.CutNumbers.{IsCutAt, cut_at};
-ghost use Rattle.arena_cuts.specs.Tables.{AreEliminated};
+ghost use Rattle.arena_cuts.specs.Tables.{AreEliminated, AreFree};
 ghost use Rattle.arena_cuts.specs.Pairs.{AreBoth};
 
-use crate::contraction::contract_counted;
+use crate::contraction::contract_in;
 use crate::cut::Cut;
 use crate::fault::ElimFault;
 use crate::steps::Steps;
@@ -60,6 +60,10 @@ pub fn eliminate_in<L: Ledger>(
     ensures grown { Extends arena.old arena.new }
     ensures counted_ok { IfOk result (λ made. steps.new ≤ steps.old + made.reductions) }
     ensures counted { steps.new ≤ steps.old + budget }
+    ensures rises { steps.old ≤ steps.new }
+
+    // Where the table tells of no contraction, one is counted at least for an answer that took some.
+    ensures least { AreFree table.old → steps.new ≡ steps.old → AreFree table.new × IfOk result (λ made. made.reductions ≡ 0) }
 
     // So no proof is worked on whose elimination is known, wherever it stands.
     ensures known { is_some (hash.get nat_eq table.old proof) ≡ true → (table.new ≡ table.old) × (arena.new ≡ arena.old) × (steps.new ≡ steps.old) }
@@ -98,6 +102,8 @@ fn eliminate_root<L: Ledger>(
     ensures grown { Extends arena.old arena.new }
     ensures counted_ok { IfOk result (λ made. steps.new ≤ steps.old + made.reductions) }
     ensures counted { steps.new ≤ steps.old + budget }
+    ensures rises { steps.old ≤ steps.new }
+    ensures least { AreFree table.old → steps.new ≡ steps.old → AreFree table.new × IfOk result (λ made. made.reductions ≡ 0) }
 {
     let RuleKey::Cut(formula) = rule(arena, proof) else {
         return eliminate_other(arena, alloc, table, proof, budget, steps);
@@ -134,6 +140,8 @@ fn eliminate_cut<L: Ledger>(
     ensures grown { Extends arena.old arena.new }
     ensures counted_ok { IfOk result (λ made. steps.new ≤ steps.old + made.reductions) }
     ensures counted { steps.new ≤ steps.old + budget }
+    ensures rises { steps.old ≤ steps.new }
+    ensures least { AreFree table.old → steps.new ≡ steps.old → AreFree table.new × IfOk result (λ made. made.reductions ≡ 0) }
 {
     laws::big_steps();
     laws::falling_work();
@@ -184,10 +192,19 @@ fn eliminate_lowest<L: Ledger>(
     ensures grown { Extends arena.old arena.new }
     ensures counted_ok { IfOk result (λ made. steps.new ≤ steps.old + made.reductions) }
     ensures counted { steps.new ≤ steps.old + budget }
+    ensures rises { steps.old < steps.new }
 {
     laws::budgets();
     cut_laws::laws::contraction();
-    let Ok(made) = contract_counted(arena, alloc, cut, steps) else {
+    let Ok(made) = contract_in(
+        arena,
+        alloc,
+        cut.end,
+        cut.formula,
+        cut.left,
+        cut.right,
+        steps,
+    ) else {
         return Err(ElimFault::Memory);
     };
     let last = match eliminate_in(arena, alloc, table, made, budget - 1, steps) {
@@ -221,6 +238,8 @@ fn eliminate_other<L: Ledger>(
     ensures grown { Extends arena.old arena.new }
     ensures counted_ok { IfOk result (λ made. steps.new ≤ steps.old + made.reductions) }
     ensures counted { steps.new ≤ steps.old + budget }
+    ensures rises { steps.old ≤ steps.new }
+    ensures least { AreFree table.old → steps.new ≡ steps.old → AreFree table.new × IfOk result (λ made. made.reductions ≡ 0) }
 {
     laws::big_steps();
     laws::least();
@@ -262,6 +281,8 @@ fn eliminate_all<L: Ledger>(
     ensures grown { Extends arena.old arena.new }
     ensures counted_ok { IfOk result (λ made. steps.new ≤ steps.old + made.reductions) }
     ensures counted { steps.new ≤ steps.old + budget }
+    ensures rises { steps.old ≤ steps.new }
+    ensures least { AreFree table.old → steps.new ≡ steps.old → AreFree table.new × IfOk result (λ made. made.reductions ≡ 0) }
 {
     laws::falling_work();
     match proofs {
@@ -311,6 +332,8 @@ fn eliminate_both<L: Ledger>(
     ensures grown { Extends arena.old arena.new }
     ensures counted_ok { IfOk result (λ made. steps.new ≤ steps.old + (made.left.reductions + made.right.reductions)) }
     ensures counted { steps.new ≤ steps.old + budget }
+    ensures rises { steps.old ≤ steps.new }
+    ensures least { AreFree table.old → steps.new ≡ steps.old → AreFree table.new × IfOk result (λ made. made.left.reductions + made.right.reductions ≡ 0) }
 {
     laws::budgets();
     let first = match eliminate_in(arena, alloc, table, left, budget, steps) {

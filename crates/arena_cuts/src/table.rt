@@ -3,7 +3,7 @@ ghost use Rattle.std.specs.Prelude.{◌≡◌, true, nat_eq, Some, None, is_some
 ghost use Rattle.std.specs.HashMap as hash;
 ghost use Rattle.cut_laws.specs.Elimination.{elimination};
 ghost use Rattle.arena_cells.specs.Standing.{tree_at, IsTreeAt};
-ghost use Rattle.arena_cuts.specs.Tables.{IsEliminated, AreEliminated};
+ghost use Rattle.arena_cuts.specs.Tables.{IsEliminated, AreEliminated, AreFree};
 
 use crate::fault::ElimFault;
 use arena::Arena;
@@ -25,6 +25,7 @@ fn answer(arena: &Arena, proof: u32, entry: Reduced, budget: u64) -> Result<Redu
     ensures there { IfOk result (λ made. IsTreeAt arena.now made.proof) }
     ensures ok { IfOk result (λ made. elimination (tree_at arena.now proof) budget ≡ Some (tree_at arena.now made.proof, made.reductions)) }
     ensures budget { result ≡ Err ElimFault.Budget → elimination (tree_at arena.now proof) budget ≡ None }
+    ensures same { IfOk result (λ made. made ≡ entry) }
 {
     let _arena = arena;
     laws::budgets();
@@ -46,6 +47,7 @@ pub(crate) fn look_up(
     ensures ok { IfSome result (λ known. IfOk known (λ made. elimination (tree_at arena.now proof) budget ≡ Some (tree_at arena.now made.proof, made.reductions))) }
     ensures budget { result ≡ Some (Err ElimFault.Budget) → elimination (tree_at arena.now proof) budget ≡ None }
     ensures found { is_some (hash.get nat_eq table.now proof) ≡ true → is_some result ≡ true }
+    ensures free { AreFree table.now → IfSome result (λ known. IfOk known (λ made. made.reductions ≡ 0)) }
 {
     match table.get(&proof) {
         Some(entry) => Some(answer(arena, proof, *entry, budget)),
@@ -64,7 +66,8 @@ pub(crate) fn note(
     requires there { IsTreeAt arena.now made.proof }
     requires table { AreEliminated arena.now table.old }
     requires known { elimination (tree_at arena.now proof) made.reductions ≡ Some (tree_at arena.now made.proof, made.reductions) }
-    ensures { AreEliminated arena.now table.new }
+    ensures table { AreEliminated arena.now table.new }
+    ensures free { AreFree table.old → made.reductions ≡ 0 → AreFree table.new }
 {
     let _arena = arena;
     table.insert(proof, made)?;

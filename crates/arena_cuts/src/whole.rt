@@ -8,7 +8,7 @@ ghost use Rattle.arena_cells.specs.Meaning.{trees_at, HasPremises};
 ghost use Rattle.arena_cuts.specs.CutNumbers.{IsCutAt, cut_at};
 ghost use Rattle.arena_cuts.specs.Whole.{ReducesTo, ReduceTo, AreReduced, AreBothReduced};
 
-use crate::contraction::contract_counted;
+use crate::contraction::contract_in;
 use crate::cut::Cut;
 use crate::steps::Steps;
 use arena::{Arena, Parts, RuleKey};
@@ -169,7 +169,15 @@ fn whole_lowest<L: Ledger>(
     ensures grown { Extends arena.old arena.new }
 {
     laws::contraction();
-    match contract_counted(arena, alloc, cut, steps) {
+    match contract_in(
+        arena,
+        alloc,
+        cut.end,
+        cut.formula,
+        cut.left,
+        cut.right,
+        steps,
+    ) {
         Ok(made) => eliminate_whole_in(arena, alloc, table, made, steps),
         Err(fault) => Err(fault),
     }

@@ -31,7 +31,7 @@ mapped_twice g h (n ∷ ns) = ap (λ fs. h (g n) ∷ fs) (mapped_twice g h ns)
 -- the set of a side's formulas with all unfolded
 pub side_shown : (a b : List Item) (s : FormulaSet) (ns ms : List ℕ) → s ≡ formulas_of a ns → map (formula_at b) ms ≡ map (λ n. flat (formula_at a n)) ns → formulas_of b ms ≡ flat_set s
 side_shown a b s ns ms shown each =
-    ap (set.adds_each set.empty) (each ∙ mapped_twice (formula_at a) flat ns) ∙ image_shown flat (map (formula_at a) ns) ∙ ap flat_set (sym shown)
+    ap set.of_list (each ∙ mapped_twice (formula_at a) flat ns) ∙ image_shown flat (map (formula_at a) ns) ∙ ap flat_set (sym shown)
 
 -- what holds of the formula at each number holds of each formula of the set
 among_formulas : (P : Formula → Type 0) (g : ℕ → Formula) (ns : List ℕ) (f : Formula) → All (λ n. P (g n)) ns → list_any (eq_by_cmp formula_cmp f) (map g ns) ≡ true → P f

@@ -53,7 +53,7 @@ module _ {K : Type 0} (R : K → K → Ordering) (o : IsTotalOrder R) (ties : fi
   len_of_each s (x ∷ xs) = omega (arith, len_of_each (set.adds s x) xs, fin.len-insert o s x tt, one_more (set.has s x) (fin.len s))
 
   pub length_of_set : (xs : List K) → length (set.listing (set.adds_each (set.empty {R = R}) xs)) ≤ length xs
-  length_of_set xs = omega (arith, sized (set.adds_each set.empty xs), len_of_each set.empty xs, fin.len-empty R (Unit {0}))
+  length_of_set xs = omega (arith, sized (set.of_list xs), len_of_each set.empty xs, fin.len-empty R (Unit {0}))
 
   pub same_of_size : (s t : set.Finite R) → set.IsSubset s t → length (set.listing t) ≤ length (set.listing s) → s ≡ t
   same_of_size s t h l =

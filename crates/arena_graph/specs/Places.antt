@@ -14,7 +14,7 @@ pub record ArePlaces (es : List RankedFormula) (ps : List ℕ) : Type 0 where
 
 -- the set of the formulas at places
 abbrev pub formulas_at : List RankedFormula → List ℕ → FormulaSet
-formulas_at es ps = set.adds_each set.empty (map (formula_in es) ps)
+formulas_at es ps = set.of_list (map (formula_in es) ps)
 
 -- places of the formulas of a set
 pub record ArePlacesOf (es : List RankedFormula) (s : FormulaSet) (ps : List ℕ) : Type 0 where

@@ -56,8 +56,8 @@ leaf_formulas (e ∷ es) = leaf_formulas es
 
 abbrev pub leaf_sequent : List Placed → Sequent
 leaf_sequent l = record {
-  left = set.adds_each set.empty (leaf_formulas (trees_on Left l));
-  right = set.adds_each set.empty (leaf_formulas (trees_on Right l));
+  left = set.of_list (leaf_formulas (trees_on Left l));
+  right = set.of_list (leaf_formulas (trees_on Right l));
 }
 
 -- the variables of the strong quantifiers that are still in the list

@@ -1,30 +1,32 @@
 -- The words that the command takes by clap's statement are those that ask for settings, and for just these settings.
-use Rattle.std.proofs.Common.{map, Result, Ok, Err, IfOk, String, string_bytes, ◌==◌, zero, suc, ◌≡◌, ◌∙◌, ◌<◌, ◌≤◌, ◌^◌, ℕ, List, [], ◌∷◌, ◌++◌, Option, Some, None, Bool, true, false, refl, sym, ap, ap₂, subst, inl, inr, codes, length, get_or, arith, lit<}
-use Rattle.std.specs.Prelude.{nat_le, unwrap_or}
+use Rattle.std.proofs.Common.{map, Result, Ok, Err, IfOk, String, string_bytes, ◌==◌, zero, suc, ◌≡◌, ◌∙◌, ◌<◌, ◌≤◌, ◌^◌, ℕ, List, [], ◌∷◌, ◌++◌, Option, Some, None, Bool, true, false, refl, sym, ap, ap₂, subst, inl, inr, codes, is_some, length, get_or, option_map, arith, lit<}
+use Rattle.std.specs.Prelude.{nat_le, option_and_then, unwrap_or}
+use Rattle.std.specs.Char.{encode_utf8}
 use Rattle.std.specs.Fmt.{decimal}
 use Rattle.std.specs.List.{All}
 use Rattle.std.specs.Str.{IsUtf8, all_ascii_digits}
 use Rattle.std.specs.Str.Parse.{digits_value}
 use Rattle.std.proofs.lemmas.Bool.Decides.{nat_tests}
 use Rattle.std.proofs.lemmas.Fmt.{decimal-digits_value, decimal_digit, first_decimal}
-use Rattle.std.proofs.lemmas.List.Elements.{All-cons, All-nil}
+use Rattle.std.proofs.lemmas.List.Elements.{All-cons, All-nil, All-tail}
 use Rattle.clap.specs.declared.error.kind.ErrorKind.{ErrorKind}
+use Rattle.clap.specs.declared.parser.matches.ValueSource.TheVariants.{DefaultValue}
 use Rattle.std.proofs.lemmas.Str.{IsUtf8-string_bytes}
 use Rattle.command_words.specs.declared.reading.WordsError.{WordsError}
 use Rattle.command_words.specs.declared.reading.WordsError.TheVariants.{Usage}
-use Rattle.clap.specs.Walk.{is_empty, Text, nothing_held, settled, walk_from}
-use Rattle.clap.specs.Words.{Kinds, fault_of, first_of, matches_of}
+use Rattle.clap.specs.Walk.{Row, is_empty, Text, more_values, nothing_held, reading_by, row_text, settled, walk_from, with_default}
+use Rattle.clap.specs.Words.{Kinds, fault_of, first_of, matches_of, one_of}
 use Rattle.command_words.specs.Numbers.{has_leading_digit, number_up_to}
-use Rattle.command_words.specs.Taken.{AskFor, Choice, IsInRange, Write, made_of, number, option_word}
+use Rattle.command_words.specs.Taken.{AskFor, Choice, IsInRange, Write, WriteChoice, bundled_by, bundled_in, generate_by, generate_in, made_of, settings_from, workers_by, workers_in}
 use Rattle.command_words.specs.Taken as taken
-use Rattle.command_words.specs.Words.{Answers, gaptd, generate_of, settings_from, settings_of, workers_of}
+use Rattle.command_words.specs.Words.{Answers, gaptd, generate_of, settings_of, workers_of}
 use Rattle.command_words.specs.declared.reading.Settings.{Settings}
 use Rattle.command_words.proofs.Complete.{complete}
-use Rattle.command_words.proofs.Moves.{IsValue, Spelled, all_more}
+use Rattle.command_words.proofs.Moves.{Begins, IsValue, Spelled, all_more}
 use Rattle.command_words.proofs.NumberLemmas.{own_digits}
 use Rattle.command_words.proofs.Readings.{number_back}
 use Rattle.command_words.proofs.Sound.{fault_is_rest, holds_nothing, sound}
-use Rattle.command_words.proofs.Walks.{Name, workers, generate, Given, nothing, one, both, dashed, finished_is, last, rows_with, rules}
+use Rattle.command_words.proofs.Walks.{Fits, Given, Use, added, behind_none, behind_other, bundled, finished_is, flag, found, generate, given, has_found, last, nothing, row, rules, valued, workers}
 
 -- ---- numbers
 
@@ -68,146 +70,279 @@ value_word (x ∷ xs) low =
 
 -- ---- settings from what was given
 
-abbrev value_of : Name → Given → Option Text
-value_of o nothing = None
-value_of workers (one workers v) = Some v
-value_of workers (one generate v) = None
-value_of generate (one workers v) = None
-value_of generate (one generate v) = Some v
-value_of workers (both workers v u) = Some v
-value_of workers (both generate v u) = Some u
-value_of generate (both workers v u) = Some u
-value_of generate (both generate v u) = Some v
+-- what the command reads of the matches
+abbrev Read : List Row → Option Text → Option Text → Text → Type 0
+Read rows w g text = (first_of (codes "workers") rows ≡ w) × (first_of (codes "gen") rows ≡ g) × (one_of (codes "sessions") rows ≡ Some text)
 
-value_in_rows : (t : Given) → (first_of (codes "workers") (rows_with t) ≡ value_of workers t) × (first_of (codes "gen") (rows_with t) ≡ value_of generate t)
-value_in_rows nothing = (refl, refl)
-value_in_rows (one workers v) = (refl, refl)
-value_in_rows (one generate v) = (refl, refl)
-value_in_rows (both workers v u) = (refl, refl)
-value_in_rows (both generate v u) = (refl, refl)
+read_of : (rows : List Row) (w g : Option Text) (r : Row) (text : Text) → found (codes "workers") rows ≡ option_map (λ v. row (valued workers v)) w
+    → found (codes "gen") rows ≡ option_map (λ v. row (valued generate v)) g → found (codes "sessions") rows ≡ Some r → row_text r ≡ Some text
+    → Read rows w g text
+read_of rows None None r text a b c e = (rw a refl, rw b refl, rw c e)
+read_of rows None (Some u) r text a b c e = (rw a refl, rw b refl, rw c e)
+read_of rows (Some v) None r text a b c e = (rw a refl, rw b refl, rw c e)
+read_of rows (Some v) (Some u) r text a b c e = (rw a refl, rw b refl, rw c e)
+
+-- the row that the flag has by default
+abbrev default_row : Row
+default_row = record {
+  id = codes "sessions";
+  values = codes "false" ∷ [];
+  count = None;
+  source = Some DefaultValue;
+  reading = reading_by flag;
+}
+
+abbrev pub flag_text : Bool → Text
+flag_text true = codes "true"
+flag_text false = codes "false"
+
+read_at_end : (rows : List Row) (w g : Option Text) (s : Bool) → Fits rows (given w g s) → Read (with_default rows flag) w g (flag_text s)
+read_at_end rows w g true (a, b, c) =
+    let is : with_default rows flag ≡ rows = rw (has_found (codes "sessions") rows ∙ ap is_some c) refl in
+    subst (λ l. Read l w g (codes "true")) (sym is) (read_of rows w g (row bundled) (codes "true") a b c refl)
+read_at_end rows w g false (a, b, c) =
+    let is : with_default rows flag ≡ rows ++ default_row ∷ [] =
+    rw (has_found (codes "sessions") rows ∙ ap is_some c) (added (codes "sessions") (more_values DefaultValue (codes "false" ∷ [])) (default_row ∷ [])
+    rows c) in
+    subst (λ l. Read l w g (codes "false")) (sym is)
+    (read_of (rows ++ default_row ∷ []) w g default_row (codes "false") (behind_other (codes "workers") rows default_row refl ∙ a)
+    (behind_other (codes "gen") rows default_row refl ∙ b) (behind_none (codes "sessions") rows default_row c) refl)
+
+-- the same of the matches
+pub read_given : (words : List Text) (w g : Option Text) (s : Bool) → Fits (settled rules (last (walk_from nothing_held) words)).rows (given w g s)
+    → Read (matches_of gaptd (codes "gaptd" ∷ words)) w g (flag_text s)
+read_given words w g s fits =
+    subst (λ l. Read l w g (flag_text s)) (sym (finished_is (last (walk_from nothing_held) words)))
+    (read_at_end (settled rules (last (walk_from nothing_held) words)).rows w g s fits)
 
 abbrev settings_with : Given → Option Settings
-settings_with t = settings_from (workers_of (value_of workers t)) (generate_of (value_of generate t))
+settings_with (given w g s) = settings_from (workers_of w) (generate_of g) (Some s)
 
 settings_given : (words : List Text) (t : Given) → fault_of gaptd (codes "gaptd" ∷ words) ≡ []
-    → (settled rules (last (walk_from nothing_held) words)).rows ≡ rows_with t → settings_of words ≡ settings_with t
-settings_given words t none rows =
-    let matches : matches_of gaptd (codes "gaptd" ∷ words) ≡ rows_with t = finished_is (last (walk_from nothing_held) words) ∙ rows in
-    rw (none, matches, (value_in_rows t).0, (value_in_rows t).1) refl
+    → Fits (settled rules (last (walk_from nothing_held) words)).rows t → settings_of words ≡ settings_with t
+settings_given words (given w g true) none fits = let read = read_given words w g true fits in rw (none, read.0, read.1, read.2) refl
+settings_given words (given w g false) none fits = let read = read_given words w g false fits in rw (none, read.0, read.1, read.2) refl
+
+-- ---- what uses give, as lists
+
+abbrev workers_texts : List Use → List Text
+workers_texts [] = []
+workers_texts (valued workers v ∷ uses) = v ∷ workers_texts uses
+workers_texts (u ∷ uses) = workers_texts uses
+
+abbrev generate_texts : List Use → List Text
+generate_texts [] = []
+generate_texts (valued generate v ∷ uses) = v ∷ generate_texts uses
+generate_texts (u ∷ uses) = generate_texts uses
+
+abbrev flags : List Use → ℕ
+flags [] = 0
+flags (bundled ∷ uses) = suc (flags uses)
+flags (u ∷ uses) = flags uses
+
+-- one text at most
+abbrev once : List Text → Option (Option Text)
+once [] = Some None
+once (v ∷ []) = Some (Some v)
+once _ = None
+
+-- what was given before, and then these
+abbrev after_given : Option Text → List Text → List Text
+after_given None vs = vs
+after_given (Some v) vs = v ∷ vs
+
+abbrev one_more : Bool → ℕ → ℕ
+one_more false n = n
+one_more true n = suc n
+
+abbrev all_given : Option (Option Text) → Option (Option Text) → Option Bool → Option Given
+all_given (Some w) (Some g) (Some s) = Some (given w g s)
+all_given _ _ _ = None
+
+no_second : (a : Option (Option Text)) (c : Option Bool) → all_given a None c ≡ None
+no_second None c = refl
+no_second (Some w) c = refl
+
+no_third : (a b : Option (Option Text)) → all_given a b None ≡ None
+no_third None b = refl
+no_third (Some w) None = refl
+no_third (Some w) (Some g) = refl
+
+-- the uses taken in turn, as the lists of what they give
+in_turn : (uses : List Use) (w g : Option Text) (s : Bool) → all_more uses (given w g s)
+    ≡ all_given (once (after_given w (workers_texts uses))) (once (after_given g (generate_texts uses))) (bundled_by (one_more s (flags uses)))
+in_turn [] None None false = refl
+in_turn [] None None true = refl
+in_turn [] None (Some u) false = refl
+in_turn [] None (Some u) true = refl
+in_turn [] (Some v) None false = refl
+in_turn [] (Some v) None true = refl
+in_turn [] (Some v) (Some u) false = refl
+in_turn [] (Some v) (Some u) true = refl
+in_turn (valued workers v ∷ uses) None g s = in_turn uses (Some v) g s
+in_turn (valued workers v ∷ uses) (Some u) g s = refl
+in_turn (valued generate v ∷ uses) w None s = in_turn uses w (Some v) s
+in_turn (valued generate v ∷ uses) w (Some u) s =
+    sym (no_second (once (after_given w (workers_texts uses))) (bundled_by (one_more s (flags uses))))
+in_turn (bundled ∷ uses) w g false = in_turn uses w g true
+in_turn (bundled ∷ uses) w g true =
+    sym (no_third (once (after_given w (workers_texts uses))) (once (after_given g (generate_texts uses))))
+
+none_from : (a : Option ℕ) (b : Option (Option ℕ)) → settings_from a b None ≡ None
+none_from None b = refl
+none_from (Some n) None = refl
+none_from (Some n) (Some None) = refl
+none_from (Some n) (Some (Some m)) = refl
+
+no_jobs_from : (a : Option ℕ) (c : Option Bool) → settings_from a None c ≡ None
+no_jobs_from None c = refl
+no_jobs_from (Some n) c = refl
+
+settings_apart : (a b : Option (Option Text)) (c : Option Bool)
+    → option_and_then settings_with (all_given a b c) ≡ settings_from (option_and_then workers_of a) (option_and_then generate_of b) c
+settings_apart (Some w) (Some g) (Some s) = refl
+settings_apart (Some w) (Some g) None = sym (none_from (workers_of w) (generate_of g))
+settings_apart (Some w) None c = sym (no_jobs_from (workers_of w) c)
+settings_apart None b c = refl
+
+abbrev settings_by : List Use → Option Settings
+settings_by uses =
+    settings_from (option_and_then workers_of (once (workers_texts uses))) (option_and_then generate_of (once (generate_texts uses)))
+    (bundled_by (flags uses))
+
+by_uses : (uses : List Use) → option_and_then settings_with (all_more uses nothing) ≡ settings_by uses
+by_uses uses =
+    ap (option_and_then settings_with) (in_turn uses None None false)
+    ∙ settings_apart (once (workers_texts uses)) (once (generate_texts uses)) (bundled_by (flags uses))
 
 -- ---- choices
 
--- the texts of the options are those of the choices
-abbrev Match : List (Name × Text) → List Choice → Type 0
-Match [] [] = Unit {0}
-Match ((o, v) ∷ options) (c ∷ choices) = (dashed o ≡ option_word c) × (v ≡ decimal (number c)) × Match options choices
-Match _ _ = ⊥
+abbrev use_of : Choice → Use
+use_of (taken.workers n) = valued workers (decimal n)
+use_of (taken.generate n) = valued generate (decimal n)
+use_of taken.bundled = bundled
 
-to_write : (options : List (Name × Text)) (choices : List Choice) (words : List Text) → Match options choices → Spelled options words → Write choices words
-to_write [] [] words same spelled = spelled
-to_write [] (c ∷ choices) words same spelled = absurd same
-to_write ((o, v) ∷ options) [] words same spelled = absurd same
-to_write ((o, v) ∷ options) (c ∷ choices) words (title, value, same) (rest, spelled, inl (is, plain)) =
-    (rest, to_write options choices rest same spelled, inl (is ∙ ap₂ (λ (t u : Text). t ∷ u ∷ rest) title value))
-to_write ((o, v) ∷ options) (c ∷ choices) words (title, value, same) (rest, spelled, inr is) =
-    (rest, to_write options choices rest same spelled, inr (is ∙ ap₂ (λ (t u : Text). (t ++ 61 ∷ u) ∷ rest) title value))
+to_choice : (c : Choice) (rest words : List Text) → Begins (use_of c) rest words → WriteChoice c rest words
+to_choice (taken.workers n) rest words (inl (is, plain)) = inl is
+to_choice (taken.workers n) rest words (inr is) = inr is
+to_choice (taken.generate n) rest words (inl (is, plain)) = inl is
+to_choice (taken.generate n) rest words (inr is) = inr is
+to_choice taken.bundled rest words is = is
 
-small_number : (c : Choice) → IsInRange c → (1 ≤ number c) × (number c < 2 ^ 64)
-small_number (taken.workers n) range = (range.0, omega (arith, range.1))
-small_number (taken.generate n) range = (range.0, omega (arith, range.1))
+to_write : (choices : List Choice) (words : List Text) → Spelled (map use_of choices) words → Write choices words
+to_write [] words spelled = spelled
+to_write (c ∷ choices) words (rest, spelled, begins) = (rest, to_write choices rest spelled, to_choice c rest words begins)
 
-value_number : (c : Choice) → IsInRange c → IsValue (decimal (number c))
-value_number c range = let small = small_number c range in value_word (decimal (number c)) (first_decimal (number c) (omega (arith, small.0)) small.1)
+value_number : (most n : ℕ) → most < 2 ^ 64 → 1 ≤ n → n ≤ most → IsValue (decimal n)
+value_number most n fits low high = value_word (decimal n) (first_decimal n (omega arith) (omega arith))
 
-rest_in_range : (c : Choice) (choices : List Choice) → All IsInRange (c ∷ choices) → All IsInRange choices
-rest_in_range c choices all = λ k d lt. all (suc k) d (omega arith)
+from_choice : (c : Choice) (rest words : List Text) → IsInRange c → WriteChoice c rest words → Begins (use_of c) rest words
+from_choice (taken.workers n) rest words range (inl is) = inl (is, value_number 16 n (lit< tt) range.0 range.1)
+from_choice (taken.workers n) rest words range (inr is) = inr is
+from_choice (taken.generate n) rest words range (inl is) = inl (is, value_number 100000 n (lit< tt) range.0 range.1)
+from_choice (taken.generate n) rest words range (inr is) = inr is
+from_choice taken.bundled rest words range is = is
 
-from_write : (options : List (Name × Text)) (choices : List Choice) (words : List Text) → Match options choices → All IsInRange choices
-    → Write choices words → Spelled options words
-from_write [] [] words same range write = write
-from_write [] (c ∷ choices) words same range write = absurd same
-from_write ((o, v) ∷ options) [] words same range write = absurd same
-from_write ((o, v) ∷ options) (c ∷ choices) words (title, value, same) range (rest, write, inl is) = (
-  rest,
-  from_write options choices rest same (rest_in_range c choices range) write,
-  inl (is ∙ sym (ap₂ (λ (t u : Text). t ∷ u ∷ rest) title value), rw value (value_number c (range 0 c (omega arith)))),
-)
-from_write ((o, v) ∷ options) (c ∷ choices) words (title, value, same) range (rest, write, inr is) =
-    (rest, from_write options choices rest same (rest_in_range c choices range) write, inr (is ∙ sym (ap₂ (λ (t u : Text). (t ++ 61 ∷ u) ∷ rest) title value)))
+from_write : (choices : List Choice) (words : List Text) → All IsInRange choices → Write choices words → Spelled (map use_of choices) words
+from_write [] words range write = write
+from_write (c ∷ choices) words range (rest, write, is) =
+    (rest, from_write choices rest (All-tail IsInRange c choices range) write, from_choice c rest words (range 0 c (omega arith)) is)
 
--- ---- each option at most once
+-- ---- the settings of the choices
 
-abbrev list_of : Given → List (Name × Text)
-list_of nothing = []
-list_of (one o v) = (o, v) ∷ []
-list_of (both workers v u) = (workers, v) ∷ (generate, u) ∷ []
-list_of (both generate v u) = (generate, v) ∷ (workers, u) ∷ []
+abbrev IsUpTo : ℕ → ℕ → Type 0
+IsUpTo most n = (1 ≤ n) × (n ≤ most)
 
-listed : (options : List (Name × Text)) (t : Given) → all_more options nothing ≡ Some t → options ≡ list_of t
-listed [] t e = ap (λ o. list_of (unwrap_or o nothing)) e
-listed ((workers, v) ∷ []) t e = ap (λ o. list_of (unwrap_or o nothing)) e
-listed ((generate, v) ∷ []) t e = ap (λ o. list_of (unwrap_or o nothing)) e
-listed ((workers, v) ∷ (generate, u) ∷ []) t e = ap (λ o. list_of (unwrap_or o nothing)) e
-listed ((generate, v) ∷ (workers, u) ∷ []) t e = ap (λ o. list_of (unwrap_or o nothing)) e
-listed ((workers, v) ∷ (workers, u) ∷ options) t e = cc
-listed ((generate, v) ∷ (generate, u) ∷ options) t e = cc
-listed ((workers, v) ∷ (generate, u) ∷ (workers, x) ∷ options) t e = cc
-listed ((workers, v) ∷ (generate, u) ∷ (generate, x) ∷ options) t e = cc
-listed ((generate, v) ∷ (workers, u) ∷ (workers, x) ∷ options) t e = cc
-listed ((generate, v) ∷ (workers, u) ∷ (generate, x) ∷ options) t e = cc
+workers_within : (choices : List Choice) → All IsInRange choices → All (IsUpTo 16) (workers_in choices)
+workers_within [] range = All-nil (IsUpTo 16)
+workers_within (taken.workers n ∷ choices) range =
+    All-cons (IsUpTo 16) n (workers_in choices) (range 0 (taken.workers n) (omega arith))
+    (workers_within choices (All-tail IsInRange (taken.workers n) choices range))
+workers_within (taken.generate n ∷ choices) range = workers_within choices (All-tail IsInRange (taken.generate n) choices range)
+workers_within (taken.bundled ∷ choices) range = workers_within choices (All-tail IsInRange taken.bundled choices range)
 
--- the choices that make the settings of what was given
-abbrev Chosen : Given → Settings → Type 0
-Chosen t settings = (choices : List Choice) × All IsInRange choices × Match (list_of t) choices × (made_of choices ≡ Some settings)
+generate_within : (choices : List Choice) → All IsInRange choices → All (IsUpTo 100000) (generate_in choices)
+generate_within [] range = All-nil (IsUpTo 100000)
+generate_within (taken.generate n ∷ choices) range =
+    All-cons (IsUpTo 100000) n (generate_in choices) (range 0 (taken.generate n) (omega arith))
+    (generate_within choices (All-tail IsInRange (taken.generate n) choices range))
+generate_within (taken.workers n ∷ choices) range = generate_within choices (All-tail IsInRange (taken.workers n) choices range)
+generate_within (taken.bundled ∷ choices) range = generate_within choices (All-tail IsInRange taken.bundled choices range)
 
-one_choice : (c : Choice) → IsInRange c → All IsInRange (c ∷ [])
-one_choice c range = All-cons IsInRange c [] range (All-nil IsInRange)
+texts_of : (choices : List Choice) → (workers_texts (map use_of choices) ≡ map decimal (workers_in choices))
+    × (generate_texts (map use_of choices) ≡ map decimal (generate_in choices)) × (flags (map use_of choices) ≡ bundled_in choices)
+texts_of [] = (refl, refl, refl)
+texts_of (taken.workers n ∷ choices) = let rest = texts_of choices in (ap (λ l. decimal n ∷ l) rest.0, rest.1, rest.2)
+texts_of (taken.generate n ∷ choices) = let rest = texts_of choices in (rest.0, ap (λ l. decimal n ∷ l) rest.1, rest.2)
+texts_of (taken.bundled ∷ choices) = let rest = texts_of choices in (rest.0, rest.1, ap suc rest.2)
 
-two_choices : (c d : Choice) → IsInRange c → IsInRange d → All IsInRange (c ∷ d ∷ [])
-two_choices c d range other = All-cons IsInRange c (d ∷ []) range (one_choice d other)
+workers_read : (ns : List ℕ) → All (IsUpTo 16) ns → option_and_then workers_of (once (map decimal ns)) ≡ workers_by ns
+workers_read [] within = refl
+workers_read (n ∷ []) within = let low = within 0 n (omega arith) in number_back 16 n (lit< tt) low.0 low.1
+workers_read (n ∷ m ∷ ns) within = refl
 
-chosen : (t : Given) (settings : Settings) → settings_with t ≡ Some settings → Chosen t settings
-chosen nothing settings e = ([], All-nil IsInRange, tt, e)
-chosen (one workers v) settings e = at (number_up_to 16 v) refl
+generate_read : (ns : List ℕ) → All (IsUpTo 100000) ns → option_and_then generate_of (once (map decimal ns)) ≡ generate_by ns
+generate_read [] within = refl
+generate_read (n ∷ []) within = let low = within 0 n (omega arith) in ap (option_map Some) (number_back 100000 n (lit< tt) low.0 low.1)
+generate_read (n ∷ m ∷ ns) within = refl
+
+made_by : (choices : List Choice) → All IsInRange choices → settings_by (map use_of choices) ≡ made_of choices
+made_by choices range =
+    let texts = texts_of choices in
+    let a : option_and_then workers_of (once (workers_texts (map use_of choices))) ≡ workers_by (workers_in choices) =
+    ap (λ l. option_and_then workers_of (once l)) texts.0 ∙ workers_read (workers_in choices) (workers_within choices range) in
+    let b : option_and_then generate_of (once (generate_texts (map use_of choices))) ≡ generate_by (generate_in choices) =
+    ap (λ l. option_and_then generate_of (once l)) texts.1 ∙ generate_read (generate_in choices) (generate_within choices range) in
+    ap₂ (λ x y. settings_from x y (bundled_by (flags (map use_of choices)))) a b
+    ∙ ap (λ n. settings_from (workers_by (workers_in choices)) (generate_by (generate_in choices)) (bundled_by n)) texts.2
+
+-- ---- the choices of uses that give settings
+
+abbrev IsNumberUpTo : ℕ → Text → Type 0
+IsNumberUpTo most text = (n : ℕ) × (number_up_to most text ≡ Some n)
+
+numbers_from : (a : Option ℕ) (b : Option (Option ℕ)) (c : Option Bool) (settings : Settings) → settings_from a b c ≡ Some settings
+    → (n : ℕ) × (m : Option ℕ) × (a ≡ Some n) × (b ≡ Some m)
+numbers_from None b c settings e = cc
+numbers_from (Some n) None c settings e = cc
+numbers_from (Some n) (Some m) c settings e = (n, m, refl, refl)
+
+workers_are : (vs : List Text) (n : ℕ) → option_and_then workers_of (once vs) ≡ Some n → All (IsNumberUpTo 16) vs
+workers_are [] n e = All-nil (IsNumberUpTo 16)
+workers_are (v ∷ []) n e = All-cons (IsNumberUpTo 16) v [] (n, e) (All-nil (IsNumberUpTo 16))
+workers_are (v ∷ u ∷ vs) n e = cc
+
+generate_are : (vs : List Text) (m : Option ℕ) → option_and_then generate_of (once vs) ≡ Some m → All (IsNumberUpTo 100000) vs
+generate_are [] m e = All-nil (IsNumberUpTo 100000)
+generate_are (v ∷ []) m e = All-cons (IsNumberUpTo 100000) v [] (at (number_up_to 100000 v) refl) (All-nil (IsNumberUpTo 100000))
   where
-    at : (m : Option ℕ) → number_up_to 16 v ≡ m → Chosen (one workers v) settings
-    at None n = let bad : None ≡ Some settings = rw n at e in cc
-    at (Some n) is =
-        let known = written 16 n v (lit< tt) is in
-        (taken.workers n ∷ [], one_choice (taken.workers n) (known.1, known.2), (refl, known.0, tt), rw is at e)
-chosen (one generate v) settings e = at (number_up_to 100000 v) refl
-  where
-    at : (m : Option ℕ) → number_up_to 100000 v ≡ m → Chosen (one generate v) settings
-    at None n = let bad : None ≡ Some settings = rw n at e in cc
-    at (Some n) is =
-        let known = written 100000 n v (lit< tt) is in
-        (taken.generate n ∷ [], one_choice (taken.generate n) (known.1, known.2), (refl, known.0, tt), rw is at e)
-chosen (both workers v u) settings e = at (number_up_to 16 v) (number_up_to 100000 u) refl refl
-  where
-    at : (m k : Option ℕ) → number_up_to 16 v ≡ m → number_up_to 100000 u ≡ k → Chosen (both workers v u) settings
-    at None k is other = let bad : None ≡ Some settings = rw is at e in cc
-    at (Some n) None is other = let bad : None ≡ Some settings = rw (is, other) at e in cc
-    at (Some n) (Some m) is other =
-        let known = written 16 n v (lit< tt) is in
-        let more_known = written 100000 m u (lit< tt) other in (
-          taken.workers n ∷ taken.generate m ∷ [],
-          two_choices (taken.workers n) (taken.generate m) (known.1, known.2) (more_known.1, more_known.2),
-          (refl, known.0, (refl, more_known.0, tt)),
-          rw (is, other) at e,
-        )
-chosen (both generate v u) settings e = at (number_up_to 100000 v) (number_up_to 16 u) refl refl
-  where
-    at : (m k : Option ℕ) → number_up_to 100000 v ≡ m → number_up_to 16 u ≡ k → Chosen (both generate v u) settings
-    at m None is other = let bad : None ≡ Some settings = rw other at e in cc
-    at None (Some n) is other = let bad : None ≡ Some settings = rw (is, other) at e in cc
-    at (Some m) (Some n) is other =
-        let known = written 100000 m v (lit< tt) is in
-        let more_known = written 16 n u (lit< tt) other in (
-          taken.generate m ∷ taken.workers n ∷ [],
-          two_choices (taken.generate m) (taken.workers n) (known.1, known.2) (more_known.1, more_known.2),
-          (refl, known.0, (refl, more_known.0, tt)),
-          rw (is, other) at e,
-        )
+    at : (o : Option ℕ) → number_up_to 100000 v ≡ o → IsNumberUpTo 100000 v
+    at (Some n) is = (n, is)
+    at None is = let bad : None ≡ Some m = rw is at e in cc
+generate_are (v ∷ u ∷ vs) m e = cc
+
+chosen : (uses : List Use) → All (IsNumberUpTo 16) (workers_texts uses) → All (IsNumberUpTo 100000) (generate_texts uses)
+    → (choices : List Choice) × All IsInRange choices × (uses ≡ map use_of choices)
+chosen [] ws gs = ([], All-nil IsInRange, refl)
+chosen (valued workers v ∷ uses) ws gs =
+    let number = ws 0 v (omega arith) in
+    let known = written 16 number.0 v (lit< tt) number.1 in
+    let rest = chosen uses (All-tail (IsNumberUpTo 16) v (workers_texts uses) ws) gs in (
+      taken.workers number.0 ∷ rest.0,
+      All-cons IsInRange (taken.workers number.0) rest.0 (known.1, known.2) rest.1,
+      ap₂ (λ t l. valued workers t ∷ l) known.0 rest.2,
+    )
+chosen (valued generate v ∷ uses) ws gs =
+    let number = gs 0 v (omega arith) in
+    let known = written 100000 number.0 v (lit< tt) number.1 in
+    let rest = chosen uses ws (All-tail (IsNumberUpTo 100000) v (generate_texts uses) gs) in (
+      taken.generate number.0 ∷ rest.0,
+      All-cons IsInRange (taken.generate number.0) rest.0 (known.1, known.2) rest.1,
+      ap₂ (λ t l. valued generate t ∷ l) known.0 rest.2,
+    )
+chosen (bundled ∷ uses) ws gs =
+    let rest = chosen uses ws gs in
+    (taken.bundled ∷ rest.0, All-cons IsInRange taken.bundled rest.0 tt rest.1, ap (λ l. bundled ∷ l) rest.2)
 
 -- ---- both ways
 
@@ -217,52 +352,31 @@ not_empty k ks = grind (arith, nat_tests)
 pub asked : (words : List Text) (settings : Settings) → All IsUtf8 words → settings_of words ≡ Some settings → AskFor words settings
 asked words settings utf8 e = at (fault_of gaptd (codes "gaptd" ∷ words)) refl
   where
+    by_spelling : (uses : List Use) → Spelled uses words → settings_by uses ≡ Some settings → AskFor words settings
+    by_spelling uses spelled by =
+        let numbers = numbers_from _ _ _ settings by in
+        let parts = chosen uses (workers_are (workers_texts uses) numbers.0 numbers.2) (generate_are (generate_texts uses) numbers.1 numbers.3) in
+        let spelled_so = subst (λ l. Spelled l words) parts.2 spelled in
+        (parts.0, parts.1, to_write parts.0 words spelled_so, sym (made_by parts.0 parts.1) ∙ (ap settings_by (sym parts.2) ∙ by))
+
     at : (faults : Kinds) → fault_of gaptd (codes "gaptd" ∷ words) ≡ faults → AskFor words settings
     at (k ∷ ks) some = let bad : None ≡ Some settings = rw (some, not_empty k ks) at e in cc
     at [] none =
         let ends = sound (codes "gaptd") words utf8 none in
-        let t = ends.1 in
-        let parts = chosen t settings (sym (settings_given words t none ends.4) ∙ e) in
-        let spelled : Spelled (list_of t) words = subst (λ l. Spelled l words) (listed ends.0 t ends.3) ends.2 in
-        (parts.0, parts.1, to_write (list_of t) parts.0 words parts.2 spelled, parts.3)
-
--- options that spell the words give the settings
-given_back : (options : List (Name × Text)) (choices : List Choice) (words : List Text) (t : Given) → Match options choices → All IsInRange choices
-    → Write choices words → all_more options nothing ≡ Some t → settings_of words ≡ settings_with t
-given_back options choices words t same range write all =
-    let passes = complete options words (from_write options choices words same range write) nothing t nothing_held holds_nothing all in
-    settings_given words t (fault_is_rest (codes "gaptd") words ∙ passes.0) passes.1
+        by_spelling ends.0 ends.2
+        (sym (by_uses ends.0) ∙ (ap (option_and_then settings_with) ends.3 ∙ (sym (settings_given words ends.1 none ends.4) ∙ e)))
 
 pub taken_back : (words : List Text) (settings : Settings) → AskFor words settings → settings_of words ≡ Some settings
-taken_back words settings ([], range, write, made) = given_back [] [] words nothing tt range write refl ∙ made
-taken_back words settings (taken.workers n ∷ [], range, write, made) =
-    let low = range 0 (taken.workers n) (omega arith) in
-    let value : settings_with (one workers (decimal n)) ≡ made_of (taken.workers n ∷ []) = rw (number_back 16 n (lit< tt) low.0 low.1) refl in
-    given_back ((workers, decimal n) ∷ []) (taken.workers n ∷ []) words (one workers (decimal n)) (refl, refl, tt) range write refl
-    ∙ (value ∙ made)
-taken_back words settings (taken.generate n ∷ [], range, write, made) =
-    let low = range 0 (taken.generate n) (omega arith) in
-    let value : settings_with (one generate (decimal n)) ≡ made_of (taken.generate n ∷ []) = rw (number_back 100000 n (lit< tt) low.0 low.1) refl in
-    given_back ((generate, decimal n) ∷ []) (taken.generate n ∷ []) words (one generate (decimal n)) (refl, refl, tt) range write refl
-    ∙ (value ∙ made)
-taken_back words settings (taken.workers n ∷ taken.generate m ∷ [], range, write, made) =
-    let low = range 0 (taken.workers n) (omega arith) in
-    let high = range 1 (taken.workers n) (omega arith) in
-    let value : settings_with (both workers (decimal n) (decimal m)) ≡ made_of (taken.workers n ∷ taken.generate m ∷ []) = rw (number_back 16 n (lit< tt) low.0 low.1, number_back 100000 m (lit< tt) high.0 high.1) refl in
-    given_back ((workers, decimal n) ∷ (generate, decimal m) ∷ []) (taken.workers n ∷ taken.generate m ∷ []) words (both workers (decimal n) (decimal m))
-    (refl, refl, (refl, refl, tt)) range write refl
-    ∙ (value ∙ made)
-taken_back words settings (taken.generate m ∷ taken.workers n ∷ [], range, write, made) =
-    let low = range 0 (taken.workers n) (omega arith) in
-    let high = range 1 (taken.workers n) (omega arith) in
-    let value : settings_with (both generate (decimal m) (decimal n)) ≡ made_of (taken.generate m ∷ taken.workers n ∷ []) = rw (number_back 100000 m (lit< tt) low.0 low.1, number_back 16 n (lit< tt) high.0 high.1) refl in
-    given_back ((generate, decimal m) ∷ (workers, decimal n) ∷ []) (taken.generate m ∷ taken.workers n ∷ []) words (both generate (decimal m) (decimal n))
-    (refl, refl, (refl, refl, tt)) range write refl
-    ∙ (value ∙ made)
-taken_back words settings (taken.workers n ∷ taken.workers m ∷ choices, range, write, made) = cc
-taken_back words settings (taken.generate n ∷ taken.generate m ∷ choices, range, write, made) = cc
-taken_back words settings (taken.workers n ∷ taken.generate m ∷ c ∷ choices, range, write, made) = cc
-taken_back words settings (taken.generate n ∷ taken.workers m ∷ c ∷ choices, range, write, made) = cc
+taken_back words settings (choices, range, write, made) = at (all_more (map use_of choices) nothing) refl
+  where
+    by : option_and_then settings_with (all_more (map use_of choices) nothing) ≡ Some settings
+    by = by_uses (map use_of choices) ∙ (made_by choices range ∙ made)
+
+    at : (m : Option Given) → all_more (map use_of choices) nothing ≡ m → settings_of words ≡ Some settings
+    at None all = let bad : None ≡ Some settings = sym (ap (option_and_then settings_with) all) ∙ by in cc
+    at (Some t) all =
+        let passes = complete (map use_of choices) words (from_write choices words range write) nothing t nothing_held holds_nothing all in
+        settings_given words t (fault_is_rest (codes "gaptd") words ∙ passes.0) passes.1 ∙ (sym (ap (option_and_then settings_with) all) ∙ by)
 
 pub asked_once : (words : List Text) (settings others : Settings) → AskFor words settings → AskFor words others → settings ≡ others
 asked_once words settings others asks other_asks =
@@ -281,7 +395,15 @@ refused_from words (Err error) e is other asks =
     let usage : error ≡ Usage = cc in
     let bad : None ≡ Some other = sym (e usage) ∙ taken_back words other asks in cc
 
+name_is_utf8 : IsUtf8 (codes "gaptd")
+unfolding encode_utf8
+name_is_utf8 = (codes "gaptd", (refl, refl))
+
 module _ {Z : Type 0} where
   pub texts_are_utf8 : (words : List (String Z)) → All IsUtf8 (map string_bytes words)
   texts_are_utf8 [] = All-nil IsUtf8
   texts_are_utf8 (word ∷ words) = All-cons IsUtf8 (string_bytes word) (map string_bytes words) (IsUtf8-string_bytes word) (texts_are_utf8 words)
+
+  pub line_is_utf8 : (line : List Text) (words : List (String Z)) → line ≡ codes "gaptd" ∷ map string_bytes words → All IsUtf8 line
+  line_is_utf8 line words is =
+      subst (All IsUtf8) (sym is) (All-cons IsUtf8 (codes "gaptd") (map string_bytes words) name_is_utf8 (texts_are_utf8 words))

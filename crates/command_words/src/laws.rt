@@ -1,5 +1,5 @@
 //! What the words ask for. Each function does nothing: its contract is the law.
-ghost use Rattle.std.specs.Prelude.{◌≡◌, ◌∷◌, ℕ, List, [], Some, None, codes};
+ghost use Rattle.std.specs.Prelude.{◌≡◌, ◌∷◌, ℕ, List, [], Some, None, false, codes};
 ghost use Rattle.std.specs.List.{All};
 ghost use Rattle.std.specs.Str.{IsUtf8};
 ghost use Rattle.command_words.specs.Taken.{AskFor};
@@ -16,7 +16,7 @@ pub fn taken_words()
 
 /// No words ask for four workers.
 pub fn no_words()
-    ensures { settings_of [] ≡ Some (record { workers = 4; generate = None }) }
+    ensures { settings_of [] ≡ Some (record { workers = 4; generate = None; sessions = false }) }
 {}
 
 /// Words that the command doesn't take.
@@ -24,13 +24,16 @@ pub fn refused_words()
     ensures help { settings_of (codes "--help" ∷ []) ≡ None }
     ensures short_help { settings_of (codes "-h" ∷ []) ≡ None }
     ensures version { settings_of (codes "--version" ∷ []) ≡ None }
-    ensures unknown { settings_of (codes "--sessions" ∷ []) ≡ None }
+    ensures unknown { settings_of (codes "--session" ∷ []) ≡ None }
     ensures positional { settings_of (codes "x" ∷ []) ≡ None }
     ensures empty { settings_of ([] ∷ []) ≡ None }
     ensures abbreviated { settings_of (codes "--work" ∷ codes "4" ∷ []) ≡ None }
     ensures no_value { settings_of (codes "--workers" ∷ []) ≡ None }
     ensures option_for_value { settings_of (codes "--workers" ∷ codes "--gen" ∷ codes "1" ∷ []) ≡ None }
     ensures twice { settings_of (codes "--workers" ∷ codes "1" ∷ codes "--workers=2" ∷ []) ≡ None }
+    ensures gen_with_sessions { settings_of (codes "--gen" ∷ codes "1" ∷ codes "--sessions" ∷ []) ≡ None }
+    ensures sessions_twice { settings_of (codes "--sessions" ∷ codes "--sessions" ∷ []) ≡ None }
+    ensures sessions_value { settings_of (codes "--sessions=x" ∷ []) ≡ None }
     ensures behind_dashes { settings_of (codes "--" ∷ codes "--gen" ∷ codes "1" ∷ []) ≡ None }
 {}
 

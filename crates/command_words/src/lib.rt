@@ -1,4 +1,4 @@
-//! The words of the command line: `gaptd [--workers N] [--gen N]`.
+//! The words of the command line: `gaptd [--workers N] [--gen N] [--sessions]`.
 #![tactic(auto)]
 
 pub mod laws;

@@ -1,12 +1,14 @@
 //! The settings that the words ask for.
 ghost use Rattle.std.specs.Prelude.{◌≡◌, ◌∷◌, codes, Err, IfOk, map, option_map, string_bytes};
+ghost use Rattle.std.specs.List.{All};
+ghost use Rattle.std.specs.Str.{IsUtf8};
 ghost use Rattle.clap.specs.Words.{app_of};
-ghost use Rattle.command_words.specs.Taken.{AskFor};
-ghost use Rattle.command_words.specs.Words.{gaptd, generate_of, workers_of, Answers, settings_from, settings_of, settings_of_line};
+ghost use Rattle.command_words.specs.Taken.{AskFor, settings_from};
+ghost use Rattle.command_words.specs.Words.{gaptd, generate_of, workers_of, Answers, settings_of, settings_of_line};
 
 use crate::numbers::number_up_to;
 use clap::error::ErrorKind;
-use clap::{Arg, Command};
+use clap::{Arg, ArgAction, Command};
 use std::alloc::{AllocError, Global};
 
 /// How many workers there are where the words don't say.
@@ -25,6 +27,8 @@ pub struct Settings {
     pub workers: u64,
     /// How many jobs to generate in place of reading the input, from 1 to 100,000.
     pub generate: Option<u64>,
+    /// Whether the input is a bundle of several sessions.
+    pub sessions: bool,
 }
 
 /// Why there are no settings.
@@ -48,18 +52,25 @@ impl From<AllocError> for WordsError {
     }
 }
 
-/// The command: two options, each with one value.
+/// The command: two options, each with one value, and a flag.
 fn command<'a>(alloc: Global) -> Result<Command<'a>, AllocError>
     ensures { IfOk result (λ c. app_of c ≡ gaptd) }
 {
     let workers = Arg::new(alloc, "workers").long("workers");
     let generate = Arg::new(alloc, "gen").long("gen");
-    Command::new(alloc, "gaptd").arg(workers)?.arg(generate)
+    let sessions = Arg::new(alloc, "sessions")
+        .long("sessions")
+        .action(ArgAction::SetTrue);
+    Command::new(alloc, "gaptd")
+        .arg(workers)?
+        .arg(generate)?
+        .arg(sessions)
 }
 
-/// The settings for the values of the two options.
-fn settings_with(workers: Option<&str>, generate: Option<&str>) -> Option<Settings>
-    ensures { result ≡ settings_from (workers_of (option_map (λ text. text.now) workers.entry)) (generate_of (option_map (λ text. text.now) generate.entry)) }
+/// The settings for the values of the two options and for the flag.
+fn settings_with(workers: Option<&str>, generate: Option<&str>, sessions: bool) -> Option<Settings>
+    ensures { result ≡ settings_from (workers_of (option_map (λ text. text.now) workers.entry)) (generate_of (option_map (λ text. text.now) generate.entry))
+        (Some sessions) }
 {
     let workers = match workers {
         Some(text) => number_up_to(MOST_WORKERS, text)?,
@@ -69,17 +80,28 @@ fn settings_with(workers: Option<&str>, generate: Option<&str>) -> Option<Settin
         Some(text) => Some(number_up_to(MOST_GENERATED, text)?),
         None => None,
     };
-    Some(Settings { workers, generate })
+    if sessions && generate.is_some() {
+        return None;
+    }
+    Some(Settings {
+        workers,
+        generate,
+        sessions,
+    })
 }
 
 /// The settings that a command line asks for, its first word the program's name.
 fn read_line(alloc: Global, line: &[&str]) -> Result<Settings, WordsError>
+    requires { All IsUtf8 (map (λ word. word.now) line.now) }
     ensures { Answers (settings_of_line (map (λ word. word.now) line.now)) result }
 {
     match command(alloc)?.try_get_matches_from(line) {
-        Ok(matches) => settings_with(matches.get_str("workers"), matches.get_str("gen")).ok_or(
-            WordsError::Usage,
-        ),
+        Ok(matches) => settings_with(
+            matches.get_str("workers"),
+            matches.get_str("gen"),
+            matches.get_flag("sessions"),
+        )
+        .ok_or(WordsError::Usage),
         Err(error) if error.kind() == ErrorKind::OutOfMemory => Err(WordsError::Memory),
         Err(_) => Err(WordsError::Usage),
     }
@@ -99,10 +121,11 @@ fn line_of(alloc: Global, words: &[String]) -> Result<Vec<&str>, AllocError>
 
 /// The settings that the words after the program's name ask for.
 ///
-/// The words are `--workers N` or `--workers=N`, and `--gen N` or `--gen=N`, each option at most once and in any order, and
-/// then perhaps `--` as the last word. Where `--workers` is absent there are 4 workers. All else is `Usage`: an option without
-/// its value, an option given twice, a number out of its range, with a sign or with a leading zero, an abbreviated name, a
-/// positional word and an unknown option, `--help`, `-h` and `--version` among them.
+/// The words are `--workers N` or `--workers=N`, `--gen N` or `--gen=N`, and `--sessions`, each option at most once and in any
+/// order, and then perhaps `--` as the last word. Where `--workers` is absent there are 4 workers. All else is `Usage`: `--gen`
+/// beside `--sessions`, an option without its value, `--sessions` with one, an option given twice, a number out of its range,
+/// with a sign or with a leading zero, an abbreviated name, a positional word and an unknown option, `--help`, `-h` and
+/// `--version` among them.
 ///
 /// The clauses say this without clap. The last one ties it to what clap states of the command.
 pub fn read_words(alloc: Global, words: &[String]) -> Result<Settings, WordsError>

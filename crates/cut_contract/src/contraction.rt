@@ -21,12 +21,18 @@ use std::sync::Wait;
 use std::sync::ledger::Ledger;
 
 // What takes the place of the cut at a number of an arena.
-fn contract_number(arena: &mut Arena, alloc: Global, cut: u32) -> Result<u32, AllocError>
+fn contract_number<L: Ledger>(
+    arena: &mut Arena,
+    alloc: Global,
+    cut: u32,
+    steps: &mut Steps<L>,
+) -> Result<u32, AllocError>
     requires there { IsTreeAt arena.old cut }
     requires valid { IsValid (tree_at arena.old cut) }
     requires cut { IsLowestCut (tree_at arena.old cut) }
     ensures tree { IfOk result (λ n. HasTree arena.new n (contracted (tree_at arena.old cut))) }
     ensures grown { ExtendsArena arena.old arena.new }
+    ensures counted { steps.new ≡ steps.old + 1 }
 {
     let RuleKey::Cut(formula) = rule(arena, cut) else {
         unreachable!()
@@ -35,16 +41,18 @@ fn contract_number(arena: &mut Arena, alloc: Global, cut: u32) -> Result<u32, Al
         unreachable!()
     };
     let end = end(arena, cut);
-    contract_in(arena, alloc, end, formula, left, right)
+    contract_in(arena, alloc, end, formula, left, right, steps)
 }
 
-// What takes the place of the cut that a proof ends with, in the arena of the pass.
+// What takes the place of the cut that a proof ends with, in the arena of the pass. Where memory is wanting for the proof itself this is a step
+// too.
 #[tactic(auto, using(proof_subst::proofs::Passes::pass_stays))]
-fn contract_tree(
+fn contract_tree<L: Ledger>(
     alloc: Global,
     bench: &Bench,
     pass: &mut BenchPass,
     proof: &ProofRef,
+    steps: &mut Steps<L>,
 ) -> Result<u32, AllocError>
     requires pass_of { IsBenchPassOf bench.now pass.old }
     requires of { IsOf (graph_of bench.now) proof.now }
@@ -54,10 +62,14 @@ fn contract_tree(
     ensures graph_stays { pass_in pass.new ≡ pass_in pass.old }
     ensures images_stay { images_in pass.new ≡ images_in pass.old }
     ensures pass_stays { IsBenchPassOf bench.now pass.new }
+    ensures counted { steps.new ≡ steps.old + 1 }
 {
     proof.known();
-    let number = number_of(alloc, bench, pass, proof)?;
-    contract_number(Bench::arena(pass), alloc, number)
+    let Ok(number) = number_of(alloc, bench, pass, proof) else {
+        steps.tick();
+        return Err(AllocError);
+    };
+    contract_number(Bench::arena(pass), alloc, number, steps)
 }
 
 /// The contraction of a cut whose premises have no cut, after Gentzen (1935): cuts that stand higher or are on smaller formulas take its
@@ -80,9 +92,8 @@ pub fn contract<R: Wait, L: Ledger>(
     ensures extends { Extends bench.now pass.old pass.new }
     ensures counted { steps.new ≡ steps.old + 1 }
 {
-    steps.tick();
     laws::contraction();
     proof.known();
-    let number = contract_tree(alloc, bench, pass, proof)?;
+    let number = contract_tree(alloc, bench, pass, proof, steps)?;
     proof_at(rt, alloc, bench, pass, number)
 }

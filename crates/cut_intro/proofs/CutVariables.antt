@@ -22,7 +22,7 @@ module _ (s : Sequent) (items : List Item) where
       → v ≡ least_outside (set.listing (set.adds_each (set.empty {R = var_cmp}) list)) → v ≡ cut_variable s items
   variable_of list v is least =
       least ∙ ap (λ vs. least_outside (set.listing vs))
-      (ap (set.adds_each set.empty) is ∙ adds_each-append (set.empty {R = var_cmp}) (var_lists (set.listing s.left) ++ var_lists (set.listing s.right)) (tuple_variables items))
+      (ap set.of_list is ∙ adds_each-append (set.empty {R = var_cmp}) (var_lists (set.listing s.left) ++ var_lists (set.listing s.right)) (tuple_variables items))
 
   pub formed_of : (v : Var) → v ≡ cut_variable s items → IsFormedVar v
   formed_of v is = subst (λ (u : Var). IsFormedVar u) (sym is) (variable_formed s items)

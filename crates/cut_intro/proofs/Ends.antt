@@ -17,7 +17,7 @@ use Rattle.lk_rules.specs.Sequents.{empty, extended, union_sequent}
 -- a set with the members of the set of a list has the formulas of the list
 with_set : (s : FormulaSet) (fs : List Formula) → set.adds_each s (set.listing (set.adds_each (set.empty {R = formula_cmp}) fs)) ≡ set.adds_each s fs
 with_set s fs =
-    let t : FormulaSet = set.adds_each set.empty fs in
+    let t : FormulaSet = set.of_list fs in
     same_members formula_total formula_ties (set.adds_each s (set.listing t)) (set.adds_each s fs) (λ q.
     has-adds_each formula_total s (set.listing t) q
     ∙ (ap (λ b. set.has s q || b)

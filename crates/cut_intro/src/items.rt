@@ -99,7 +99,7 @@ fn push_on_side(
 
 // The matrix instances on a side.
 fn matrices_on(alloc: Global, side: Side, items: &[Item]) -> Result<Formulas, AllocError>
-    ensures { IfOk result (λ formulas. formulas ≡ set.adds_each set.empty (matrix_instances side items.now)) }
+    ensures { IfOk result (λ formulas. formulas ≡ set.of_list (matrix_instances side items.now)) }
 {
     let mut list = Vec::new(alloc);
     for item in items {

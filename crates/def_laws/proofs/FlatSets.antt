@@ -119,8 +119,8 @@ list-plain (f ∷ fs) h = λ i. flat-plain f (or_left _ _ h) i ∷ list-plain fs
 
 set-plain : (s : FormulaSet) → list_any has_body (set.listing s) ≡ false → flat_set s ≡ s
 set-plain s h =
-    ap (set.adds_each set.empty) (list-plain (set.listing s) h)
-    ∙ same_members formula_total formula_ties (set.adds_each set.empty (set.listing s)) s (λ q. has-relisted (set.listing s) q ∙ sym (has-listing s q))
+    ap set.of_list (list-plain (set.listing s) h)
+    ∙ same_members formula_total formula_ties (set.of_list (set.listing s)) s (λ q. has-relisted (set.listing s) q ∙ sym (has-listing s q))
 
 pub flat-plain_sequent : (s : Sequent) → has_body_in_sequent s ≡ false → flat_sequent s ≡ s
 flat-plain_sequent s h = λ i. record {

@@ -59,7 +59,7 @@ abbrev mutual
 
 -- the formulas of a set with all unfolded. Formulas that fall together become one
 abbrev pub flat_set : FormulaSet → FormulaSet
-flat_set s = set.adds_each set.empty (map flat (set.listing s))
+flat_set s = set.of_list (map flat (set.listing s))
 
 -- the formulas of a sequent with all unfolded
 abbrev pub flat_sequent : Sequent → Sequent

@@ -39,7 +39,7 @@ marked ds (all f) = all (marked ds f)
 marked ds (ex f) = ex (marked ds f)
 
 abbrev pub marked_set : List Pred → FormulaSet → FormulaSet
-marked_set ds s = set.adds_each set.empty (map (marked ds) (set.listing s))
+marked_set ds s = set.of_list (map (marked ds) (set.listing s))
 
 abbrev pub marked_sequent : List Pred → Sequent → Sequent
 marked_sequent ds s = record { left = marked_set ds s.left; right = marked_set ds s.right }

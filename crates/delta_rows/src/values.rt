@@ -44,7 +44,7 @@ fn print_of(terms: &[Term]) -> u64
 impl Values {
     /// The set of the terms of a list, in O(n log n) comparisons and without memory.
     pub fn from_vec(items: Vec<Term>) -> Values
-        ensures { result ≡ set.adds_each set.empty items.items }
+        ensures { result ≡ set.of_list items.items }
     {
         let mut items = items;
         rising::sort_distinct(&mut items);

@@ -137,7 +137,7 @@ module _ (bs cs : List Address) (grown : Grows bs cs) where
   map_grown (n ∷ ns) h = λ i. (grown n (within_head bs n ns h)).1 i ∷ map_grown ns (within_tail bs n ns h) i
 
   pub set_grown : (ns : List ℕ) → AreWithin bs ns → set_at cs ns ≡ set_at bs ns
-  set_grown ns h = ap (set.adds_each set.empty) (map_grown ns h)
+  set_grown ns h = ap set.of_list (map_grown ns h)
 
 pub grows_push : (bs : List Address) (a : Address) → Grows bs (bs ++ a ∷ [])
 grows_push bs a n l = (omega (arith, length_push bs a), in_front bs (a ∷ []) n l)
@@ -268,7 +268,7 @@ module _ (st : State) (bs : List Address) (a : Address) (is : st.instances ≡ i
   terms_listed t = terms-marked st a t ∙ (ap (λ s. set.has s (via a t)) is ∙ has_instances bs (via a t))
 
   terms_rise : set.IsRising term_cmp (terms_at st a)
-  terms_rise = listing_rises (set.adds_each set.empty (terms_of a (set.listing st.instances)))
+  terms_rise = listing_rises (set.of_list (terms_of a (set.listing st.instances)))
 
   pub weak_terms : (ts : List Term) → is_weak (formula_at a) (side_at a) ≡ true → set.IsRising term_cmp ts → ((t : Term) → list_any (eq_by_cmp term_cmp t) ts ≡ is_listed (via a t) bs) → ts ≡ terms_at st a
   weak_terms ts weak up listed =

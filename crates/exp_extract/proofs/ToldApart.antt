@@ -99,7 +99,7 @@ among_by fs gs hs us vs ws f g h among =
     subst (λ xs. AreAmong xs gs hs) (sym f) (subst (λ xs. AreAmong us xs hs) (sym g) (subst (λ xs. AreAmong us vs xs) (sym h) among))
 
 -- the formulas of a premise
-among_side : (fs gs hs : FormulaSet) (more : List Formula) → set.IsSubset hs (set.adds_each fs more) → gs ≡ set.adds_each set.empty more → AreAmong (set.listing fs) (set.listing gs) (set.listing hs)
+among_side : (fs gs hs : FormulaSet) (more : List Formula) → set.IsSubset hs (set.adds_each fs more) → gs ≡ set.of_list more → AreAmong (set.listing fs) (set.listing gs) (set.listing hs)
 among_side fs gs hs more within added h there =
     let has : set.has hs h ≡ true = has-listing hs h ∙ there in
     let known : list_any (eq_by_cmp formula_cmp h) (set.listing gs) ≡ list_any (eq_by_cmp formula_cmp h) more =

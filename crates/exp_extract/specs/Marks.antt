@@ -11,11 +11,11 @@ use Rattle.exp_extract.specs.Quantifiers.{is_instance, AreWithin}
 
 -- the addresses of numbers
 abbrev pub set_at : List Address → List ℕ → AddressSet
-set_at bs ns = set.adds_each set.empty (map (address_in bs) ns)
+set_at bs ns = set.of_list (map (address_in bs) ns)
 
 -- the instances at weak quantifiers: each of them that has a number is marked
 abbrev pub instances_in : List Address → AddressSet
-instances_in bs = set.adds_each set.empty (filter is_instance bs)
+instances_in bs = set.of_list (filter is_instance bs)
 
 abbrev pub marked_of : Inside → Marked
 marked_of i = record {

@@ -21,7 +21,7 @@ use std::alloc::{AllocError, Global};
 
 // The formulas of trees.
 fn formulas(alloc: Global, trees: &[Exp]) -> Result<Formulas, AllocError>
-    ensures { IfOk result (λ fs. fs ≡ set.adds_each set.empty (map formula_of trees.now)) }
+    ensures { IfOk result (λ fs. fs ≡ set.of_list (map formula_of trees.now)) }
 {
     let mut formulas = Vec::with_capacity(alloc, trees.len())?;
     for tree in trees {
@@ -41,7 +41,7 @@ pub fn shallow_sequent(alloc: Global, exps: &ExpSequent) -> Result<Sequent, Allo
 
 // What trees stand for on a side.
 fn deep_side(alloc: Global, trees: &[Exp], side: Side) -> Result<Formulas, AllocError>
-    ensures { IfOk result (λ fs. fs ≡ set.adds_each set.empty (map (deep_of side) trees.now)) }
+    ensures { IfOk result (λ fs. fs ≡ set.of_list (map (deep_of side) trees.now)) }
 {
     let mut formulas = Vec::with_capacity(alloc, trees.len())?;
     for tree in trees {

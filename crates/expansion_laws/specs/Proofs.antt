@@ -49,7 +49,7 @@ abbrev mutual
 
 -- the sequent of the trees' formulas
 abbrev pub shallow_sequent : Expansion → Sequent
-shallow_sequent x = record { left = set.adds_each set.empty (map shallow x.left); right = set.adds_each set.empty (map shallow x.right) }
+shallow_sequent x = record { left = set.of_list (map shallow x.left); right = set.of_list (map shallow x.right) }
 
 -- no variable stands twice in the list
 abbrev pub are_distinct : List Var → Bool

@@ -8,4 +8,4 @@ use Rattle.expansion_laws.specs.Dependency.{Expansion}
 
 -- what the trees stand for, each on its side
 abbrev pub deep_sequent : Expansion → Sequent
-deep_sequent x = record { left = set.adds_each set.empty (map (deep Left) x.left); right = set.adds_each set.empty (map (deep Right) x.right) }
+deep_sequent x = record { left = set.of_list (map (deep Left) x.left); right = set.of_list (map (deep Right) x.right) }

@@ -81,7 +81,7 @@ module _ (vs : List Var) (st : State) where
       and_both _ _ (and_both _ _ (right t) (built t)) (and_both _ _ (below_first t e ts h) (built_instances f e ts (tail_rises term_cmp t ts h) right built))
 
   terms_rise : (a : Address) → set.IsRising term_cmp (terms_at st a)
-  terms_rise a = listing_rises (set.adds_each set.empty (terms_of a (set.listing st.instances)))
+  terms_rise a = listing_rises (set.of_list (terms_of a (set.listing st.instances)))
 
   built_weak : (a : Address) (f : Formula) → formula_at a ≡ f → is_quantified f ≡ true → ((t : Term) → is_instance (formula_at a) t (shallow (of_instance vs st a t)) ≡ true)
       → ((t : Term) → is_built (of_instance vs st a t) ≡ true) → is_built (weak_at st a (of_instance vs st a)) ≡ true

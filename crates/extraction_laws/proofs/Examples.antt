@@ -86,7 +86,7 @@ abbrev all_opened : List Address
 all_opened = on_left ∷ on_right ∷ via on_left v0 ∷ via on_right v0 ∷ []
 
 abbrev marks : State
-marks = record { opened = set.adds_each set.empty all_opened; instances = set.adds set.empty (via on_left v0); names = on_right ∷ [] }
+marks = record { opened = set.of_list all_opened; instances = set.adds set.empty (via on_left v0); names = on_right ∷ [] }
 
 marks_are : walked [] initial fin.empty root unmarked ≡ marks
 unfolding least_outside
@@ -150,7 +150,7 @@ module _ (e : Sequent) where
   kept_opened = both ∷ root Left p ∷ root Right p ∷ []
 
   abbrev kept_marks : State
-  kept_marks = record { opened = set.adds_each set.empty kept_opened; instances = set.empty; names = [] }
+  kept_marks = record { opened = set.of_list kept_opened; instances = set.empty; names = [] }
 
   kept_marks_are : marks_of kept ≡ kept_marks
   kept_marks_are = λ i. paired (vars_in kept) (if kept_left i then root Left p else part both 0) (if kept_right i then root Right p else part both 0) (opened both unmarked)
@@ -189,7 +189,7 @@ module _ (e : Sequent) where
   doubled_opened = twice_p ∷ part twice_p 0 ∷ root Right p ∷ []
 
   abbrev doubled_marks : State
-  doubled_marks = record { opened = set.adds_each set.empty doubled_opened; instances = set.empty; names = [] }
+  doubled_marks = record { opened = set.of_list doubled_opened; instances = set.empty; names = [] }
 
   doubled_marks_are : marks_of doubled ≡ doubled_marks
   doubled_marks_are = λ i. paired (vars_in doubled) (if doubled_left i then root Left p else part twice_p 0) (if kept_right i then root Right p else part twice_p 0) (opened twice_p unmarked)
@@ -239,5 +239,5 @@ module _ (vs : List Var) (s e r : Sequent) (main : set.has s.right every ≡ tru
   abbrev address_of : Side → Bool → Bool → Bool → Address
   address_of side b lower upper = if upper then (if lower then root side q else auxiliary) else via (upper_main b) (free (variable_at vs (after b) (upper_main b)))
 
-  pub one_variable : walked vs twice fin.empty root unmarked ≡ record { opened = set.adds_each set.empty (on_right ∷ on_right ∷ root Left q ∷ root Right q ∷ []); instances = set.empty; names = on_right ∷ [] }
+  pub one_variable : walked vs twice fin.empty root unmarked ≡ record { opened = set.of_list (on_right ∷ on_right ∷ root Left q ∷ root Right q ∷ []); instances = set.empty; names = on_right ∷ [] }
   one_variable = λ i. paired vs (address_of Left (main i) (left i) (left_above i)) (address_of Right (main i) (right i) (right_above i)) (after (main i))

@@ -53,17 +53,17 @@ pub formulas_right : (t : Tree) → map shallow (extracted t).right ≡ set.list
 formulas_right t = shallow_each (vars_in t) (marks_of t) Right (set.listing (concl t).right)
 
 -- a set is that of its list
-set_of_listing : (s : set.Finite formula_cmp) → set.adds_each set.empty (set.listing s) ≡ s
+set_of_listing : (s : set.Finite formula_cmp) → set.of_list (set.listing s) ≡ s
 set_of_listing s =
-    same_members formula_total formula_ties (set.adds_each set.empty (set.listing s)) s (λ q.
+    same_members formula_total formula_ties (set.of_list (set.listing s)) s (λ q.
     has-adds_each formula_total set.empty (set.listing s) q
     ∙ (ap (λ b. b || list_any (eq_by_cmp formula_cmp q) (set.listing s)) (has-empty formula_cmp q)
     ∙ sym (has-listing s q)))
 
 pub shallow_extracted : (t : Tree) → shallow_sequent (extracted t) ≡ concl t
 shallow_extracted t = λ i. record {
-  left = (ap (set.adds_each set.empty) (formulas_left t) ∙ set_of_listing (concl t).left) i;
-  right = (ap (set.adds_each set.empty) (formulas_right t) ∙ set_of_listing (concl t).right) i;
+  left = (ap set.of_list (formulas_left t) ∙ set_of_listing (concl t).left) i;
+  right = (ap set.of_list (formulas_right t) ∙ set_of_listing (concl t).right) i;
 }
 
 -- the trees

@@ -64,7 +64,7 @@ listed_term a t (x ∷ xs) h = from_step a t x xs (listed_term a t xs) h
 pub terms-marked : (st : State) (a : Address) (t : Term) → list_any (eq_by_cmp term_cmp t) (terms_at st a) ≡ set.has st.instances (via a t)
 terms-marked st a t =
     let listed : List Term = terms_of a (set.listing st.instances) in
-    sym (has-listing (set.adds_each set.empty listed) t)
+    sym (has-listing (set.of_list listed) t)
     ∙ (has-adds_each term_total set.empty listed t
     ∙ (ap (λ b. b || list_any (eq_by_cmp term_cmp t) listed) (has-empty term_cmp t)
     ∙ (same_truth _ _ (listed_term a t (set.listing st.instances)) (term_listed a t (set.listing st.instances))

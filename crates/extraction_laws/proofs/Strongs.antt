@@ -173,7 +173,7 @@ module _ (vs : List Var) (st : State) (proper : Proper vs st) where
   weak_distinct : (a : Address) → ((t : Term) → Distinct (via a t)) → are_distinct (strongs (weak_at st a (of_instance vs st a))) ≡ true
   weak_distinct a each =
       ap are_distinct (strongs-instances (of_instance vs st a) (terms_at st a))
-      ∙ distinct_each term_cmp (via a) (λ t u. refl) (tied_instances a) (terms_at st a) (listing_rises (set.adds_each set.empty (terms_of a (set.listing st.instances)))) each
+      ∙ distinct_each term_cmp (via a) (λ t u. refl) (tied_instances a) (terms_at st a) (listing_rises (set.of_list (terms_of a (set.listing st.instances)))) each
 
   -- the variable of an address isn't that of one further on
   own_distinct : (a : Address) → is_listed a st.names ≡ true → (t : Term) → is_among (variable_at vs st a) (strongs (of_instance vs st a t)) ≡ false

@@ -49,7 +49,7 @@ abbrev mutual
 -- as a set, and in rising order
 
 abbrev pub vars_tree : Tree → VarSet
-vars_tree t = set.adds_each set.empty (var_list_tree t)
+vars_tree t = set.of_list (var_list_tree t)
 
 abbrev pub vars_in : Tree → List Var
 vars_in t = set.listing (vars_tree t)

@@ -2,7 +2,7 @@
 -- with the same members are equal, and a set has its members in one order.
 --     Finite R, code      sets of keys in the order R; their code, from that of the keys
 --     empty, has, adds, adds_each, subset, IsSubset      the words of sets
---     listing, of_rising      the members in rising order; the set that a rising list shows
+--     of_list, listing, of_rising      the set of a list's keys; the members in rising order; the set that a rising list shows
 --     IsRising R ks      each key of ks is below those after it
 use Rattle.std.specs.Prelude.{◌≡◌, Bool, true, T, List, [], ◌∷◌, map}
 use base.Stored.{Coded, coded_unit}
@@ -41,6 +41,10 @@ module _ {K : Type 0} {R : K → K → Ordering} where
   abbrev pub adds_each : Finite R → List K → Finite R
   adds_each s [] = s
   adds_each s (k ∷ ks) = adds_each (adds s k) ks
+
+  -- the set of the keys of a list
+  abbrev pub of_list : List K → Finite R
+  of_list ks = adds_each empty ks
 
   -- the members in rising order
   abbrev pub listing : Finite R → List K

@@ -47,7 +47,7 @@ impl Syms {
 
     /// The set of the symbols of a list, in O(n log n) comparisons and without memory.
     pub fn from_vec(items: Vec<Predicate>) -> Syms
-        ensures { result ≡ set.adds_each set.empty items.items }
+        ensures { result ≡ set.of_list items.items }
     {
         let mut items = items;
         rising::sort_distinct(&mut items);

@@ -50,7 +50,7 @@ impl Vars {
 
     /// The set of the variables of a list, in O(n log n) comparisons and without memory.
     pub fn from_vec(items: Vec<Var>) -> Vars
-        ensures { result ≡ set.adds_each set.empty items.items }
+        ensures { result ≡ set.of_list items.items }
     {
         let mut items = items;
         rising::sort_distinct(&mut items);

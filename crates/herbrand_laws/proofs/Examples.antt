@@ -54,11 +54,11 @@ used : tuples_on Left (weak (all (all (p (bound 1) (bound 0)))) (more a (weak (a
 used = refl
 
 -- the values of both terms are the same
-same_values : delta (two (f a) a ∷ two (f b) b ∷ []) ≡ Some (record { pattern = two (f (bound 0)) (bound 0); values = set.adds_each set.empty (a ∷ b ∷ []) })
+same_values : delta (two (f a) a ∷ two (f b) b ∷ []) ≡ Some (record { pattern = two (f (bound 0)) (bound 0); values = set.of_list (a ∷ b ∷ []) })
 same_values = refl
 
 -- an equal term gives itself
-one_equal : delta (two a b ∷ two b b ∷ []) ≡ Some (record { pattern = two (bound 0) b; values = set.adds_each set.empty (a ∷ b ∷ []) })
+one_equal : delta (two a b ∷ two b b ∷ []) ≡ Some (record { pattern = two (bound 0) b; values = set.of_list (a ∷ b ∷ []) })
 one_equal = refl
 
 -- with other values at the tuple there is no row
@@ -66,7 +66,7 @@ other_values : delta (two (f a) b ∷ two (f b) a ∷ []) ≡ None
 other_values = refl
 
 -- under a symbol they give the variable
-under_symbol : delta (two (g a b) a ∷ two (g b a) a ∷ []) ≡ Some (record { pattern = two (bound 0) a; values = set.adds_each set.empty (g a b ∷ g b a ∷ []) })
+under_symbol : delta (two (g a b) a ∷ two (g b a) a ∷ []) ≡ Some (record { pattern = two (bound 0) a; values = set.of_list (g a b ∷ g b a ∷ []) })
 under_symbol = refl
 
 -- equal tuples have no row
@@ -75,10 +75,10 @@ equal_tuples = refl
 
 -- rows with the same values may cover the same tuple: here (h, h) and (h, b) both give (b, b)
 
-first_of_two : delta (two a a ∷ two b b ∷ []) ≡ Some (record { pattern = two (bound 0) (bound 0); values = set.adds_each set.empty (a ∷ b ∷ []) })
+first_of_two : delta (two a a ∷ two b b ∷ []) ≡ Some (record { pattern = two (bound 0) (bound 0); values = set.of_list (a ∷ b ∷ []) })
 first_of_two = refl
 
-second_of_two : delta (two a b ∷ two b b ∷ []) ≡ Some (record { pattern = two (bound 0) b; values = set.adds_each set.empty (a ∷ b ∷ []) })
+second_of_two : delta (two a b ∷ two b b ∷ []) ≡ Some (record { pattern = two (bound 0) b; values = set.of_list (a ∷ b ∷ []) })
 second_of_two = refl
 
 -- an item with two tuples has one row, whose values are the best candidate
@@ -87,7 +87,7 @@ abbrev item : Item
 item = record { side = Left; formula = all (all (p (bound 1) (bound 0))); tuples = two a a ∷ two (f a) (f a) ∷ [] }
 
 abbrev values : TermSet
-values = set.adds_each set.empty (a ∷ f a ∷ [])
+values = set.of_list (a ∷ f a ∷ [])
 
 one_row : rows_of 2 item ≡ record { pattern = two (bound 0) (bound 0); values = values } ∷ []
 one_row = refl
@@ -178,7 +178,7 @@ abbrev first_row : Row
 first_row = record { pattern = one (bound 0); values = values }
 
 abbrev other_row : Row
-other_row = record { pattern = one (bound 0); values = set.adds_each set.empty (a ∷ f (f a) ∷ []) }
+other_row = record { pattern = one (bound 0); values = set.of_list (a ∷ f (f a) ∷ []) }
 
 abbrev last_row : Row
 last_row = record { pattern = one (f (bound 0)); values = values }

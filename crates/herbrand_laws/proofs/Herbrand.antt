@@ -40,7 +40,7 @@ use Rattle.herbrand_laws.proofs.Reached.{some_tuple_helps, tuple_helps}
 
 -- the sequent with the formulas of two lists
 abbrev pub sequent_with : List Formula → List Formula → Sequent
-sequent_with ls rs = record { left = set.adds_each set.empty ls; right = set.adds_each set.empty rs }
+sequent_with ls rs = record { left = set.of_list ls; right = set.of_list rs }
 
 -- an assignment under which a formula of it helps doesn't make a sequent false
 pub helped_member : (a : Assignment) (s : Sequent) (side : Side) (f : Formula) → set.has (side_of s side) f ≡ true → helps a side f ≡ true → falsifies a s ≡ false

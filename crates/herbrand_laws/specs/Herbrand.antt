@@ -93,7 +93,7 @@ IsPrenex s = (side : Side) (f : Formula) → set.has (side_of s side) f ≡ true
 
 -- the Herbrand sequent of items
 abbrev pub herbrand_sequent : List Item → Sequent
-herbrand_sequent items = record { left = set.adds_each set.empty (matrix_instances Left items); right = set.adds_each set.empty (matrix_instances Right items) }
+herbrand_sequent items = record { left = set.of_list (matrix_instances Left items); right = set.of_list (matrix_instances Right items) }
 
 -- f is the matrix instance of a formula of the side of a sequent by a tuple of as many terms as that has quantifiers
 pub record IsMatrixInstance (s : Sequent) (side : Side) (f : Formula) : Type 0 where

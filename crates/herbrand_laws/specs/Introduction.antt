@@ -121,7 +121,7 @@ over (r ∷ rs) e t = node r e (more (over rs (extended e (aux r 0)) t) none)
 
 -- the formulas without quantifiers
 abbrev pub plain_formulas : FormulaSet → FormulaSet
-plain_formulas s = set.adds_each set.empty (filter (λ f. negated (has_quantifier f)) (set.listing s))
+plain_formulas s = set.of_list (filter (λ f. negated (has_quantifier f)) (set.listing s))
 
 abbrev pub plain_part : Sequent → Sequent
 plain_part s = record { left = plain_formulas s.left; right = plain_formulas s.right }

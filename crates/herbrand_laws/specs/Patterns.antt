@@ -109,7 +109,7 @@ pub record Row : Type 0 where
 
 abbrev pub row_with : Terms → Option (List Term) → Option Row
 row_with p None = None
-row_with p (Some vs) = Some (record { pattern = p; values = set.adds_each set.empty vs })
+row_with p (Some vs) = Some (record { pattern = p; values = set.of_list vs })
 
 abbrev pub row_of : Option (Pattern Terms) → Option Row
 row_of None = None
@@ -123,6 +123,6 @@ delta (us ∷ uss) = row_of (pattern_of_tuples us uss)
 -- a row gives the tuples back, each by a value, and its pattern has the variable
 pub record IsRow (uss : List Terms) (r : Row) : Type 0 where
   pub list : List Term
-  pub values : r.values ≡ set.adds_each set.empty list
+  pub values : r.values ≡ set.of_list list
   pub gives : map (put r.pattern) list ≡ uss
   pub variable : has_variable r.pattern ≡ true

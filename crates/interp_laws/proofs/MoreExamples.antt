@@ -126,7 +126,7 @@ free_in_whole : (v : Var) → is_free_in_sequent v whole ≡ (list_any (is_free_
 free_in_whole v = λ i. list_any (is_free_in v) (on_left i) || list_any (is_free_in v) (on_right i)
   where
     on_left : set.listing {R = formula_cmp} whole.left ≡ p ∷ []
-    on_left = ap (λ fs. set.listing {R = formula_cmp} (set.adds_each set.empty fs)) (listing_one formula_total p) ∙ listing_one formula_total p
+    on_left = ap (λ fs. set.listing {R = formula_cmp} (set.of_list fs)) (listing_one formula_total p) ∙ listing_one formula_total p
 
     on_right : set.listing {R = formula_cmp} whole.right ≡ r ∷ goal ∷ []
     on_right = ap (λ fs. set.listing {R = formula_cmp} (set.adds_each first.right fs)) (listing_none formula_cmp) ∙ listing_two formula_total goal r

@@ -85,7 +85,7 @@ formula_of_formed place key i d f is =
 set_formed : (fs : List Formula) → All IsFormed fs → All IsFormed (set.listing (set.adds_each (set.empty {R = formula_cmp}) fs))
 set_formed fs formed =
     let nothing : set.listing (set.empty {R = formula_cmp}) ≡ [] = ap set.listing (sym (of_rising-empty formula_cmp)) ∙ listing-of_rising formula_cmp [] tt in
-    AllPass-from_list_all is_formed (set.listing (set.adds_each set.empty fs))
+    AllPass-from_list_all is_formed (set.listing (set.of_list fs))
     (all-adds_each is_formed set.empty fs ∙ ap (λ (old : List Formula). list_all is_formed old && list_all is_formed fs) nothing ∙ list_all-from_AllPass is_formed fs formed)
 
 pub side_formed : (place : Place) (key : List ℕ) (d : Data) (s : FormulaSet) → side_at place key d ≡ Ok s → All IsFormed (set.listing s)

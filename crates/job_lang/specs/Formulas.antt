@@ -41,7 +41,7 @@ formula_of place key i d = or_fault (Field (path place key (Some i))) (as_str d)
 
 -- a list of formulas as the set of them, and a member that is one
 abbrev pub side_of : Place → List ℕ → List Data → Reading FormulaSet
-side_of place key ds = each (formula_of place key) 0 ds >>= λ fs. Ok (set.adds_each set.empty fs)
+side_of place key ds = each (formula_of place key) 0 ds >>= λ fs. Ok (set.of_list fs)
 
 abbrev pub side_at : Place → List ℕ → Data → Reading FormulaSet
 side_at place key d = list_at place key d >>= side_of place key

@@ -32,7 +32,7 @@ same_formulas_equiv = on_equiv set.listing (lists_equiv (eq_by_cmp_equiv formula
 
 -- the images of a set's formulas under a map from variables to terms. Formulas that fall together become one
 abbrev pub image_set : (Var → Option Term) → FormulaSet → FormulaSet
-image_set m s = set.adds_each set.empty (map (image m) (set.listing s))
+image_set m s = set.of_list (map (image m) (set.listing s))
 
 -- the free variables of the formulas of a list, one for each occurrence
 abbrev pub var_lists : List Formula → List Var

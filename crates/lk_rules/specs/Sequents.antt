@@ -63,4 +63,4 @@ image_sequent m s = record { left = image_set m s.left; right = image_set m s.ri
 
 -- the free variables of the sequent's formulas
 abbrev pub vars_sequent : Sequent → VarSet
-vars_sequent s = set.adds_each set.empty (var_lists (set.listing s.left) ++ var_lists (set.listing s.right))
+vars_sequent s = set.of_list (var_lists (set.listing s.left) ++ var_lists (set.listing s.right))

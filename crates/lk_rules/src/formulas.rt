@@ -59,7 +59,7 @@ impl Formulas {
     /// The set of the formulas of a list, in O(n log n) comparisons.
     pub fn from_vec(alloc: Global, items: Vec<Formula>) -> Result<Formulas, AllocError>
         requires { All IsFormed items.items }
-        ensures { IfOk result (λ formulas. formulas ≡ set.adds_each set.empty items.items) }
+        ensures { IfOk result (λ formulas. formulas ≡ set.of_list items.items) }
     {
         let mut items = items;
         rising::sort_distinct(&mut items);

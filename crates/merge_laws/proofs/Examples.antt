@@ -32,7 +32,7 @@ main = root Right (and p q)
 
 -- the addresses of a list are used
 abbrev using_each : List Address → State
-using_each xs = record { opened = set.adds_each set.empty xs; instances = set.empty; names = [] }
+using_each xs = record { opened = set.of_list xs; instances = set.empty; names = [] }
 
 used : (xs : List Address) (a : Address) → set.has (using_each xs).opened a ≡ list_any (same_address a) xs
 used xs a = has-adds_each address_total set.empty xs a ∙ ap (λ b. b || list_any (same_address a) xs) (has-empty address_cmp a)

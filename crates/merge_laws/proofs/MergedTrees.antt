@@ -41,7 +41,7 @@ merged_if false false f b d e both first second = refl
 -- the terms at an address
 
 abbrev term_set : State → Address → set.Finite term_cmp
-term_set x a = set.adds_each set.empty (terms_of a (set.listing x.instances))
+term_set x a = set.of_list (terms_of a (set.listing x.instances))
 
 has-term_set : (x : State) (a : Address) (t : Term) → set.has (term_set x a) t ≡ set.has x.instances (via a t)
 has-term_set x a t = has-listing (term_set x a) t ∙ terms-marked x a t

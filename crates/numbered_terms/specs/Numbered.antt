@@ -39,7 +39,7 @@ pub record AreTuples (a : List Item) (ns : List ℕ) (uss : List Terms) : Type 0
 
 -- the set of the terms at numbers
 abbrev pub set_at : List Item → List ℕ → TermSet
-set_at a ns = set.adds_each set.empty (map (term_at a) ns)
+set_at a ns = set.of_list (map (term_at a) ns)
 
 -- rising numbers of terms
 pub record IsTermSet (a : List Item) (ns : List ℕ) : Type 0 where

@@ -4,3 +4,8 @@ pub mod Endings
 pub mod GeneratedLines
 pub mod GeneratedOps
 pub mod GeneratedRuns
+pub mod Fronts
+pub mod Served
+pub mod Puts
+pub mod Bundled
+pub mod Switches

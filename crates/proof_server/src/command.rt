@@ -1,17 +1,34 @@
-ghost use Rattle.std.specs.Prelude.{◌≡◌, ◌⊎◌, ℕ, IsNone, IsSome, Some, map, string_bytes};
+//! The command: what its words ask for is run, and its end is noted.
+ghost use Rattle.std.specs.Prelude.{◌≡◌, ◌⊎◌, ℕ, IsNone, IsSome, Some, map, string_bytes, true};
 ghost use Rattle.command_words.specs.Words.{settings_of};
 ghost use Rattle.cut_elim.specs.Desks.{IsDeskPassOf};
-ghost use Rattle.proof_server.specs.Command.{workers_asked, jobs_asked, Serves, IsComplete, Notes, note_of};
+ghost use Rattle.proof_server.specs.Bundles.{EndsSessions, AreComplete, status_of_sessions};
+ghost use Rattle.proof_server.specs.Command.{
+  workers_asked,
+  jobs_asked,
+  bundle_asked,
+  Serves,
+  IsComplete,
+  IsNoted,
+  Notes,
+  note_of_command,
+  note_of_sessions,
+  status_of_command,
+};
 ghost use Rattle.proof_server.specs.Ending.{status_of};
 ghost use Rattle.proof_server.specs.Generating.{Generates};
+ghost use Rattle.proof_server.specs.Writing.{Puts};
 
+use crate::bundles::{EndedSessions, serve_bundle, sessions_status};
 use crate::ending::Ended;
 use crate::generating::generate;
+use crate::notes::{note, put_sessions_note};
 use crate::serving::{serve_over, serve_session};
 use crate::session::Storage;
+use crate::writing::put;
 use command_words::{WordsError, read_words};
 use cut_elim::{Desk, DeskPass};
-use edge_io::{Sink, Source, write_whole};
+use edge_io::{Failed, Sink, Source};
 use job_workers::Gate;
 use std::alloc::Global;
 use std::sync::Wait;
@@ -19,6 +36,17 @@ use std::thread::Threads;
 
 /// The status of a command line that isn't taken.
 const USAGE: u8 = 2;
+
+/// How a run of the command ended.
+#[derive(Clone, Copy)]
+pub enum EndedCommand {
+    /// The words aren't taken.
+    Refused,
+    /// As a session, or a run over generated jobs.
+    Session(Ended),
+    /// As the sessions of a bundle.
+    Sessions(EndedSessions),
+}
 
 /// The status that a session ends with.
 fn status(ended: Ended) -> u8
@@ -34,17 +62,25 @@ fn status(ended: Ended) -> u8
     }
 }
 
-/// The line that is noted for a status.
-fn note(status: u8) -> &'static [u8]
-    ensures { result.now ≡ note_of status }
+/// The status that the command ends with.
+fn command_status(ended: EndedCommand) -> u8
+    ensures { result ≡ status_of_command ended }
 {
-    match status {
-        2 => b"gaptd: usage: gaptd [--workers N] [--gen N]\n",
-        3 => b"gaptd: read fault\n",
-        4 => b"gaptd: write fault\n",
-        5 => b"gaptd: out of memory\n",
-        6 => b"gaptd: input too long\n",
-        _ => b"",
+    match ended {
+        EndedCommand::Refused => USAGE,
+        EndedCommand::Session(ended) => status(ended),
+        EndedCommand::Sessions(ended) => sessions_status(ended),
+    }
+}
+
+/// Notes how the command ended, by one line or none.
+fn put_note<E: Sink>(notes: &mut E, ended: EndedCommand) -> Result<(), Failed>
+    ensures { Puts result (note_of_command ended) (E.faults notes.old) (E.faults notes.new) (E.written notes.old) (E.written notes.new) }
+{
+    match ended {
+        EndedCommand::Refused => put(notes, note(USAGE)),
+        EndedCommand::Session(ended) => put(notes, note(status(ended))),
+        EndedCommand::Sessions(ended) => put_sessions_note(notes, ended),
     }
 }
 
@@ -99,7 +135,7 @@ pub fn serve_on<R: Wait + Threads + Sync, S: Source, K: Sink, G: Gate>(
     ))
 }
 
-/// Serves the source or runs generated jobs, as the words ask.
+/// Serves the source, as a session or as the sessions of a bundle, or runs generated jobs, as the words ask.
 fn run<R: Wait + Threads + Sync, S: Source, K: Sink, G: Gate>(
     rt: &R,
     alloc: Global,
@@ -107,23 +143,31 @@ fn run<R: Wait + Threads + Sync, S: Source, K: Sink, G: Gate>(
     source: &mut S,
     sink: &mut K,
     gate: &G,
-) -> u8
+) -> EndedCommand
     ensures refused { IsNone (settings_of (map string_bytes words.now))
-        → ((result ≡ 2) ⊎ (result ≡ 5)) × (source.new ≡ source.old) × (sink.new ≡ sink.old) }
-    ensures served { IsSome (workers_asked (map string_bytes words.now)) → Serves result (S.faults source.old) (S.faults source.new) (K.faults sink.old) (K.faults sink.new)
-        (S.left source.old) (S.left source.new) (K.written sink.old) (K.written sink.new) (K.flushed sink.new) }
-    ensures complete { IsSome (workers_asked (map string_bytes words.now)) → IsComplete result (S.faults source.old) (S.faults source.new) (K.faults sink.old) (K.faults sink.new)
-        (S.left source.old) }
+        → ((status_of_command result ≡ 2) ⊎ (status_of_command result ≡ 5)) × (source.new ≡ source.old) × (sink.new ≡ sink.old) }
+    ensures served { IsSome (workers_asked (map string_bytes words.now)) → Serves (status_of_command result) (S.faults source.old) (S.faults source.new)
+        (K.faults sink.old) (K.faults sink.new) (S.left source.old) (S.left source.new) (K.written sink.old) (K.written sink.new) (K.flushed sink.new) }
+    ensures complete { IsSome (workers_asked (map string_bytes words.now)) → IsComplete (status_of_command result) (S.faults source.old) (S.faults source.new)
+        (K.faults sink.old) (K.faults sink.new) (S.left source.old) }
     ensures generated { (n : ℕ) → jobs_asked (map string_bytes words.now) ≡ Some n → (source.new ≡ source.old)
-        × Generates result n (K.faults sink.old) (K.faults sink.new) (K.written sink.old) (K.written sink.new) (K.flushed sink.new) }
+        × Generates (status_of_command result) n (K.faults sink.old) (K.faults sink.new) (K.written sink.old) (K.written sink.new) (K.flushed sink.new) }
+    ensures sessions { bundle_asked (map string_bytes words.now) ≡ true → (ended : EndedSessions)
+        × (status_of_command result ≡ status_of_sessions ended) × (note_of_command result ≡ note_of_sessions ended)
+        × EndsSessions ended (S.faults source.old) (S.faults source.new) (K.faults sink.old) (K.faults sink.new)
+        (S.left source.old) (S.left source.new) (K.written sink.old) (K.written sink.new) (K.flushed sink.new) }
 {
     let settings = match read_words(alloc, words) {
         Ok(settings) => settings,
-        Err(WordsError::Usage) => return USAGE,
-        Err(WordsError::Memory) => return status(Ended::Memory),
+        Err(WordsError::Usage) => return EndedCommand::Refused,
+        Err(WordsError::Memory) => return EndedCommand::Session(Ended::Memory),
     };
+    if settings.sessions {
+        let ended = serve_bundle(rt, alloc, source, sink, gate, settings.workers);
+        return EndedCommand::Sessions(ended);
+    }
     match settings.generate {
-        None => status(serve_session(
+        None => EndedCommand::Session(serve_session(
             rt,
             alloc,
             source,
@@ -132,14 +176,15 @@ fn run<R: Wait + Threads + Sync, S: Source, K: Sink, G: Gate>(
             settings.workers,
             Storage::Left,
         )),
-        Some(n) => status(generate(rt, alloc, sink, gate, settings.workers, n)),
+        Some(n) => EndedCommand::Session(generate(rt, alloc, sink, gate, settings.workers, n)),
     }
 }
 
 /// Runs the command with the words that follow the program's name, and answers its exit status.
 ///
-/// The words are those of `gaptd [--workers N] [--gen N]`, as `command_words` reads them. If they are taken and have no `--gen`, the jobs
-/// of `source`, one a line, are answered on `sink`, a reply line for each job in order, as by `serve` with so many workers:
+/// The words are those of `gaptd [--workers N] [--gen N] [--sessions]`, as `command_words` reads them. If they are taken and have neither
+/// `--gen` nor `--sessions`, the jobs of `source`, one a line, are answered on `sink`, a reply line for each job in order, as by `serve` with
+/// so many workers:
 ///
 /// - 0: the input was read to its end, all was written and flushed, and every reply is Ok;
 /// - 1: the same, and some reply is an error;
@@ -153,8 +198,14 @@ fn run<R: Wait + Threads + Sync, S: Source, K: Sink, G: Gate>(
 /// counts alone are written: one line of JSON with the bytes of the reply lines, the number of jobs, of Ok replies, of the reductions that
 /// the replies to cut eliminations tell of, and of errors. The statuses are 0, 1, 4 and 5, and 5 is also that of a job that lacks memory.
 ///
-/// A status above 1 is noted on `notes` by one line. A failed write there changes no status. The memory that the session had isn't given
-/// back, as the process ends next.
+/// With `--sessions` the input is a bundle, as `read_bundle` reads it. It is read to its end first; then its sessions are run by so many
+/// workers, as by `serve_parts`; and then for each session, in the order of their first lines, the line `@K` with its number is written, and
+/// behind it the replies to its lines. The statuses are 0 and 1 as above; 3, 6 and 7, where nothing is written: reading failed, the input has
+/// more than 67,108,864 bytes, or a line that begins with `@` is no switch to a session; 4; and 5, where what is written is the beginning of
+/// the replies, of sessions before the first one that memory ran out for.
+///
+/// A status above 1 is noted on `notes` by one line, which for 7 has the number of the line, counted from 1. A failed write there changes no
+/// status. The memory that a session had isn't given back, as the process ends next.
 pub fn top<R: Wait + Threads + Sync, S: Source, K: Sink, E: Sink, G: Gate>(
     rt: &R,
     alloc: Global,
@@ -172,9 +223,15 @@ pub fn top<R: Wait + Threads + Sync, S: Source, K: Sink, E: Sink, G: Gate>(
         (S.left source.old) }
     ensures generated { (n : ℕ) → jobs_asked (map string_bytes words.now) ≡ Some n → (source.new ≡ source.old)
         × Generates result n (K.faults sink.old) (K.faults sink.new) (K.written sink.old) (K.written sink.new) (K.flushed sink.new) }
-    ensures noted { Notes result (E.faults notes.old) (E.faults notes.new) (E.written notes.old) (E.written notes.new) }
+    ensures sessions { bundle_asked (map string_bytes words.now) ≡ true → (ended : EndedSessions) × (result ≡ status_of_sessions ended)
+        × EndsSessions ended (S.faults source.old) (S.faults source.new) (K.faults sink.old) (K.faults sink.new)
+        (S.left source.old) (S.left source.new) (K.written sink.old) (K.written sink.new) (K.flushed sink.new)
+        × IsNoted (note_of_sessions ended) (E.faults notes.old) (E.faults notes.new) (E.written notes.old) (E.written notes.new) }
+    ensures sessions_complete { bundle_asked (map string_bytes words.now) ≡ true → AreComplete result (S.faults source.old) (S.faults source.new)
+        (K.faults sink.old) (K.faults sink.new) (S.left source.old) }
+    ensures noted { ¬ (result ≡ 7) → Notes result (E.faults notes.old) (E.faults notes.new) (E.written notes.old) (E.written notes.new) }
 {
-    let answer = run(rt, alloc, words, source, sink, gate);
-    let _ = write_whole(notes, note(answer));
-    answer
+    let ended = run(rt, alloc, words, source, sink, gate);
+    let _ = put_note(notes, ended);
+    command_status(ended)
 }

@@ -40,8 +40,8 @@ agree_list g h (f ∷ fs) same =
 -- they have one image of a sequent
 pub agree_sequent : (g h : Replacing) (s : Sequent) → ((v : Var) → is_free_in_sequent v s ≡ true → image_term g (free v) ≡ image_term h (free v)) → image_sequent g s ≡ image_sequent h s
 agree_sequent g h s same = λ i. record {
-  left = set.adds_each set.empty (agree_list g h (set.listing s.left) (λ v e. same v (or_first _ _ e)) i);
-  right = set.adds_each set.empty (agree_list g h (set.listing s.right) (λ v e. same v (or_second (list_any (is_free_in v) (set.listing s.left)) _ e)) i);
+  left = set.of_list (agree_list g h (set.listing s.left) (λ v e. same v (or_first _ _ e)) i);
+  right = set.of_list (agree_list g h (set.listing s.right) (λ v e. same v (or_second (list_any (is_free_in v) (set.listing s.left)) _ e)) i);
 }
 
 module _ (m n : Map) (e : Sequent) where
@@ -135,13 +135,13 @@ kept_list g [] same = refl
 kept_list g (f ∷ fs) same =
     λ i. kept_formula g f (λ v h. same v (or_first _ _ h)) i ∷ kept_list g fs (λ v h. same v (or_second (is_free_in v f) _ h)) i
 
-set_of_listing : (s : FormulaSet) → set.adds_each set.empty (set.listing s) ≡ s
-set_of_listing s = same_members formula_total formula_ties (set.adds_each set.empty (set.listing s)) s (λ q.
+set_of_listing : (s : FormulaSet) → set.of_list (set.listing s) ≡ s
+set_of_listing s = same_members formula_total formula_ties (set.of_list (set.listing s)) s (λ q.
     has-adds_each formula_total set.empty (set.listing s) q
     ∙ ap (λ b. b || list_any (eq_by_cmp formula_cmp q) (set.listing s)) (has-empty formula_cmp q) ∙ sym (has-listing s q))
 
 kept_set : (g : Replacing) (s : FormulaSet) → ((v : Var) → list_any (is_free_in v) (set.listing s) ≡ true → image_term g (free v) ≡ free v) → image_set g s ≡ s
-kept_set g s same = ap (set.adds_each set.empty) (kept_list g (set.listing s) same) ∙ set_of_listing s
+kept_set g s same = ap set.of_list (kept_list g (set.listing s) same) ∙ set_of_listing s
 
 pub kept_sequent : (g : Replacing) (s : Sequent) → ((v : Var) → is_free_in_sequent v s ≡ true → image_term g (free v) ≡ free v) → image_sequent g s ≡ s
 kept_sequent g s same = λ i. record {

@@ -98,14 +98,14 @@ map_fixed h (f ∷ fs) fixed =
     λ i. fixed f (or_first (eq_by_cmp formula_cmp f f) (list_any (eq_by_cmp formula_cmp f) fs) (tied f f refl)) i
     ∷ map_fixed h fs (λ g e. fixed g (or_second (eq_by_cmp formula_cmp g f) (list_any (eq_by_cmp formula_cmp g) fs) e)) i
 
-relisted : (s : FormulaSet) → set.adds_each set.empty (set.listing s) ≡ s
+relisted : (s : FormulaSet) → set.of_list (set.listing s) ≡ s
 relisted s =
-    same_members formula_total formula_ties (set.adds_each set.empty (set.listing s)) s
+    same_members formula_total formula_ties (set.of_list (set.listing s)) s
     (λ q. has-adds_each formula_total set.empty (set.listing s) q ∙ ap (λ b. b || list_any (eq_by_cmp formula_cmp q) (set.listing s)) (has-empty formula_cmp q) ∙ sym (has-listing s q))
 
 pub image_of_fixed : (m : Var → Option Term) (s : FormulaSet) → ((f : Formula) → set.has s f ≡ true → image m f ≡ f) → image_set m s ≡ s
 image_of_fixed m s fixed =
-    ap (set.adds_each set.empty) (map_fixed (image m) (set.listing s) (λ f e. fixed f (has-listing s f ∙ e))) ∙ relisted s
+    ap set.of_list (map_fixed (image m) (set.listing s) (λ f e. fixed f (has-listing s f ∙ e))) ∙ relisted s
 
 -- a set without one formula
 

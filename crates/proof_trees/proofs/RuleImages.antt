@@ -178,8 +178,8 @@ away_list m y u (f ∷ fs) h = λ i. away m y u f (neither_first _ _ h) i ∷ aw
 
 pub away_sequent : (m : Map) (y : Var) (u : Term) (s : Sequent) → is_free_in_sequent y s ≡ false → image_sequent (fin.get (fin.insert m y u)) s ≡ image_sequent (fin.get m) s
 away_sequent m y u s h = λ i. record {
-  left = set.adds_each set.empty (away_list m y u (set.listing s.left) (neither_first _ _ h) i);
-  right = set.adds_each set.empty (away_list m y u (set.listing s.right) (neither_second (list_any (is_free_in y) (set.listing s.left)) _ h) i);
+  left = set.of_list (away_list m y u (set.listing s.left) (neither_first _ _ h) i);
+  right = set.of_list (away_list m y u (set.listing s.right) (neither_second (list_any (is_free_in y) (set.listing s.left)) _ h) i);
 }
 
 pub same_conclusion : (m : Map) (r : Rule) (e s : Sequent) → eigen_free r s ≡ false → image_sequent (fin.get (premise_map m r e)) s ≡ image_sequent (fin.get m) s

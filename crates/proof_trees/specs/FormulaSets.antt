@@ -12,4 +12,4 @@ is_atom f = false
 
 -- the set without one formula
 abbrev pub without : FormulaSet → Formula → FormulaSet
-without s a = set.adds_each set.empty (filter (λ f. negated (eq_by_cmp formula_cmp a f)) (set.listing s))
+without s a = set.of_list (filter (λ f. negated (eq_by_cmp formula_cmp a f)) (set.listing s))

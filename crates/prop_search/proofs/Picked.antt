@@ -40,13 +40,13 @@ picked_more words fs i f before after wanted up l is w e now =
     ∙ ap (filter p) (sym (take_more fs i f l ∙ ap (λ g. take i fs ++ g ∷ []) (sym is)))
 
 -- the formulas of a set make it
-pub relisted : (s : FormulaSet) → set.adds_each set.empty (set.listing s) ≡ s
+pub relisted : (s : FormulaSet) → set.of_list (set.listing s) ≡ s
 relisted s =
-    same_members formula_total formula_ties (set.adds_each set.empty (set.listing s)) s
+    same_members formula_total formula_ties (set.of_list (set.listing s)) s
     (λ q. has-adds_each formula_total set.empty (set.listing s) q ∙ ap (λ b. b || list_any (eq_by_cmp formula_cmp q) (set.listing s)) (has-empty formula_cmp q) ∙ sym (has-listing s q))
 
-pub picked_side : (fs : List Formula) (test : ℕ → Bool) → set.IsRising formula_cmp fs → set.adds_each set.empty (filter (λ f. test (number_of fs f)) fs) ≡ side_of fs test
-picked_side fs test up = ap (set.adds_each set.empty) (sym (listing-side fs up test)) ∙ relisted (side_of fs test)
+pub picked_side : (fs : List Formula) (test : ℕ → Bool) → set.IsRising formula_cmp fs → set.of_list (filter (λ f. test (number_of fs f)) fs) ≡ side_of fs test
+picked_side fs test up = ap set.of_list (sym (listing-side fs up test)) ∙ relisted (side_of fs test)
 
 -- the sequent of no number
 pub sequent_of_none : (fs : List Formula) (words : List ℕ) → set.IsRising formula_cmp fs → ((n : ℕ) → has_number words n ≡ false) → sequent_of fs words ≡ empty

@@ -111,6 +111,6 @@ member_fixed m (c ∷ cs) h f e =
 
 pub image-closures : (m : Var → Option Term) (cs : List Clause) → All IsClauseOf cs → image_sequent m (closures cs) ≡ closures cs
 image-closures m cs h = λ i. record {
-  left = image_of_fixed m (set.adds_each set.empty (map closure_of cs)) (λ f e. member_fixed m cs h f (sym (has-closures cs f) ∙ e)) i;
+  left = image_of_fixed m (set.of_list (map closure_of cs)) (λ f e. member_fixed m cs h f (sym (has-closures cs f) ∙ e)) i;
   right = image_of_fixed m set.empty (λ f e. let none = has-empty formula_cmp f in cc) i;
 }

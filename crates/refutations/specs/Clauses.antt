@@ -53,4 +53,4 @@ closure_of c = closed_over all c.vars c.matrix
 
 -- the closures of all clauses on the left, and nothing on the right
 abbrev pub closures : List Clause → Sequent
-closures cs = record { left = set.adds_each set.empty (map closure_of cs); right = set.empty }
+closures cs = record { left = set.of_list (map closure_of cs); right = set.empty }

@@ -8,9 +8,9 @@ mod generated;
 #[cfg(test)]
 mod lines;
 #[cfg(test)]
-mod running;
+mod pieces;
 #[cfg(test)]
-mod sessions;
+mod running;
 #[cfg(test)]
 mod windows;
 #[cfg(test)]

@@ -2,10 +2,10 @@
 use crate::running::{Failing, JOB, NONE, REPLY, run, words_of};
 use std::test::Fail;
 
-const USAGE: &str = "gaptd: usage: gaptd [--workers N] [--gen N]\n";
+const USAGE: &str = "gaptd: usage: gaptd [--workers N] [--gen N] [--sessions]\n";
 
 /// Lines of words, each with whether they ask for a session.
-const WORDS: [(&str, bool); 13] = [
+const WORDS: [(&str, bool); 15] = [
     ("", true),
     ("--workers 4", true),
     ("--workers=1", true),
@@ -16,6 +16,8 @@ const WORDS: [(&str, bool); 13] = [
     ("--gen 0", false),
     ("--gen 100001", false),
     ("--workers 0 --gen 4", false),
+    ("--gen 4 --sessions", false),
+    ("--sessions --sessions", false),
     ("--help", false),
     ("--version", false),
     ("serve", false),

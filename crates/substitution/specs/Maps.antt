@@ -23,7 +23,7 @@ coded_map = fin.code coded_var coded_term
 
 -- the variables that have a term
 abbrev pub domain : Map → VarSet
-domain m = set.adds_each set.empty (fin.keys m)
+domain m = set.of_list (fin.keys m)
 
 -- the map with one binding
 abbrev pub only : Var → Term → Map

@@ -40,8 +40,8 @@ conjunction (f ∷ fs) = Some (conjoined f fs)
 -- the sequent of a problem with these entries
 abbrev pub problem_sequent : List Entry → Sequent
 problem_sequent es = record {
-  left = set.adds_each set.empty (hypotheses es);
-  right = set.adds_each set.empty (option_to_list (conjunction (conjectures es)));
+  left = set.of_list (hypotheses es);
+  right = set.of_list (option_to_list (conjunction (conjectures es)));
 }
 
 -- each entry's formula is well formed

@@ -26,6 +26,6 @@ returns-clause-side c =
     let ns = c.loop-placed.formulas.items in
     let all : ns ≡ numbers_on c.args.side l =
     sym (append-nil ns) ∙ (ap (λ (qs : List Numbered). ns ++ numbers_on c.args.side qs) (sym (drop_all c.loop-placed.placed-index l c.loop-placed-test.false)) ∙ c.loop-placed.invariant) in
-    subst (λ (fs : List Formula). IfOk c.put_side.result (λ n. HasSide c.put_side.new.self n (set.adds_each set.empty fs)))
+    subst (λ (fs : List Formula). IfOk c.put_side.result (λ n. HasSide c.put_side.new.self n (set.of_list fs)))
     (ap (map (formula_at a)) all ∙ formulas_on a c.args.side l c.requires)
     c.put_side.ensures.side

@@ -30,5 +30,5 @@ returns-clause-step c =
     let unready : position (λ (p : Placed). is_some (ready_in c.in_ok-vars.vars p.tree)) (trees l) ≡ None =
     position_of_tree (λ (p : Placed). is_some (ready_in c.in_ok-vars.vars p.tree)) l
     ∙ ((λ i. position (λ (q : Numbered). is_some (ready_in c.in_ok-vars.vars q.placed.tree)) (sym c.deref-3.ensures.value i)) ∙ (sym c.first_with_instance.ensures ∙ c.in-None.is)) in
-    let alike = subst (λ (qs : List Numbered). IsAsReady c.in_ok-vars.vars (set.adds_each set.empty (strongs_in_list (trees qs))) (trees qs)) c.deref-2.ensures.value c.in_ok-vars.ensures in
+    let alike = subst (λ (qs : List Numbered). IsAsReady c.in_ok-vars.vars (set.of_list (strongs_in_list (trees qs))) (trees qs)) c.deref-2.ensures.value c.in_ok-vars.ensures in
     c.taken.ensures.instance (trees l) c.requires.open_leaves whole ∙ no_step_there (instance_at vs) (trees l) (position_alike vs (trees l) ∙ (sym alike.place ∙ unready))

@@ -7,7 +7,7 @@ use Rattle.arena_cuts.proofs.contraction.contract_in.Goals as goal
 
 pub returns-clause-tree : goal.returns-clause-tree
 unfolding con
-returns-clause-tree c =
+returns-clause-tree g c =
     let a = c.args.arena.now in
     tree_made c.by_case.result c.by_case.new.arena _ _
     (ap (λ k. by_case k (sequent_at a c.args.end) (formula_at a c.args.formula) (tree_at a c.args.left) (tree_at a c.args.right)) c.case_at-case.ensures) c.by_case.ensures.tree

@@ -179,7 +179,7 @@ eliminate_in-eliminate_root-requires g t c κs within =
 pub eliminate_lowest-eliminate_in-requires : goal.eliminate_lowest-eliminate_in-requires
 eliminate_lowest-eliminate_in-requires g t c κs within =
     let a = c.args.arena.now in
-    let b = c.contract_counted.new.arena in
+    let b = c.contract_in.new.arena in
     let n = c.args.budget in
     let cut = c.args.cut in
     let whole = con (sequent_at a cut.end) (formula_at a cut.formula) (tree_at a cut.left) (tree_at a cut.right) in
@@ -255,7 +255,7 @@ eliminate_cut-returns-in-Err-eliminate_lowest-clause-grown g t c = larger _ _ _ 
 pub eliminate_lowest-returns-in_default-clause-table :
     goal.eliminate_lowest-returns-in_default-clause-table
 eliminate_lowest-returns-in_default-clause-table g t c =
-    known_there c.args.arena.now c.contract_counted.new.arena c.contract_counted.ensures.grown c.args.table.now c.requires.table
+    known_there c.args.arena.now c.contract_in.new.arena c.contract_in.ensures.grown c.args.table.now c.requires.table
 
 pub eliminate_other-returns-in-Err-inference-clause-table :
     goal.eliminate_other-returns-in-Err-inference-clause-table
@@ -287,3 +287,17 @@ eliminate_both-returns-in-Ok-eliminate_in-clause-both g t c =
       left = c.in-Ok.ensures.ok ∙ ap (λ (u : Tree). Some (u, first.reductions)) (sym (tree_stays a b grown first.proof c.in-Ok.ensures.there));
       right = ap (λ (u : Tree). elimination u (c.args.budget - first.reductions)) (sym right) ∙ c.in-Ok-eliminate_in.ensures.ok;
     }
+
+pub eliminate_other-rule-rule-requires : goal.eliminate_other-rule-rule-requires
+eliminate_other-rule-rule-requires g t c = tree_there c.args.arena.now c.eliminate_all.new.arena c.in-Ok.ensures.grown c.args.proof c.requires.proof
+
+pub eliminate_other-end-end-requires : goal.eliminate_other-end-end-requires
+eliminate_other-end-end-requires g t c = tree_there c.args.arena.now c.eliminate_all.new.arena c.in-Ok.ensures.grown c.args.proof c.requires.proof
+
+pub eliminate_other-returns-in-Ok-inference-clause-grown :
+    goal.eliminate_other-returns-in-Ok-inference-clause-grown
+eliminate_other-returns-in-Ok-inference-clause-grown g t c = larger _ _ _ c.in-Ok.ensures.grown c.in-Ok-inference.ensures.grown
+
+pub eliminate_other-returns-in-Err-inference-clause-grown :
+    goal.eliminate_other-returns-in-Err-inference-clause-grown
+eliminate_other-returns-in-Err-inference-clause-grown g t c = larger _ _ _ c.in-Ok.ensures.grown c.inference.ensures.grown

@@ -115,7 +115,7 @@ whole_cut-returns-clause-grown g t c = larger _ _ _ c.in-Ok.ensures.grown c.whol
 pub whole_lowest-eliminate_whole_in-requires : goal.whole_lowest-eliminate_whole_in-requires
 whole_lowest-eliminate_whole_in-requires g t c κs within =
     let a = c.args.arena.now in
-    let b = c.contract_counted.new.arena in
+    let b = c.contract_in.new.arena in
     let parts = c.args.cut in
     let whole = con (sequent_at a parts.end) (formula_at a parts.formula) (tree_at a parts.left) (tree_at a parts.right) in
     let same = ap whole_work (is_tree b c.in-Ok.made whole c.in-Ok.ensures.tree) in
@@ -207,7 +207,7 @@ whole_both-returns-in-Ok-eliminate_whole_in-clause-both g t c =
 
 pub whole_lowest-returns-in-Err-clause-table : goal.whole_lowest-returns-in-Err-clause-table
 whole_lowest-returns-in-Err-clause-table g t c =
-    whole_known_there c.args.arena.now c.contract_counted.new.arena c.contract_counted.ensures.grown c.args.table.now c.requires.table
+    whole_known_there c.args.arena.now c.contract_in.new.arena c.contract_in.ensures.grown c.args.table.now c.requires.table
 
 pub whole_other-returns-clause-reduced : goal.whole_other-returns-clause-reduced
 whole_other-returns-clause-reduced g t c =

@@ -17,5 +17,5 @@ returns-clause-closed c =
       there = λ k d l. formula_there a b c.put_left.ensures.grown _ (each.there k d l);
       each = formulas_stay a b c.put_left.ensures.grown c.in_ok-closures.closures.items each.there ∙ each.closures;
       end = c.in_ok-end.ensures.sequent
-          ∙ ap (λ (fs : List Formula). Some (sequent (record { left = set.adds_each set.empty fs; right = set.empty }))) (ap (map (formula_at a)) c.deref.ensures.value ∙ each.closures);
+          ∙ ap (λ (fs : List Formula). Some (sequent (record { left = set.of_list fs; right = set.empty }))) (ap (map (formula_at a)) c.deref.ensures.value ∙ each.closures);
     }

@@ -42,6 +42,18 @@ pub returns-clause-twice : goal.returns-clause-twice
 unfolding clap_on_literals
 returns-clause-twice c = refl
 
+pub returns-clause-gen_with_sessions : goal.returns-clause-gen_with_sessions
+unfolding clap_on_literals
+returns-clause-gen_with_sessions c = refl
+
+pub returns-clause-sessions_twice : goal.returns-clause-sessions_twice
+unfolding clap_on_literals
+returns-clause-sessions_twice c = refl
+
+pub returns-clause-sessions_value : goal.returns-clause-sessions_value
+unfolding clap_on_literals
+returns-clause-sessions_value c = refl
+
 pub returns-clause-behind_dashes : goal.returns-clause-behind_dashes
 unfolding clap_on_literals
 returns-clause-behind_dashes c = refl

@@ -12,14 +12,14 @@ use Rattle.cut_contract.specs.LowestCuts.{contracted}
 use Rattle.cut_contract.proofs.contraction.contract_number.Goals as goal
 
 pub unreachable-requires : goal.unreachable-requires
-unreachable-requires c =
+unreachable-requires g c =
     let a = c.args.arena.now in
     let other : is_cut (rule_of (tree_at a c.args.cut)) ≡ false = ap is_cut c.rule.ensures.rule ∙ not_cut a c.rule.result c.in_default.not-Cut in
     let same : is_cut (rule_of (tree_at a c.args.cut)) ≡ true = ap (λ (t : Tree). is_cut (rule_of t)) c.requires.cut.is in
     cc
 
 pub returns-clause-tree : goal.returns-clause-tree
-returns-clause-tree c =
+returns-clause-tree g c =
     let a = c.args.arena.now in
     let whole = tree_at a c.args.cut in
     let shape : whole ≡ cut (sequent_at a c.end-end.result) (formula_at a c.in-Cut.formula) (tree_at a c.in-Two.left) (tree_at a c.in-Two.right) =

@@ -17,4 +17,4 @@ pub returns-clause-terms : goal.returns-clause-terms
 returns-clause-terms c = terms-marked
 
 pub returns-clause-rise : goal.returns-clause-rise
-returns-clause-rise c x a = listing_rises (set.adds_each set.empty (terms_of a (set.listing x.instances)))
+returns-clause-rise c x a = listing_rises (set.of_list (terms_of a (set.listing x.instances)))

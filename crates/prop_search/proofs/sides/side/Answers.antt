@@ -16,6 +16,6 @@ from_vec-requires c =
 pub returns : goal.returns
 returns c =
     c.in_ok-side.ensures
-    ∙ ap (set.adds_each set.empty) c.in_ok-picked.ensures
-    ∙ ap (λ fs. set.adds_each set.empty (filter (λ f. has_number c.args.words.now (number_of fs f)) fs)) c.formulas.ensures.formulas
+    ∙ ap set.of_list c.in_ok-picked.ensures
+    ∙ ap (λ fs. set.of_list (filter (λ f. has_number c.args.words.now (number_of fs f)) fs)) c.formulas.ensures.formulas
     ∙ picked_side c.args.numbering.now (has_number c.args.words.now) c.known.ensures

@@ -11,5 +11,5 @@ use Rattle.arena.proofs.arena.Arena.import_side.Goals as goal
 
 pub returns-clause-side : goal.returns-clause-side
 returns-clause-side c =
-    let shown = ap (set.adds_each set.empty) (c.in_ok-numbers.ensures.formulas ∙ c.as_slice.ensures.listing) ∙ listed_set c.args.formulas.now in
+    let shown = ap set.of_list (c.in_ok-numbers.ensures.formulas ∙ c.as_slice.ensures.listing) ∙ listed_set c.args.formulas.now in
     if_ok c.put_side.result _ (λ (n : ℕ). HasSide c.put_side.new.self n c.args.formulas.now) (λ n s. s ∙ ap (λ (v : FormulaSet). Some (side v)) shown) c.put_side.ensures.side

@@ -18,7 +18,7 @@ loop-number-preserved c =
     let within : c.loop-number.number-index < length c.args.numbers.now = omega arith in
     let x = get_or c.args.numbers.now c.loop-number.number-index 0 in
     let before : List Formula = map (formula_at c.args.self.now) (take c.loop-number.number-index c.args.numbers.now) in
-    let one : variables_at c.loop-number.self c.loop-number.vars ≡ set.adds_each set.empty (var_lists before) =
+    let one : variables_at c.loop-number.self c.loop-number.vars ≡ set.of_list (var_lists before) =
     are_variables c.loop-number.self c.loop-number.vars _ c.loop-number.invariant.variables in
     let other : vars_formula (formula_at c.loop-number.self x) set.empty ≡ vars_formula (formula_at c.args.self.now x) set.empty =
     ap (λ f. vars_formula f set.empty) (formula_stays c.args.self.now c.loop-number.self c.loop-number.invariant.grown x (c.requires c.loop-number.number-index 0 within)) in
@@ -28,5 +28,5 @@ loop-number-preserved c =
           c.in_ok-vars-2.ensures.union
           ∙ (λ i. Some (variables (union_of (one i) (other i))))
           ∙ ap (λ (s : VarSet). Some (variables s)) (vars_more before (formula_at c.args.self.now x)
-          ∙ ap (λ (fs : List Formula). set.adds_each set.empty (var_lists fs)) (sym (map_taken (formula_at c.args.self.now) c.args.numbers.now c.loop-number.number-index 0 within)));
+          ∙ ap (λ (fs : List Formula). set.of_list (var_lists fs)) (sym (map_taken (formula_at c.args.self.now) c.args.numbers.now c.loop-number.number-index 0 within)));
     }

@@ -8,5 +8,5 @@ use Rattle.arena.proofs.arena.Arena.vars_of_each.Given as goal
 abbrev pub invariant-loop-number : goal.invariant-loop-number
 invariant-loop-number l = record {
   grown : Extends l.fn.self l.self;
-  variables : HasVariables l.self l.vars (set.adds_each set.empty (var_lists (map (formula_at l.fn.self) (take l.number-index l.numbers))));
+  variables : HasVariables l.self l.vars (set.of_list (var_lists (map (formula_at l.fn.self) (take l.number-index l.numbers))));
 }

@@ -13,7 +13,7 @@ use Rattle.arena.proofs.arena.Arena.vars_of_members.Goals as goal
 
 pub returns-clause-set : goal.returns-clause-set
 returns-clause-set c =
-    let shown = ap (λ (ns : List ℕ). set.adds_each set.empty (var_lists (map (formula_at c.args.self.now) ns))) c.as_slice.ensures
+    let shown = ap (λ (ns : List ℕ). set.of_list (var_lists (map (formula_at c.args.self.now) ns))) c.as_slice.ensures
     ∙ vars_shown (map (formula_at c.args.self.now) c.in_ok-numbers.numbers) ∙ ap vars_side (sym c.in_ok-numbers.ensures.shown) in
     if_ok c.vars_of_each.result _ (λ (n : ℕ). HasVariables c.vars_of_each.new.self n (vars_side (side_at c.args.self.now c.args.side)))
     (λ n s. s ∙ ap (λ (v : VarSet). Some (variables v)) shown) c.vars_of_each.ensures.set

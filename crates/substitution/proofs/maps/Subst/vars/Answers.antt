@@ -11,7 +11,7 @@ use Rattle.substitution.proofs.maps.Subst.vars.Goals as goal
 pub returns-clause-value : goal.returns-clause-value
 returns-clause-value c =
     let listed : c.loop-var.list.items ≡ keys c.self.inside.items.items = grind (arith, common_steps) in
-    c.from_vec.ensures ∙ ap (set.adds_each set.empty) (listed ∙ (ap keys (sym (fin.entries-from_sorted var_cmp c.self.inside.items.items c.self.invariant)) ∙ ap fin.keys c.self.view_is))
+    c.from_vec.ensures ∙ ap set.of_list (listed ∙ (ap keys (sym (fin.entries-from_sorted var_cmp c.self.inside.items.items c.self.invariant)) ∙ ap fin.keys c.self.view_is))
 
 pub returns-clause-members : goal.returns-clause-members
 returns-clause-members c v = ap (λ s. set.has s v) (returns-clause-value c) ∙ domain_members c.args.self.now v
