@@ -8,53 +8,54 @@ use Rattle.fol.specs.Formed.{is_formed_pred, IsFormedPred}
 use Rattle.substitution.specs.Closing.{closed_over}
 use Rattle.lk_rules.specs.declared.rule.Step.{Step}
 use Rattle.proof_trees.specs.Trees.{Tree}
-use Rattle.def_laws.specs.declared.fault.DefFault.{DefFault}
-use Rattle.def_laws.specs.declared.fault.DefFault.TheVariants as defining_faults
 use Rattle.def_laws.specs.Definitions.{definition as symbol_for}
 use Rattle.def_laws.specs.Marking.{marked_step}
 use Rattle.def_laws.specs.Defining.{defining}
 use Rattle.step_laws.specs.declared.fault.AdmitFault.{AdmitFault}
+use Rattle.step_laws.specs.declared.fault.StepCause.{StepCause}
 use Rattle.step_laws.specs.declared.fault.AdmitFault.TheVariants as admission
 use Rattle.step_laws.specs.Admission.{admission as admission_of}
 use Rattle.proof_graph.specs.declared.graph.Graph.{Graph}
+use Rattle.proof_subst.specs.declared.bench.Bench.{Bench}
+use Rattle.proof_subst.specs.declared.bench.BenchPass.{BenchPass}
+use Rattle.reply_lines.specs.declared.replies.StepShown.{StepShown}
+use Rattle.operation_laws.specs.declared.refusals.Refusal.{Refusal}
+use Rattle.operation_laws.specs.declared.refusals.Refusal.TheVariants.{Empty, Step as Faulty}
 use Rattle.operation_laws.specs.declared.refusals.Failure.TheVariants.{DefTwice}
-use Rattle.operation_laws.specs.Answers.{Answer, Product, definition, lacking, product}
+use Rattle.operation_laws.specs.Answers.{Answer, proof, definition, lacking, product, one}
 use Rattle.operation_laws.specs.Given.{Found, found}
-use Rattle.operation_laws.specs.Running.{over, admits_behind, repeated, unless_twice, formula_with, proves_with, defines, defines_with}
+use Rattle.operation_laws.specs.Running.{over, step_shown, admits_behind, repeated, unless_twice, proves_with, defines}
 use Rattle.operations.specs.declared.answers.Made.{Made}
 use Rattle.operations.specs.declared.answers.Made.TheVariants as made
 use Rattle.operations.specs.declared.answers.Ran.{Ran}
 use Rattle.operations.specs.declared.answers.Ran.TheVariants as ran
-use Rattle.operations.specs.Means.{made_of, FitsMade, Comes, LacksAlways}
+use Rattle.operations.specs.Means.{made_of, FitsMade, Comes, LacksAlways, faulty}
+use Rattle.operations.specs.Runs.{Runs}
 
--- it may lack memory
-lacks_once : (g : Graph) (o : Option (List ℕ)) (a : Answer) → Comes g ran.Lacking a → Comes g ran.Lacking (unless_twice o a)
-lacks_once g None a lacks = lacks
-lacks_once g (Some text) a lacks = tt
+-- steps into which definitions were put, or none, are a proof or not
+pub admission_gives : (g : Graph) (r : Ran) (names : List (List ℕ)) (t : Tree) (wanted : Result Tree AdmitFault) → wanted ≡ Ok t → Comes g r (product (proof t))
+    → Comes g r (admits_behind names wanted)
+admission_gives g r [] t wanted is comes = subst (λ w. Comes g r (admits_behind [] w)) (sym is) comes
+admission_gives g r (text ∷ texts) t wanted is comes = subst (λ w. Comes g r (admits_behind (text ∷ texts) w)) (sym is) comes
 
-lacks_behind : (g : Graph) (text : List ℕ) (texts : List (List ℕ)) (r : Result Tree AdmitFault) → Comes g ran.Lacking (admits_behind (text ∷ texts) r)
-lacks_behind g text texts (Ok t) = tt
-lacks_behind g text texts (Err admission.Empty) = tt
-lacks_behind g text texts (Err (admission.Step i cause)) = tt
-lacks_behind g text texts (Err admission.Memory) = tt
+pub admission_lacks : (g : Graph) (names : List (List ℕ)) (wanted : Result Tree AdmitFault) → (t : Tree) × (wanted ≡ Ok t) → Comes g ran.Lacking (admits_behind names wanted)
+admission_lacks g names wanted is = admission_gives g ran.Lacking names is.0 wanted is.1 tt
 
-lacks_if : (g : Graph) (b : Bool) (p : Product) → Comes g ran.Lacking (if b then product p else lacking)
-lacks_if g true p = tt
-lacks_if g false p = tt
+faulty_comes : (g : Graph) (names : List (List ℕ)) (fault : Refusal) (r : Ran) (a : Answer) → r ≡ faulty names fault → Comes g (faulty names fault) a → Comes g r a
+faulty_comes g names fault r a is comes = subst (λ q. Comes g q a) (sym is) comes
 
-lacks_defining : (g : Graph) (name : List ℕ) (vs : List Var) (f : Formula) (r : Result Pred DefFault) → Comes g ran.Lacking (defines name vs f r)
-lacks_defining g name vs f (Ok p) = lacks_if g (is_formed_pred p) _
-lacks_defining g name vs f (Err (defining_faults.Free v)) = tt
-lacks_defining g name vs f (Err defining_faults.Large) = tt
-lacks_defining g name vs f (Err defining_faults.Memory) = tt
+pub empty_faulty : (g : Graph) (r : Ran) (names : List (List ℕ)) (wanted : Result Tree AdmitFault) → wanted ≡ Err admission.Empty → r ≡ faulty names Empty
+    → Comes g r (admits_behind names wanted)
+empty_faulty g r [] wanted is same = faulty_comes g [] Empty r _ same (ap (admits_behind []) is)
+empty_faulty g r (text ∷ texts) wanted is same = faulty_comes g (text ∷ texts) Empty r _ same (ap (admits_behind (text ∷ texts)) is)
 
-pub proofs_lack : (names : List (List ℕ)) (list : List Step) → 0 < length names → LacksAlways (proves_with names list)
-proofs_lack [] list some = λ g ds. absurd (omega arith)
-proofs_lack (text ∷ texts) list some = λ g ds. lacks_once g (repeated (text ∷ texts) ds) _ (lacks_behind g text texts (admission_of (map (marked_step ds) list)))
-
-pub definitions_lack : (name : List ℕ) (vs : List Var) (f : Formula) (names : List (List ℕ)) → LacksAlways (defines_with name vs f names)
-definitions_lack name vs f names = λ g ds. lacks_once g (repeated names ds) _
-    (lacks_defining g name vs (formula_with names ds f) (defining name vs (formula_with names ds f)))
+pub step_faulty : (g : Graph) (r : Ran) (names : List (List ℕ)) (wanted : Result Tree AdmitFault) (i : ℕ) (cause : StepCause) (shown : StepShown)
+    → wanted ≡ Err (admission.Step i cause) → shown ≡ step_shown cause → r ≡ faulty names (Faulty i shown) → Comes g r (admits_behind names wanted)
+step_faulty g r names wanted i cause shown is so same = by_names names (same ∙ ap (λ x. faulty names (Faulty i x)) so)
+  where
+    by_names : (ns : List (List ℕ)) → r ≡ faulty ns (Faulty i (step_shown cause)) → Comes g r (admits_behind ns wanted)
+    by_names [] here = faulty_comes g [] (Faulty i (step_shown cause)) r _ here (ap (admits_behind []) is)
+    by_names (text ∷ texts) here = faulty_comes g (text ∷ texts) (Faulty i (step_shown cause)) r _ here (ap (admits_behind (text ∷ texts)) is)
 
 -- two are of one symbol, or none are
 pub twice_comes : (g : Graph) (text : List ℕ) (o : Option (List ℕ)) (a : Answer) → Some text ≡ o → Comes g (ran.Failed (DefTwice text)) (unless_twice o a)
@@ -63,12 +64,13 @@ twice_comes g text o a is = ap (λ w. unless_twice w a) (sym is)
 pub once_comes : (g : Graph) (r : Ran) (o : Option (List ℕ)) (a : Answer) → None ≡ o → Comes g r a → Comes g r (unless_twice o a)
 once_comes g r o a is comes = subst (λ w. Comes g r (unless_twice w a)) is comes
 
--- steps into which definitions were put
-pub behind_comes : (g : Graph) (r : Ran) (names : List (List ℕ)) (list : List Step) (ds : List Pred) → 0 < length names → None ≡ repeated names ds
-    → ((text : List ℕ) (texts : List (List ℕ)) → Comes g r (admits_behind (text ∷ texts) (admission_of (map (marked_step ds) list))))
-    → Comes g r (proves_with names list ds)
-behind_comes g r [] list ds some once comes = absurd (omega arith)
-behind_comes g r (text ∷ texts) list ds some once comes = once_comes g r (repeated (text ∷ texts) ds) _ once (comes text texts)
+-- steps with the definitions of some names put into them, no two of which are of one symbol
+pub marked_runs : (b : Bench) (old new : BenchPass) (r : Ran) (names : List (List ℕ)) (steps list : List Step) (ds : List Pred) → 0 < length names → None ≡ repeated names ds
+    → list ≡ map (marked_step ds) steps → Runs b old new r (one (admits_behind names (admission_of list))) → Runs b old new r (one (proves_with names steps ds))
+marked_runs b old new r [] steps list ds some once same runs = absurd (omega arith)
+marked_runs b old new r (text ∷ texts) steps list ds some once same runs =
+    subst (λ w. Runs b old new r (one (unless_twice w (admits_behind (text ∷ texts) (admission_of (map (marked_step ds) steps)))))) once
+    (subst (λ (l : List Step). Runs b old new r (one (admits_behind (text ∷ texts) (admission_of l)))) same runs)
 
 -- the names are given definitions, and memory ran out behind that
 pub some_lack : (f : Found (List Pred)) → (ds : List Pred) × (f ≡ found ds) → (g : Graph) (k : List Pred → Answer) → LacksAlways k → Comes g ran.Lacking (over f k)

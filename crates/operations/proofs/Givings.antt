@@ -1,46 +1,46 @@
 -- What an operation comes to, by what its fields are given.
-use Rattle.std.proofs.Common.{◌≡◌, Err, refl, sym, ap, ◌∙◌, subst}
+use Rattle.std.proofs.Common.{◌≡◌, ℕ, Err, refl, sym, ap, ◌∙◌, subst}
 use Rattle.proof_trees.specs.Trees.{Tree}
+use Rattle.tptp_problem.specs.declared.problems.Problem.{Problem}
 use Rattle.proof_graph.specs.declared.graph.Graph.{Graph}
 use Rattle.operation_laws.specs.declared.refusals.Refusal.{Refusal}
 use Rattle.operations.specs.declared.answers.Absent.{Absent}
 use Rattle.operations.specs.declared.answers.Absent.TheVariants as absent
 use Rattle.operations.specs.declared.answers.Ran.{Ran}
 use Rattle.operations.specs.declared.answers.Ran.TheVariants as ran
-use Rattle.operation_laws.specs.Answers.{Answer, refused, lacking}
+use Rattle.operation_laws.specs.Answers.{Answer, refused, lacking, Asked, one}
 use Rattle.operation_laws.specs.Given.{Found, missing, wanting, found}
-use Rattle.operation_laws.specs.Running.{over, over_both, to_eliminate}
+use Rattle.operation_laws.specs.Running.{over, over_both, to_eliminate, to_solve, to_saturate}
 use Rattle.operations.specs.Means.{Finds, without, Comes, ComesTo}
 
--- a field that is given nothing
-without_comes : {T A : Type 0} (g : Graph) (of : T → A) (a : Absent) (f : Found A) (k : A → Answer) → Finds of (Err a) f → Comes g (without a) (over f k)
-without_comes g of (absent.Refused r) f k is = ap (λ w. over w k) is
-without_comes g of absent.Unnamed (missing r) k shows = shows
-without_comes g of absent.Unnamed wanting k shows = absurd shows
-without_comes g of absent.Unnamed (found a) k shows = absurd shows
-without_comes g of absent.Wanting f k is = subst (λ w. Comes g ran.Lacking (over w k)) (sym is) tt
+-- a field that is given nothing, where a fault of the field is refused and want of memory is lacking
+module _ {T A : Type 0} (g : Graph) (of : T → A) (asks : Found A → Asked) (refuses : (t : Refusal) → asks (missing t) ≡ one (refused t)) (lacks : asks wanting ≡ one lacking) where
+  without_asked : (a : Absent) (f : Found A) → Finds of (Err a) f → ComesTo g (without a) (asks f)
+  without_asked (absent.Refused t) f is = subst (ComesTo g (ran.Refused t)) (sym (ap asks is ∙ refuses t)) refl
+  without_asked absent.Unnamed (missing t) shows = subst (ComesTo g ran.Unnamed) (sym (refuses t)) shows
+  without_asked absent.Unnamed wanting shows = absurd shows
+  without_asked absent.Unnamed (found a) shows = absurd shows
+  without_asked absent.Wanting f is = subst (ComesTo g ran.Lacking) (sym (ap asks is ∙ lacks)) tt
+
+  pub absent_from : (a : Absent) (r : Ran) (f : Found A) → r ≡ without a → Finds of (Err a) f → ComesTo g r (asks f)
+  absent_from a r f is finds = subst (λ q. ComesTo g q (asks f)) (sym is) (without_asked a f finds)
 
 pub absent_comes : {T A : Type 0} (g : Graph) (of : T → A) (a : Absent) (r : Ran) (f : Found A) (k : A → Answer) → r ≡ without a → Finds of (Err a) f → Comes g r (over f k)
-absent_comes g of a r f k is finds = subst (λ w. Comes g w (over f k)) (sym is) (without_comes g of a f k finds)
+absent_comes g of a r f k = absent_from g of (λ h. one (over h k)) (λ t. refl) refl a r f
 
--- the same where a proof without cuts is asked for
+-- the same where a proof without cuts is asked for, a model or a refutation, and rounds of resolution
 pub absent_asked : {T : Type 0} (g : Graph) (of : T → Tree) (a : Absent) (r : Ran) (f : Found Tree) → r ≡ without a → Finds of (Err a) f → ComesTo g r (to_eliminate f)
-absent_asked g of a r f is finds = subst (λ w. ComesTo g w (to_eliminate f)) (sym is) (asked_without a f finds)
-  where
-    asked_without : (b : Absent) (h : Found Tree) → Finds of (Err b) h → ComesTo g (without b) (to_eliminate h)
-    asked_without (absent.Refused t) h is = subst (λ w. ComesTo g (ran.Refused t) (to_eliminate w)) (sym is) refl
-    asked_without absent.Unnamed (missing t) shows = shows
-    asked_without absent.Unnamed wanting shows = absurd shows
-    asked_without absent.Unnamed (found t) shows = absurd shows
-    asked_without absent.Wanting h is = subst (λ w. ComesTo g ran.Lacking (to_eliminate w)) (sym is) tt
+absent_asked g of = absent_from g of to_eliminate (λ t. refl) refl
+
+pub absent_solved : {T : Type 0} (g : Graph) (of : T → Problem) (a : Absent) (r : Ran) (f : Found Problem) → r ≡ without a → Finds of (Err a) f → ComesTo g r (to_solve f)
+absent_solved g of = absent_from g of to_solve (λ t. refl) refl
+
+pub absent_saturated : {T : Type 0} (g : Graph) (of : T → Problem) (a : Absent) (r : Ran) (n : ℕ) (f : Found Problem) → r ≡ without a → Finds of (Err a) f → ComesTo g r (to_saturate n f)
+absent_saturated g of a r n = absent_from g of (to_saturate n) (λ t. refl) refl a r
 
 -- a field that is given something
 pub found_comes : {A : Type 0} (g : Graph) (r : Ran) (f : Found A) (a : A) (k : A → Answer) → f ≡ found a → Comes g r (k a) → Comes g r (over f k)
 found_comes g r f a k is comes = subst (λ w. Comes g r (over w k)) (sym is) comes
-
--- it is refused where what is done with it is
-pub found_refused : {A : Type 0} (f : Found A) (a : A) (k : A → Answer) (r : Refusal) → f ≡ found a → over f k ≡ refused r → k a ≡ refused r
-found_refused f a k r is refused_so = sym (ap (λ w. over w k) is) ∙ refused_so
 
 -- two fields, by the first
 module _ {A B : Type 0} (g : Graph) (f : Found A) (s : Found B) (k : A → B → Answer) where

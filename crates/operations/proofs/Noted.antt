@@ -56,32 +56,3 @@ noted_at_bench (ops.Fromexp of n) given p e = tt
 noted_at_bench (ops.Interpolate of one two n) given p e = tt
 noted_at_bench (ops.Herbrand of n) given p e = cc
 noted_at_bench (ops.Cutintro of width n) given p e = tt
-
--- what is refused or failed shows no proof
-pub refusal_not_reduced : (r : Refusal) → is_reduced (shown_refusal r) ≡ true → ⊥
-refusal_not_reduced (refusals.UnknownName text) e = cc
-refusal_not_reduced (refusals.Kind text) e = cc
-refusal_not_reduced refusals.Empty e = cc
-refusal_not_reduced (refusals.Step i cause) e = cc
-
-pub failure_not_reduced : (f : Failure) → is_reduced (shown_failure f) ≡ true → ⊥
-failure_not_reduced failures.Budget e = cc
-failure_not_reduced (failures.Unproved r) e = refusal_not_reduced r e
-failure_not_reduced (failures.Refutation i cause) e = cc
-failure_not_reduced (failures.Quantified f side) e = cc
-failure_not_reduced (failures.Falsified atoms) e = cc
-failure_not_reduced (failures.Node i cause) e = cc
-failure_not_reduced (failures.Root i cause) e = cc
-failure_not_reduced (failures.EigenTwice v) e = cc
-failure_not_reduced (failures.EigenFree v) e = cc
-failure_not_reduced (failures.Cycle vs) e = cc
-failure_not_reduced (failures.Cut i) e = cc
-failure_not_reduced (failures.Defined f side) e = cc
-failure_not_reduced (failures.Partition f side) e = cc
-failure_not_reduced (failures.NotPrenex f side) e = cc
-failure_not_reduced (failures.TooMany n) e = cc
-failure_not_reduced (failures.DefTwice text) e = cc
-failure_not_reduced (failures.DefFree v) e = cc
-failure_not_reduced failures.DefLarge e = cc
-failure_not_reduced (failures.NotGround i) e = cc
-failure_not_reduced failures.Rounds e = cc

@@ -28,10 +28,6 @@ pub refuted_lacks : (g : Graph) (wanted : Result Tree (ℕ × ResCause)) → Com
 refuted_lacks g (Ok t) = tt
 refuted_lacks g (Err (i, cause)) = tt
 
-refuted_stays : (wanted : Result Tree (ℕ × ResCause)) (r : Refusal) → refuted wanted ≡ refused r → ⊥
-refuted_stays (Ok t) r is = cc
-refuted_stays (Err (i, cause)) r is = cc
-
 -- what is tested of the clauses
 by_test : (cs : List Clause) (steps : List ResStep) (P : Answer → Type 0) → P (refuted (refutation cs steps)) → P lacking → P (refutes_clauses cs steps)
 by_test cs steps P refuting wanting =
@@ -39,9 +35,6 @@ by_test cs steps P refuting wanting =
 
 pub refutes_lacks : (g : Graph) (cs : List Clause) (steps : List ResStep) → Comes g ran.Lacking (refutes_clauses cs steps)
 refutes_lacks g cs steps = by_test cs steps (Comes g ran.Lacking) (refuted_lacks g (refutation cs steps)) tt
-
-pub never_refused : (steps : List ResStep) (p : Problem) (r : Refusal) → refutes steps p ≡ refused r → ⊥
-never_refused steps p r = by_test (clauses_of p.entries) steps (λ a. a ≡ refused r → ⊥) (refuted_stays (refutation (clauses_of p.entries) steps) r) (λ is. cc)
 
 -- clauses with closures are refuted by the import
 pub with_closures : (g : Graph) (r : Ran) (cs : List Clause) (steps : List ResStep) (p : Problem) → cs ≡ clauses_of p.entries → list_all has_closure cs ≡ true

@@ -34,17 +34,13 @@ use Rattle.sat_search.specs.declared.ground.Ground.{Ground}
 use Rattle.sat_search.specs.Grounds.{clauses_of as sequents_of_grounds}
 use Rattle.job_words.specs.Refutations.{HasFormedParts, HaveFormedParts}
 use Rattle.reply_lines.specs.Shown.{IsShownFormula, IsShownStep}
-use Rattle.tptp_problem.specs.declared.problems.Problem.{Problem}
 use Rattle.operation_laws.specs.declared.refusals.Failure.TheVariants.{NotGround}
 use Rattle.operation_laws.specs.Answers.{lacking, product, model, refutation, one, satisfiability, IsModelOf, IsRefutationOf}
-use Rattle.operation_laws.specs.Given.{Found, missing, wanting, found}
-use Rattle.operation_laws.specs.Running.{has_closure, first_open, solves_ground, to_solve}
+use Rattle.operation_laws.specs.Running.{has_closure, first_open, solves_ground}
 use Rattle.operations.specs.declared.answers.Ran.{Ran}
 use Rattle.operations.specs.declared.answers.Ran.TheVariants as ran
 use Rattle.operations.specs.declared.answers.Made.TheVariants as made
-use Rattle.operations.specs.declared.answers.Absent.{Absent}
-use Rattle.operations.specs.declared.answers.Absent.TheVariants as absent
-use Rattle.operations.specs.Means.{Finds, without, ComesTo}
+use Rattle.operations.specs.Means.{ComesTo}
 
 -- the first clause in which a variable stands
 
@@ -210,18 +206,3 @@ ground_comes g r cs ds same is closed comes =
     subst (λ (es : List Clause). ComesTo g r (solves_ground (first_open es) es)) same
     (subst (λ (o : Option ℕ). ComesTo g r (solves_ground o cs)) is
     (subst (λ (b : Bool). ComesTo g r (cond b (satisfiability cs) (one lacking))) (sym closed) comes))
-
--- what the field is given
-
-pub problem_solved : (g : Graph) (r : Ran) (f : Found Problem) (p : Problem) → f ≡ found p → ComesTo g r (to_solve (found p)) → ComesTo g r (to_solve f)
-problem_solved g r f p is comes = subst (λ w. ComesTo g r (to_solve w)) (sym is) comes
-
-pub absent_solved : {T : Type 0} (g : Graph) (of : T → Problem) (a : Absent) (r : Ran) (f : Found Problem) → r ≡ without a → Finds of (Err a) f → ComesTo g r (to_solve f)
-absent_solved g of a r f is finds = subst (λ w. ComesTo g w (to_solve f)) (sym is) (asked_without a f finds)
-  where
-    asked_without : (b : Absent) (h : Found Problem) → Finds of (Err b) h → ComesTo g (without b) (to_solve h)
-    asked_without (absent.Refused t) h is = subst (λ w. ComesTo g (ran.Refused t) (to_solve w)) (sym is) refl
-    asked_without absent.Unnamed (missing t) shows = shows
-    asked_without absent.Unnamed wanting shows = absurd shows
-    asked_without absent.Unnamed (found p) shows = absurd shows
-    asked_without absent.Wanting h is = subst (λ w. ComesTo g ran.Lacking (to_solve w)) (sym is) tt

@@ -29,17 +29,13 @@ use Rattle.clause_laws.specs.Saturation.{IsSaturation}
 use Rattle.res_prover.specs.Answers.{IsRefuted}
 use Rattle.job_words.specs.Refutations.{IsFormedBinding, HasFormedParts, HaveFormedParts}
 use Rattle.reply_lines.specs.Shown.{IsShownBinding, IsShownStep, IsShownClause}
-use Rattle.tptp_problem.specs.declared.problems.Problem.{Problem}
 use Rattle.operation_laws.specs.declared.refusals.Failure.TheVariants.{Rounds}
 use Rattle.operation_laws.specs.Answers.{failed, lacking, product, derivation, saturated, one, saturation, IsRefutedIn, IsSaturatedIn, IsUnfinished}
-use Rattle.operation_laws.specs.Given.{Found, missing, wanting, found}
-use Rattle.operation_laws.specs.Running.{has_closure, saturates, to_saturate}
+use Rattle.operation_laws.specs.Running.{has_closure, saturates}
 use Rattle.operations.specs.declared.answers.Ran.{Ran}
 use Rattle.operations.specs.declared.answers.Ran.TheVariants as ran
 use Rattle.operations.specs.declared.answers.Made.TheVariants as made
-use Rattle.operations.specs.declared.answers.Absent.{Absent}
-use Rattle.operations.specs.declared.answers.Absent.TheVariants as absent
-use Rattle.operations.specs.Means.{Finds, without, ComesTo}
+use Rattle.operations.specs.Means.{ComesTo}
 
 -- the literals of a clause are a clause of resolution
 
@@ -70,21 +66,6 @@ parts_formed (Resolve p n a) shown = shown.2.1
 
 pub have_formed_parts : (steps : List ResStep) → All IsShownStep steps → HaveFormedParts steps
 have_formed_parts steps shown = All-weaker IsShownStep HasFormedParts parts_formed steps shown
-
--- a refutation
-pub derivation_comes : (g : Graph) (cs : List Clause) (n : ℕ) (steps : List ResStep) (r : Reference) → IsRefuted (sequents_of cs) n steps → All IsShownStep steps
-    → refutation_of cs steps ≡ Ok r.tree → IsOf g r → ComesTo g (ran.Done (made.Derivation steps r)) (saturation cs n)
-derivation_comes g cs n steps r refuted shown stands of =
-    let met : IsRefutedIn cs n (product (derivation steps r.tree)) = record {
-      reached = refuted.reached;
-      steps = steps;
-      formed = refuted.refutation.formed;
-      tree = r.tree;
-      stands = stands;
-      shown = shown;
-      is = refl;
-    } in
-    (product (derivation steps r.tree), inl met, (refl, of))
 
 -- the clauses that rounds end with
 pub saturation_comes : (g : Graph) (cs : List Clause) (n : ℕ) (ks js : List Sequent) → IsSaturation (sequents_of cs) n js → ks ≡ js → All IsShownClause ks
@@ -120,18 +101,3 @@ pub closed_comes : (g : Graph) (r : Ran) (cs ds : List Clause) (n : ℕ) → cs 
 closed_comes g r cs ds n same closed comes =
     subst (λ (es : List Clause). ComesTo g r (saturates es n)) same
     (subst (λ (b : Bool). ComesTo g r (cond b (saturation cs n) (one lacking))) (sym closed) comes)
-
--- what the field is given
-
-pub problem_saturated : (g : Graph) (r : Ran) (n : ℕ) (f : Found Problem) (p : Problem) → f ≡ found p → ComesTo g r (to_saturate n (found p)) → ComesTo g r (to_saturate n f)
-problem_saturated g r n f p is comes = subst (λ w. ComesTo g r (to_saturate n w)) (sym is) comes
-
-pub absent_saturated : {T : Type 0} (g : Graph) (of : T → Problem) (a : Absent) (r : Ran) (n : ℕ) (f : Found Problem) → r ≡ without a → Finds of (Err a) f → ComesTo g r (to_saturate n f)
-absent_saturated g of a r n f is finds = subst (λ w. ComesTo g w (to_saturate n f)) (sym is) (asked_without a f finds)
-  where
-    asked_without : (b : Absent) (h : Found Problem) → Finds of (Err b) h → ComesTo g (without b) (to_saturate n h)
-    asked_without (absent.Refused t) h is = subst (λ w. ComesTo g (ran.Refused t) (to_saturate n w)) (sym is) refl
-    asked_without absent.Unnamed (missing t) shows = shows
-    asked_without absent.Unnamed wanting shows = absurd shows
-    asked_without absent.Unnamed (found p) shows = absurd shows
-    asked_without absent.Wanting h is = subst (λ w. ComesTo g ran.Lacking (to_saturate n w)) (sym is) tt

@@ -1,3 +1,4 @@
 pub mod Means
 pub mod Noted
 pub mod Claimed
+pub mod Runs

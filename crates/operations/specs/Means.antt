@@ -4,7 +4,8 @@
 --     Comes, ComesTo      what an operation came to stands for an answer, and for one to what it asks for
 --     is_refusal      an operation came to a refusal or a failure
 --     IsShort      an operation failed because the work takes more than the budget allows
-use Rattle.std.specs.Prelude.{◌≡◌, Bool, true, false, List, Result, Ok, Err}
+--     faulty      steps are no proof
+use Rattle.std.specs.Prelude.{◌≡◌, ℕ, Bool, true, false, List, [], ◌∷◌, Result, Ok, Err}
 use Rattle.std.specs.List.{All}
 use Rattle.proof_graph.specs.declared.graph.Graph.{Graph}
 use Rattle.proof_graph.specs.Graphs.{IsOf}
@@ -17,7 +18,8 @@ use Rattle.tptp_problem.specs.ProblemClauses.{IsReadProblem}
 use Rattle.job_lang.specs.declared.jobs.Op.{Op}
 use Rattle.job_lang.specs.declared.jobs.Op.TheVariants as ops
 use Rattle.operation_laws.specs.declared.refusals.Refusal.{Refusal}
-use Rattle.operation_laws.specs.declared.refusals.Failure.TheVariants.{Budget}
+use Rattle.operation_laws.specs.declared.refusals.Refusal.TheVariants.{UnknownName, Kind}
+use Rattle.operation_laws.specs.declared.refusals.Failure.TheVariants.{Budget, Unproved}
 use Rattle.operations.specs.declared.answers.Made.{Made}
 use Rattle.operations.specs.declared.answers.Made.TheVariants as made
 use Rattle.operations.specs.declared.answers.Ran.{Ran}
@@ -30,6 +32,8 @@ use Rattle.operations.specs.declared.given.ToShow.{ToShow}
 use Rattle.operations.specs.declared.given.ToShow.TheVariants as to_show
 use Rattle.operations.specs.declared.answers.Absent.{Absent}
 use Rattle.operations.specs.declared.answers.Absent.TheVariants as absent
+use Rattle.held_values.specs.declared.held.Held.{Held}
+use Rattle.held_values.specs.declared.held.Held.TheVariants as held
 use Rattle.held_values.specs.Means.{ShowsName}
 
 -- what a product of the program means
@@ -76,6 +80,12 @@ IsAbsent (absent.Refused r) wanted = r ≡ wanted
 IsAbsent absent.Unnamed wanted = ShowsName wanted
 IsAbsent absent.Wanting wanted = ⊥
 
+-- the field is given nothing of a value that it doesn't take: no job has the name, or the job lacked memory, or it holds another kind of value
+abbrev pub GivesNothing : Absent → List ℕ → Held → Type 0
+GivesNothing a text held.Unknown = IsAbsent a (UnknownName text)
+GivesNothing a text held.Unheld = a ≡ absent.Wanting
+GivesNothing a text value = IsAbsent a (Kind text)
+
 -- why there is nothing that a field was given, in the program
 abbrev pub FindsNone : {A : Type 0} → Absent → Found A → Type 0
 FindsNone (absent.Refused r) wanted = wanted ≡ given.missing r
@@ -112,6 +122,11 @@ abbrev pub without : Absent → Ran
 without (absent.Refused r) = ran.Refused r
 without absent.Unnamed = ran.Unnamed
 without absent.Wanting = ran.Lacking
+
+-- what steps come to that are no proof: they are refused, and with definitions put into them that is found by work
+abbrev pub faulty : List (List ℕ) → Refusal → Ran
+faulty [] r = ran.Refused r
+faulty (text ∷ texts) r = ran.Failed (Unproved r)
 
 -- what an operation is run with: a graph, into which it puts nothing; a bench for the proofs that it makes; or a desk for an elimination of cuts
 pub data Needs : Type 0 where

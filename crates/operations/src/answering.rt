@@ -4,7 +4,7 @@ ghost use Rattle.std.specs.List.{All};
 ghost use mathlib.Core.List.{IsPrefix};
 ghost use Rattle.proof_graph.specs.declared.graph.Graph.{Graph as GraphMeaning};
 ghost use Rattle.proof_graph.specs.Graphs.{history};
-ghost use Rattle.proof_subst.specs.Benches.{graph_of, pass_in, images_in, IsBenchPassOf, Extends};
+ghost use Rattle.proof_subst.specs.Benches.{graph_of, pass_in, images_in, IsBenchPassOf};
 ghost use Rattle.cut_elim.specs.Desks.{bench_of, pass_in as bench_pass_in, eliminations_in, IsDeskPassOf, Extends as ExtendsDesk};
 ghost use Rattle.tptp_problem.specs.ProblemClauses.{IsReadProblem};
 ghost use Rattle.job_lang.specs.FormedOps.{IsFormedOp};
@@ -13,9 +13,10 @@ ghost use Rattle.operation_laws.specs.Answers.{product, problem as problem_made}
 ghost use Rattle.operation_laws.specs.Given.{names_in};
 ghost use Rattle.operation_laws.specs.Running.{run};
 ghost use Rattle.held_values.specs.Means.{sense, Fits, IsAnsweredTo};
-ghost use Rattle.operations.specs.Means.{a_graph, a_bench, a_desk, needs, Comes, is_refusal, IsShort, ComesTo};
+ghost use Rattle.operations.specs.Means.{a_graph, a_bench, a_desk, needs, Comes, ComesTo};
 ghost use Rattle.operations.specs.Noted.{IsNoted, is_done, is_reduced};
 ghost use Rattle.operations.specs.Claimed.{IsClaimedAnswer};
+ghost use Rattle.operations.specs.Runs.{Runs, RunsAtDesk};
 
 use crate::answers::{Made, Ran};
 use crate::building::build_from;
@@ -42,7 +43,9 @@ use proof_graph::Graph;
 use proof_subst::{Bench, BenchPass};
 use reply_lines::Outcome;
 use std::alloc::Global;
+use std::marker::Brand;
 use std::sync::Wait;
+use std::sync::ledger::Blank;
 use std::thread::Threads;
 use tptp_problem::Problem;
 
@@ -103,11 +106,7 @@ fn run_making<R: Wait + Threads + Sync>(
     requires count { length given.now ≡ length (names_in op.now) }
     requires op { IsFormedOp op.now }
     requires fits { All (Fits (graph_of bench.now)) given.now }
-    ensures ran { ComesTo (graph_of bench.now) result (run op.now (map sense given.now)) }
-    ensures unchanged { is_refusal result ≡ true → history (pass_in pass.new) ≡ history (pass_in pass.old) }
-    ensures images_unchanged { is_refusal result ≡ true → images_in pass.new ≡ images_in pass.old }
-    ensures images_grown { IsPrefix (images_in pass.old) (images_in pass.new) }
-    ensures extends { Extends bench.now pass.old pass.new }
+    ensures { Runs bench.now pass.old pass.new result (run op.now (map sense given.now)) }
 {
     match op {
         Op::Lk { steps, using } => admit_with(rt, alloc, bench, pass, steps, using, given),
@@ -165,15 +164,9 @@ fn run_given<R: Wait + Threads + Sync>(
     requires count { length given.now ≡ length (names_in op.now) }
     requires op { IsFormedOp op.now }
     requires fits { All (Fits (graph_of (bench_of desk.now))) given.now }
-    ensures ran { ComesTo (graph_of (bench_of desk.now)) result (run op.now (map sense given.now)) }
+    ensures runs { RunsAtDesk desk.now pass.old pass.new result (run op.now (map sense given.now)) }
     ensures noted { is_done result ≡ true → IsNoted op.now given.now pass.new }
-    ensures unchanged { is_refusal result ≡ true → history (pass_in (bench_pass_in pass.new)) ≡ history (pass_in (bench_pass_in pass.old)) }
-    ensures images_unchanged { is_refusal result ≡ true → images_in (bench_pass_in pass.new) ≡ images_in (bench_pass_in pass.old) }
-    ensures images_grown { IsPrefix (images_in (bench_pass_in pass.old)) (images_in (bench_pass_in pass.new)) }
-    ensures eliminations_unchanged { is_refusal result ≡ true → ¬ IsShort result → eliminations_in pass.new ≡ eliminations_in pass.old }
     ensures eliminations_only { needs op.now ≢ a_desk → eliminations_in pass.new ≡ eliminations_in pass.old }
-    ensures eliminations_grown { IsPrefix (eliminations_in pass.old) (eliminations_in pass.new) }
-    ensures extends { ExtendsDesk desk.now pass.old pass.new }
 {
     let bench = desk.bench();
     let graph = bench.graph();
@@ -197,9 +190,14 @@ fn run_given<R: Wait + Threads + Sync>(
         | Op::Interpolate { .. }
         | Op::Cutintro { .. } => { run_making(rt, alloc, bench, Desk::bench_pass(pass), op, given) }
         Op::Cutelim { proof, budget } => {
-            eliminate_in(rt, alloc, desk, pass, proof, first(given), budget.get())
+            let ledger = Blank::new(1);
+            let budget = budget.get();
+            eliminate_in::<R, Brand>(rt, alloc, desk, pass, proof, first(given), budget, ledger)
         }
-        Op::Eliminate { proof } => eliminate_all_in(rt, alloc, desk, pass, proof, first(given)),
+        Op::Eliminate { proof } => {
+            let ledger = Blank::new(1);
+            eliminate_all_in::<R, Brand>(rt, alloc, desk, pass, proof, first(given), ledger)
+        }
     }
 }
 

@@ -6,10 +6,11 @@ ghost use Rattle.proof_graph.specs.declared.graph.Graph.{Graph as GraphMeaning};
 ghost use Rattle.proof_graph.specs.Graphs.{IsOf};
 ghost use Rattle.exp_tree.specs.Reads.{expansion_of};
 ghost use Rattle.tptp_problem.specs.ProblemClauses.{IsReadProblem};
-ghost use Rattle.operation_laws.specs.Answers.{Answer, product, proof as proof_made, reduced as reduced_made, problem as problem_made, expansion as expansion_made, interpolant as interpolant_made, introduced as introduced_made, definition as definition_made, shown_product, summary_of, exp_summary_of, shown_refusal as refusal_shown, shown_failure as failure_shown};
+ghost use Rattle.operation_laws.specs.Answers.{Answer, problem as problem_made, interpolant as interpolant_made, definition as definition_made, summary_of, exp_summary_of, shown_refusal as refusal_shown, shown_failure as failure_shown};
 ghost use Rattle.held_values.specs.Means.{sense, Fits, IsAnswered};
 ghost use Rattle.operations.specs.Means.{FitsMade, made_of, Comes, is_refusal, IsShort};
 ghost use Rattle.operations.specs.Noted.{is_done, is_reduced};
+ghost use Rattle.operations.specs.Runs.{IsReply};
 
 use crate::answers::{Made, Ran};
 use exp_tree::{CheckedExp, count_instances, shallow_sequent, strong_vars};
@@ -72,44 +73,17 @@ fn summary(graph: &Graph, alloc: Global, proof: &ProofRef) -> Result<Summary, Al
     Ok(Summary { cuts, end, quants })
 }
 
-fn hold_proof(graph: &Graph, alloc: Global, proof: ProofRef) -> (Outcome, Held)
-    requires { IsOf graph.now proof }
-    ensures answered { IsAnswered result.0 (sense result.1) (product (proof_made proof.tree)) }
-    ensures fits { Fits graph.now result.1 }
-    ensures refused { result.1 ≡ Held.Refused → ⊥ }
-{
-    match summary(graph, alloc, &proof) {
-        Ok(summary) => (Outcome::Proof(summary), Held::Proof(proof)),
-        Err(_) => (Outcome::Memory, Held::Unheld),
-    }
-}
-
-fn hold_reduced(graph: &Graph, alloc: Global, proof: ProofRef, reductions: u64) -> (Outcome, Held)
-    requires { IsOf graph.now proof }
-    ensures answered { IsAnswered result.0 (sense result.1) (product (reduced_made proof.tree reductions)) }
-    ensures fits { Fits graph.now result.1 }
-    ensures refused { result.1 ≡ Held.Refused → ⊥ }
-{
-    match summary(graph, alloc, &proof) {
-        Ok(summary) => (Outcome::Reduced(summary, reductions), Held::Proof(proof)),
-        Err(_) => (Outcome::Memory, Held::Unheld),
-    }
-}
-
-fn hold_problem(problem: Problem) -> (Outcome, Held)
+// A problem is held as it is, and shown by the number of its entries and its sequent.
+fn hold_problem(problem: Problem) -> Result<(Outcome, Held), AllocError>
     requires { IsReadProblem problem }
-    ensures answered { IsAnswered result.0 (sense result.1) (product (problem_made problem)) }
-    ensures fits { (g : GraphMeaning) → Fits g result.1 }
-    ensures refused { result.1 ≡ Held.Refused → ⊥ }
+    ensures { (g : GraphMeaning) → IfOk result (λ reply. IsReply g (problem_made problem) reply.0 reply.1) }
 {
     let entries = problem.entries.as_slice().len() as u64;
-    match problem.sequent.copy() {
-        Ok(sequent) => (
-            Outcome::Entries { entries, sequent },
-            Held::Problem(problem),
-        ),
-        Err(_) => (Outcome::Memory, Held::Unheld),
-    }
+    let sequent = problem.sequent.copy()?;
+    Ok((
+        Outcome::Entries { entries, sequent },
+        Held::Problem(problem),
+    ))
 }
 
 // Expansion trees in short.
@@ -128,143 +102,97 @@ fn exp_summary(alloc: Global, checked: &CheckedExp) -> Result<ExpSummary, AllocE
     })
 }
 
-fn hold_expansion(alloc: Global, checked: CheckedExp) -> (Outcome, Held)
-    ensures answered { IsAnswered result.0 (sense result.1) (product (expansion_made (expansion_of checked))) }
-    ensures fits { (g : GraphMeaning) → Fits g result.1 }
-    ensures refused { result.1 ≡ Held.Refused → ⊥ }
-{
-    match exp_summary(alloc, &checked) {
-        Ok(summary) => (Outcome::Expansion(summary), Held::Expansion(checked)),
-        Err(_) => (Outcome::Memory, Held::Unheld),
-    }
-}
-
-// Two proofs in short.
-fn summaries(
-    graph: &Graph,
-    alloc: Global,
-    first: &ProofRef,
-    second: &ProofRef,
-) -> Result<(Summary, Summary), AllocError>
-    requires first { IsOf graph.now first.now }
-    requires second { IsOf graph.now second.now }
-    ensures first { IfOk result (λ s. s.0 ≡ summary_of first.now.tree) }
-    ensures second { IfOk result (λ s. s.1 ≡ summary_of second.now.tree) }
-{
-    let first = summary(graph, alloc, first)?;
-    let second = summary(graph, alloc, second)?;
-    Ok((first, second))
-}
-
+// Two proofs are held as a pair, and shown in short with the interpolant.
 fn hold_interpolant(
     graph: &Graph,
     alloc: Global,
     formula: FormedFormula,
     first: ProofRef,
     second: ProofRef,
-) -> (Outcome, Held)
+) -> Result<(Outcome, Held), AllocError>
     requires first { IsOf graph.now first }
     requires second { IsOf graph.now second }
-    ensures answered { IsAnswered result.0 (sense result.1) (product (interpolant_made formula first.tree second.tree)) }
-    ensures fits { Fits graph.now result.1 }
-    ensures refused { result.1 ≡ Held.Refused → ⊥ }
+    ensures { IfOk result (λ reply. IsReply graph.now (interpolant_made formula first.tree second.tree) reply.0 reply.1) }
 {
-    match summaries(graph, alloc, &first, &second) {
-        Ok((first_summary, second_summary)) => (
-            Outcome::Interpolant {
-                first: first_summary,
-                formula,
-                second: second_summary,
-            },
-            Held::Pair(first, second),
-        ),
-        Err(_) => (Outcome::Memory, Held::Unheld),
-    }
+    let first_summary = summary(graph, alloc, &first)?;
+    let second_summary = summary(graph, alloc, &second)?;
+    Ok((
+        Outcome::Interpolant {
+            first: first_summary,
+            formula,
+            second: second_summary,
+        },
+        Held::Pair(first, second),
+    ))
 }
 
-fn hold_introduced(graph: &Graph, alloc: Global, proof: ProofRef, shorter: bool) -> (Outcome, Held)
-    requires { IsOf graph.now proof }
-    ensures answered { IsAnswered result.0 (sense result.1) (product (introduced_made proof.tree shorter)) }
-    ensures fits { Fits graph.now result.1 }
-    ensures refused { result.1 ≡ Held.Refused → ⊥ }
+// A symbol is held with the formula that it stands for, and shown by its name, by how many arguments it has, and by the formula.
+fn hold_definition(symbol: Sym, body: Formula) -> Result<(Outcome, Held), AllocError>
+    requires { IsFormedPred (pred symbol (defined body)) }
+    ensures { (g : GraphMeaning) → IfOk result (λ reply. IsReply g (definition_made symbol body) reply.0 reply.1) }
 {
-    match summary(graph, alloc, &proof) {
-        Ok(summary) => (Outcome::Introduced { summary, shorter }, Held::Proof(proof)),
-        Err(_) => (Outcome::Memory, Held::Unheld),
-    }
-}
-
-// What is shown of a definition: the symbol's name, how many arguments it has, and the formula.
-fn definition_shown(symbol: &Sym, body: &Formula) -> Result<Outcome, AllocError>
-    requires { IsFormedPred (pred symbol.now (defined body.now)) }
-    ensures { IfOk result (λ outcome. outcome ≡ shown_product (definition_made symbol.now body.now)) }
-{
-    Ok(Outcome::Definition {
+    let outcome = Outcome::Definition {
         symbol: SymbolName::new(symbol.name.copy()?),
         arity: u64::from(symbol.arity),
         body: FormedFormula::new(body.copy()?),
-    })
-}
-
-fn hold_definition(symbol: Sym, body: Formula) -> (Outcome, Held)
-    requires { IsFormedPred (pred symbol (defined body)) }
-    ensures answered { IsAnswered result.0 (sense result.1) (product (definition_made symbol body)) }
-    ensures fits { (g : GraphMeaning) → Fits g result.1 }
-    ensures refused { result.1 ≡ Held.Refused → ⊥ }
-{
-    match definition_shown(&symbol, &body) {
-        Ok(outcome) => (
-            outcome,
-            Held::Definition(Predicate {
-                symbol,
-                body: Some(body),
-            }),
-        ),
-        Err(_) => (Outcome::Memory, Held::Unheld),
-    }
+    };
+    let body = Some(body);
+    Ok((outcome, Held::Definition(Predicate { symbol, body })))
 }
 
 // What is replied to a job whose operation is done, with what the job holds.
-fn hold(graph: &Graph, alloc: Global, made: Made) -> (Outcome, Held)
+fn hold(graph: &Graph, alloc: Global, made: Made) -> Result<(Outcome, Held), AllocError>
     requires { FitsMade graph.now made }
-    ensures answered { IsAnswered result.0 (sense result.1) (product (made_of made)) }
-    ensures fits { Fits graph.now result.1 }
-    ensures refused { result.1 ≡ Held.Refused → ⊥ }
+    ensures { IfOk result (λ reply. IsReply graph.now (made_of made) reply.0 reply.1) }
 {
     match made {
-        Made::Proof(proof) => hold_proof(graph, alloc, proof),
-        Made::Reduced(proof, reductions) => hold_reduced(graph, alloc, proof, reductions),
-        Made::Problem(problem) => hold_problem(problem),
-        Made::Proves(proves) => (Outcome::Proves(proves), Held::Nothing),
-        Made::Steps(steps) => (Outcome::Steps(steps), Held::Nothing),
-        Made::Sizes {
-            cuts,
-            nodes,
-            quants,
-            size,
-        } => (
-            Outcome::Measure {
-                cuts,
-                nodes,
-                quants,
-                size,
-            },
-            Held::Nothing,
-        ),
-        Made::Expansion(checked) => hold_expansion(alloc, checked),
-        Made::Nodes(flat) => (Outcome::Nodes(flat), Held::Nothing),
+        Made::Proof(proof) => {
+            let summary = summary(graph, alloc, &proof)?;
+            Ok((Outcome::Proof(summary), Held::Proof(proof)))
+        }
+        Made::Reduced(proof, reductions) => {
+            let summary = summary(graph, alloc, &proof)?;
+            Ok((Outcome::Reduced(summary, reductions), Held::Proof(proof)))
+        }
+        Made::Introduced { proof, shorter } => {
+            let summary = summary(graph, alloc, &proof)?;
+            Ok((Outcome::Introduced { summary, shorter }, Held::Proof(proof)))
+        }
         Made::Interpolant {
             formula,
             first,
             second,
         } => hold_interpolant(graph, alloc, formula, first, second),
-        Made::Herbrand { count, sequent } => (Outcome::Herbrand { count, sequent }, Held::Nothing),
-        Made::Introduced { proof, shorter } => hold_introduced(graph, alloc, proof, shorter),
+        Made::Problem(problem) => hold_problem(problem),
+        Made::Expansion(checked) => {
+            let summary = exp_summary(alloc, &checked)?;
+            Ok((Outcome::Expansion(summary), Held::Expansion(checked)))
+        }
         Made::Definition(symbol, body) => hold_definition(symbol, body),
-        Made::Model(atoms) => (Outcome::Satisfiable(atoms), Held::Nothing),
-        Made::Refutation(steps, proof) => (Outcome::Unsatisfiable(steps), Held::Proof(proof)),
-        Made::Derivation(steps, proof) => (Outcome::Refuted(steps), Held::Proof(proof)),
-        Made::Saturated(clauses) => (Outcome::Saturated(clauses), Held::Nothing),
+        Made::Refutation(steps, proof) => Ok((Outcome::Unsatisfiable(steps), Held::Proof(proof))),
+        Made::Derivation(steps, proof) => Ok((Outcome::Refuted(steps), Held::Proof(proof))),
+        Made::Proves(proves) => Ok((Outcome::Proves(proves), Held::Nothing)),
+        Made::Steps(steps) => Ok((Outcome::Steps(steps), Held::Nothing)),
+        Made::Sizes {
+            cuts,
+            nodes,
+            quants,
+            size,
+        } => {
+            let measured = Outcome::Measure {
+                cuts,
+                nodes,
+                quants,
+                size,
+            };
+            Ok((measured, Held::Nothing))
+        }
+        Made::Nodes(flat) => Ok((Outcome::Nodes(flat), Held::Nothing)),
+        Made::Herbrand { count, sequent } => {
+            Ok((Outcome::Herbrand { count, sequent }, Held::Nothing))
+        }
+        Made::Model(atoms) => Ok((Outcome::Satisfiable(atoms), Held::Nothing)),
+        Made::Saturated(clauses) => Ok((Outcome::Saturated(clauses), Held::Nothing)),
     }
 }
 
@@ -282,6 +210,9 @@ pub fn conclude(graph: &Graph, alloc: Global, ran: Ran) -> (Outcome, Held)
         Ran::Unnamed => (Outcome::Memory, Held::Refused),
         Ran::Failed(failure) => (shown_failure(failure), Held::Refused),
         Ran::Lacking => (Outcome::Memory, Held::Unheld),
-        Ran::Done(made) => hold(graph, alloc, made),
+        Ran::Done(made) => match hold(graph, alloc, made) {
+            Ok(reply) => reply,
+            Err(_) => (Outcome::Memory, Held::Unheld),
+        },
     }
 }

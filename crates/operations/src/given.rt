@@ -5,11 +5,10 @@ ghost use Rattle.fol.specs.Syntax.{Pred};
 ghost use Rattle.fol.specs.Formed.{IsFormedPred};
 ghost use Rattle.proof_graph.specs.declared.graph.Graph.{Graph};
 ghost use Rattle.proof_graph.specs.Graphs.{IsOf};
-ghost use Rattle.operation_laws.specs.declared.refusals.Refusal.TheVariants.{UnknownName, Kind as OtherKind};
 ghost use Rattle.exp_tree.specs.Reads.{expansion_of};
 ghost use Rattle.operation_laws.specs.Given.{first_name as first_of_pair, second_name as second_of_pair, pair_name as pair_of, one_of as one_named, proof_given as proof_found, problem_given as problem_found, expansion_given as expansion_found, shown_given as shown_found, definition_given as definition_found, definitions_given as definitions_found, found, first_of, second_of};
 ghost use Rattle.held_values.specs.Means.{sense, Fits};
-ghost use Rattle.operations.specs.Means.{FitsShown, Finds, FindsNone, shown_as, IsAbsent};
+ghost use Rattle.operations.specs.Means.{FitsShown, Finds, FindsNone, shown_as, GivesNothing};
 ghost use Rattle.operations.specs.Noted.{proof_in, first_held};
 ghost use Rattle.held_values.specs.declared.held.Held.TheVariants.{Problem as ProblemHeld};
 
@@ -50,23 +49,20 @@ pub fn text_copy(alloc: Global, text: &Utf8Text) -> Result<Utf8Text, AllocError>
     Ok(Utf8Text::from_string(String::from_str(alloc, text.as_str())?))
 }
 
-// No earlier job has the name in a field.
-fn unknown(alloc: Global, text: &Utf8Text) -> Absent
-    ensures { IsAbsent result (UnknownName text.now) }
+// Why a field is given nothing of a value that it doesn't take.
+fn nothing_given(alloc: Global, text: &Utf8Text, value: &Held) -> Absent
+    ensures { GivesNothing result text.now value.now }
 {
-    match text_copy(alloc, text) {
-        Ok(text) => Absent::Refused(Refusal::UnknownName(text)),
-        Err(_) => Absent::Unnamed,
-    }
-}
-
-// The job that is named in a field holds another kind of value.
-fn other_kind(alloc: Global, text: &Utf8Text) -> Absent
-    ensures { IsAbsent result (OtherKind text.now) }
-{
-    match text_copy(alloc, text) {
-        Ok(text) => Absent::Refused(Refusal::Kind(text)),
-        Err(_) => Absent::Unnamed,
+    match value {
+        Held::Unheld => Absent::Wanting,
+        Held::Unknown => match text_copy(alloc, text) {
+            Ok(text) => Absent::Refused(Refusal::UnknownName(text)),
+            Err(_) => Absent::Unnamed,
+        },
+        _ => match text_copy(alloc, text) {
+            Ok(text) => Absent::Refused(Refusal::Kind(text)),
+            Err(_) => Absent::Unnamed,
+        },
     }
 }
 
@@ -96,23 +92,12 @@ pub fn proof_given<'h>(
     ensures reference { IfOk result (λ r. proof_in text.now value.now ≡ Some r.now) }
 {
     match value {
-        Held::Unknown => Err(unknown(alloc, text)),
-        Held::Unheld => Err(Absent::Wanting),
-        Held::Proof(proof) => {
-            if is_of_pair(text) {
-                return Err(other_kind(alloc, text));
-            }
-            Ok(proof)
-        }
+        Held::Proof(proof) if !is_of_pair(text) => Ok(proof),
         Held::Pair(first, second) => match one_of(text, first, second) {
             Some(proof) => Ok(proof),
-            None => Err(other_kind(alloc, text)),
+            None => Err(nothing_given(alloc, text, value)),
         },
-        Held::Nothing
-        | Held::Refused
-        | Held::Problem(_)
-        | Held::Expansion(_)
-        | Held::Definition(_) => Err(other_kind(alloc, text)),
+        _ => Err(nothing_given(alloc, text, value)),
     }
 }
 
@@ -126,20 +111,8 @@ pub fn problem_given<'h>(
     ensures found { Finds (λ p. p.now) result (problem_found text.now (sense value.now)) }
 {
     match value {
-        Held::Unknown => Err(unknown(alloc, text)),
-        Held::Unheld => Err(Absent::Wanting),
-        Held::Problem(problem) => {
-            if is_of_pair(text) {
-                return Err(other_kind(alloc, text));
-            }
-            Ok(problem)
-        }
-        Held::Nothing
-        | Held::Refused
-        | Held::Proof(_)
-        | Held::Pair(_, _)
-        | Held::Expansion(_)
-        | Held::Definition(_) => Err(other_kind(alloc, text)),
+        Held::Problem(problem) if !is_of_pair(text) => Ok(problem),
+        _ => Err(nothing_given(alloc, text, value)),
     }
 }
 
@@ -152,20 +125,8 @@ pub fn expansion_given<'h>(
     ensures { Finds (λ e. expansion_of e.now) result (expansion_found text.now (sense value.now)) }
 {
     match value {
-        Held::Unknown => Err(unknown(alloc, text)),
-        Held::Unheld => Err(Absent::Wanting),
-        Held::Expansion(trees) => {
-            if is_of_pair(text) {
-                return Err(other_kind(alloc, text));
-            }
-            Ok(trees)
-        }
-        Held::Nothing
-        | Held::Refused
-        | Held::Proof(_)
-        | Held::Pair(_, _)
-        | Held::Problem(_)
-        | Held::Definition(_) => Err(other_kind(alloc, text)),
+        Held::Expansion(trees) if !is_of_pair(text) => Ok(trees),
+        _ => Err(nothing_given(alloc, text, value)),
     }
 }
 
@@ -187,27 +148,13 @@ pub fn shown_given<'h>(
     ensures found { Finds shown_as result (shown_found text.now (sense value.now)) }
 {
     match value {
-        Held::Unknown => Err(unknown(alloc, text)),
-        Held::Unheld => Err(Absent::Wanting),
-        Held::Proof(proof) => {
-            if is_of_pair(text) {
-                return Err(other_kind(alloc, text));
-            }
-            Ok(ToShow::Proof(proof))
-        }
+        Held::Proof(proof) if !is_of_pair(text) => Ok(ToShow::Proof(proof)),
+        Held::Expansion(trees) if !is_of_pair(text) => Ok(ToShow::Expansion(trees)),
         Held::Pair(first, second) => match one_of(text, first, second) {
             Some(proof) => Ok(ToShow::Proof(proof)),
-            None => Err(other_kind(alloc, text)),
+            None => Err(nothing_given(alloc, text, value)),
         },
-        Held::Expansion(trees) => {
-            if is_of_pair(text) {
-                return Err(other_kind(alloc, text));
-            }
-            Ok(ToShow::Expansion(trees))
-        }
-        Held::Nothing | Held::Refused | Held::Problem(_) | Held::Definition(_) => {
-            Err(other_kind(alloc, text))
-        }
+        _ => Err(nothing_given(alloc, text, value)),
     }
 }
 
@@ -221,20 +168,8 @@ pub fn definition_given<'h>(
     ensures found { Finds (λ p. p.now) result (definition_found text.now (sense value.now)) }
 {
     match value {
-        Held::Unknown => Err(unknown(alloc, text)),
-        Held::Unheld => Err(Absent::Wanting),
-        Held::Definition(symbol) => {
-            if is_of_pair(text) {
-                return Err(other_kind(alloc, text));
-            }
-            Ok(symbol)
-        }
-        Held::Nothing
-        | Held::Refused
-        | Held::Proof(_)
-        | Held::Pair(_, _)
-        | Held::Problem(_)
-        | Held::Expansion(_) => Err(other_kind(alloc, text)),
+        Held::Definition(symbol) if !is_of_pair(text) => Ok(symbol),
+        _ => Err(nothing_given(alloc, text, value)),
     }
 }
 

@@ -1,11 +1,8 @@
 //! What operations come to that only read the values that they are given.
 ghost use Rattle.std.specs.Prelude.{◌≡◌, [], ◌∷◌, IfOk};
-ghost use Rattle.exp_tree.specs.Reads.{expansion_of};
-ghost use Rattle.exp_tree.specs.Writing.{flat_of};
-ghost use Rattle.step_laws.specs.Places.{steps_of};
 ghost use Rattle.proof_graph.specs.declared.graph.Graph.{Graph as GraphMeaning};
 ghost use Rattle.proof_graph.specs.Graphs.{IsOf};
-ghost use Rattle.operation_laws.specs.Answers.{lacking, product, steps as steps_made, nodes as nodes_made};
+ghost use Rattle.operation_laws.specs.Answers.{lacking};
 ghost use Rattle.operation_laws.specs.Given.{problem_given as problem_found};
 ghost use Rattle.operation_laws.specs.Running.{over, sizes_of, compares, run};
 ghost use Rattle.held_values.specs.Means.{sense, Fits};
@@ -13,33 +10,13 @@ ghost use Rattle.operations.specs.Means.{made_of, Comes, ComesTo};
 
 use crate::answers::{Absent, Made, Ran};
 use crate::given::{ToShow, problem_given, proof_given, shown_given};
-use exp_tree::{CheckedExp, write_nodes};
+use exp_tree::write_nodes;
 use held_values::Held;
 use job_lang::Op;
 use job_words::{Steps, Utf8Text};
 use proof_graph::{Graph, ProofRef};
 use proof_steps::{cuts, nodes, quants, size, steps};
 use std::alloc::{AllocError, Global};
-
-fn listed(graph: &Graph, alloc: Global, proof: &ProofRef) -> Ran
-    requires { IsOf graph.now proof.now }
-    ensures { Comes graph.now result (product (steps_made (steps_of proof.now.tree))) }
-{
-    match steps(alloc, graph, proof) {
-        Ok(list) => Ran::Done(Made::Steps(Steps::from_vec(list))),
-        Err(_) => Ran::Lacking,
-    }
-}
-
-// Expansion trees as a flat list.
-fn written(alloc: Global, checked: &CheckedExp) -> Ran
-    ensures { (g : GraphMeaning) → Comes g result (product (nodes_made (flat_of (expansion_of checked.now)))) }
-{
-    match write_nodes(alloc, checked.tree()) {
-        Ok(flat) => Ran::Done(Made::Nodes(flat)),
-        Err(_) => Ran::Lacking,
-    }
-}
 
 /// The canonical steps of the proof that is named, or the flat list of the expansion trees.
 #[tactic(auto, using(crate::proofs::Givings::absent_comes))]
@@ -48,8 +25,14 @@ pub fn show(graph: &Graph, alloc: Global, of: &Utf8Text, value: &Held) -> Ran
     ensures { ComesTo graph.now result (run (Op.Show of.now) (sense value.now ∷ [])) }
 {
     match shown_given(alloc, of, value) {
-        Ok(ToShow::Proof(proof)) => listed(graph, alloc, proof),
-        Ok(ToShow::Expansion(checked)) => written(alloc, checked),
+        Ok(ToShow::Proof(proof)) => match steps(alloc, graph, proof) {
+            Ok(list) => Ran::Done(Made::Steps(Steps::from_vec(list))),
+            Err(_) => Ran::Lacking,
+        },
+        Ok(ToShow::Expansion(checked)) => match write_nodes(alloc, checked.tree()) {
+            Ok(flat) => Ran::Done(Made::Nodes(flat)),
+            Err(_) => Ran::Lacking,
+        },
         Err(absent) => Ran::from(absent),
     }
 }
@@ -70,25 +53,19 @@ fn sizes(graph: &Graph, alloc: Global, proof: &ProofRef) -> Result<Made, AllocEr
     })
 }
 
-fn measured(graph: &Graph, alloc: Global, proof: &ProofRef) -> Ran
-    requires { IsOf graph.now proof.now }
-    ensures { Comes graph.now result (product (sizes_of proof.now.tree)) }
-{
-    match sizes(graph, alloc, proof) {
-        Ok(made) => Ran::Done(made),
-        Err(_) => Ran::Lacking,
-    }
-}
-
 /// The sizes of the proof that is named.
 #[tactic(auto, using(crate::proofs::Givings::absent_comes))]
 pub fn measure(graph: &Graph, alloc: Global, of: &Utf8Text, value: &Held) -> Ran
     requires { Fits graph.now value.now }
     ensures { ComesTo graph.now result (run (Op.Measure of.now) (sense value.now ∷ [])) }
 {
-    match proof_given(alloc, of, value) {
-        Ok(proof) => measured(graph, alloc, proof),
-        Err(absent) => Ran::from(absent),
+    let proof = match proof_given(alloc, of, value) {
+        Ok(proof) => proof,
+        Err(absent) => return Ran::from(absent),
+    };
+    match sizes(graph, alloc, proof) {
+        Ok(made) => Ran::Done(made),
+        Err(_) => Ran::Lacking,
     }
 }
 

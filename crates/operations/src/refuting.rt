@@ -1,14 +1,11 @@
 //! What the import of a refutation comes to.
-ghost use Rattle.std.specs.Prelude.{◌≡◌, [], ◌∷◌, true};
-ghost use Rattle.std.specs.List.{All, list_all};
-ghost use Rattle.refutations.specs.Clauses.{IsClauseOf};
-ghost use Rattle.refutations.specs.Refutations.{refutation, AreFormedSteps};
-ghost use Rattle.tptp_problem.specs.ProblemClauses.{IsReadProblem};
-ghost use Rattle.proof_graph.specs.Graphs.{history};
-ghost use Rattle.proof_subst.specs.Benches.{graph_of, pass_in, images_in, IsBenchPassOf, Extends};
-ghost use Rattle.operation_laws.specs.Running.{has_closure, refutation_shown as shown_refutation, refuted, refutes, run};
+ghost use Rattle.std.specs.Prelude.{◌≡◌, [], ◌∷◌};
+ghost use Rattle.std.specs.List.{list_all};
+ghost use Rattle.refutations.specs.Refutations.{AreFormedSteps};
+ghost use Rattle.proof_subst.specs.Benches.{graph_of, IsBenchPassOf};
+ghost use Rattle.operation_laws.specs.Running.{has_closure, refutation_shown as shown_refutation, run};
 ghost use Rattle.held_values.specs.Means.{sense, Fits};
-ghost use Rattle.operations.specs.Means.{Comes, is_refusal, ComesTo};
+ghost use Rattle.operations.specs.Runs.{Runs};
 
 use crate::answers::{Made, Ran};
 use crate::given::problem_given;
@@ -22,7 +19,7 @@ use reply_lines::RefutationShown;
 use resolution_import::{ImportFault, import};
 use std::alloc::Global;
 use std::sync::Wait;
-use tptp_problem::{Problem, clauses};
+use tptp_problem::clauses;
 
 fn refutation_shown(cause: ResCause) -> RefutationShown
     ensures { result ≡ shown_refutation cause }
@@ -41,63 +38,8 @@ pub(crate) fn have_closures(clauses: &[Clause]) -> bool
     clauses.iter().all(|clause| (clause.vars.as_slice().len() as u64) < 4_294_967_296)
 }
 
-// The proof that a refutation of these clauses stands for.
-#[tactic(auto, using(crate::proofs::Refuted::import_gives, crate::proofs::Refuted::import_fails, crate::proofs::Refuted::refuted_lacks))]
-fn import_in<R: Wait>(
-    rt: &R,
-    alloc: Global,
-    bench: &Bench,
-    pass: &mut BenchPass,
-    clauses: &[Clause],
-    steps: &[ResStep],
-) -> Ran
-    requires pass { IsBenchPassOf bench.now pass.old }
-    requires clauses { All IsClauseOf clauses.now }
-    requires steps { AreFormedSteps steps.now }
-    ensures ran { Comes (graph_of bench.now) result (refuted (refutation clauses.now steps.now)) }
-    ensures unchanged { is_refusal result ≡ true → history (pass_in pass.new) ≡ history (pass_in pass.old) }
-    ensures images_stay { images_in pass.new ≡ images_in pass.old }
-    ensures extends { Extends bench.now pass.old pass.new }
-{
-    match import(rt, alloc, bench, pass, clauses, steps) {
-        Ok(proof) => Ran::Done(Made::Proof(proof)),
-        Err(ImportFault::Step { step, cause }) => Ran::Failed(Failure::Refutation {
-            step,
-            cause: refutation_shown(cause),
-        }),
-        Err(ImportFault::Memory) => Ran::Lacking,
-    }
-}
-
-// The proof that a refutation of the clauses of a problem stands for.
-#[tactic(auto, using(crate::proofs::Refuted::refutes_lacks, crate::proofs::Refuted::with_closures))]
-fn import_problem<R: Wait>(
-    rt: &R,
-    alloc: Global,
-    bench: &Bench,
-    pass: &mut BenchPass,
-    problem: &Problem,
-    steps: &[ResStep],
-) -> Ran
-    requires pass { IsBenchPassOf bench.now pass.old }
-    requires problem { IsReadProblem problem.now }
-    requires steps { AreFormedSteps steps.now }
-    ensures ran { Comes (graph_of bench.now) result (refutes steps.now problem.now) }
-    ensures unchanged { is_refusal result ≡ true → history (pass_in pass.new) ≡ history (pass_in pass.old) }
-    ensures images_stay { images_in pass.new ≡ images_in pass.old }
-    ensures extends { Extends bench.now pass.old pass.new }
-{
-    let Ok(clauses) = clauses(alloc, problem) else {
-        return Ran::Lacking;
-    };
-    if !have_closures(&clauses) {
-        return Ran::Lacking;
-    }
-    import_in(rt, alloc, bench, pass, &clauses, steps)
-}
-
 /// The proof that a refutation of the clauses of the problem that is named stands for.
-#[tactic(auto, using(crate::proofs::Givings::absent_comes))]
+#[tactic(auto, using(crate::proofs::Givings::absent_comes, crate::proofs::Refuted::refutes_lacks, crate::proofs::Refuted::with_closures, crate::proofs::Refuted::import_gives, crate::proofs::Refuted::import_fails))]
 pub fn refute<R: Wait>(
     rt: &R,
     alloc: Global,
@@ -110,13 +52,24 @@ pub fn refute<R: Wait>(
     requires pass { IsBenchPassOf bench.now pass.old }
     requires fits { Fits (graph_of bench.now) value.now }
     requires steps { AreFormedSteps steps.now }
-    ensures ran { ComesTo (graph_of bench.now) result (run (Op.Resolution of.now steps.now) (sense value.now ∷ [])) }
-    ensures unchanged { is_refusal result ≡ true → history (pass_in pass.new) ≡ history (pass_in pass.old) }
-    ensures images_stay { images_in pass.new ≡ images_in pass.old }
-    ensures extends { Extends bench.now pass.old pass.new }
+    ensures { Runs bench.now pass.old pass.new result (run (Op.Resolution of.now steps.now) (sense value.now ∷ [])) }
 {
-    match problem_given(alloc, of, value) {
-        Ok(problem) => import_problem(rt, alloc, bench, pass, problem, steps),
-        Err(absent) => Ran::from(absent),
+    let problem = match problem_given(alloc, of, value) {
+        Ok(problem) => problem,
+        Err(absent) => return Ran::from(absent),
+    };
+    let Ok(clauses) = clauses(alloc, problem) else {
+        return Ran::Lacking;
+    };
+    if !have_closures(&clauses) {
+        return Ran::Lacking;
+    }
+    match import(rt, alloc, bench, pass, &clauses, steps) {
+        Ok(proof) => Ran::Done(Made::Proof(proof)),
+        Err(ImportFault::Step { step, cause }) => Ran::Failed(Failure::Refutation {
+            step,
+            cause: refutation_shown(cause),
+        }),
+        Err(ImportFault::Memory) => Ran::Lacking,
     }
 }

@@ -8,13 +8,12 @@ ghost use Rattle.refutations.specs.Clauses.{literals_of, IsClauseOf};
 ghost use Rattle.ground_laws.specs.Steps.{IsRefutation, res_step, sequents_of, names as names_atom};
 ghost use Rattle.sat_search.specs.Grounds.{clause_of as sequent_of_ground, clauses_of as sequents_of_grounds};
 ghost use Rattle.tptp_problem.specs.ProblemClauses.{clauses_of, IsReadProblem};
-ghost use Rattle.proof_graph.specs.Graphs.{history};
-ghost use Rattle.proof_subst.specs.Benches.{graph_of, pass_in, images_in, IsBenchPassOf, Extends};
+ghost use Rattle.proof_subst.specs.Benches.{graph_of, IsBenchPassOf};
 ghost use Rattle.reply_lines.specs.Shown.{IsShownFormula, IsShownStep};
 ghost use Rattle.operation_laws.specs.Answers.{satisfiability};
 ghost use Rattle.operation_laws.specs.Running.{first_open as first_open_in, solves_ground, run};
 ghost use Rattle.held_values.specs.Means.{sense, Fits};
-ghost use Rattle.operations.specs.Means.{is_refusal, ComesTo};
+ghost use Rattle.operations.specs.Runs.{Runs};
 
 use crate::answers::{Made, Ran};
 use crate::given::problem_given;
@@ -119,10 +118,7 @@ fn import_found<R: Wait>(
     requires clauses { All IsClauseOf clauses.now }
     requires refutes { IsRefutation (sequents_of clauses.now) steps.now }
     requires shown { All (λ step. (f : Atom) → names_atom f step ≡ true → IsShownFormula f) steps.now }
-    ensures ran { ComesTo (graph_of bench.now) result (satisfiability clauses.now) }
-    ensures unchanged { is_refusal result ≡ true → history (pass_in pass.new) ≡ history (pass_in pass.old) }
-    ensures images_stay { images_in pass.new ≡ images_in pass.old }
-    ensures extends { Extends bench.now pass.old pass.new }
+    ensures { Runs bench.now pass.old pass.new result (satisfiability clauses.now) }
 {
     let Ok(steps) = resolution_steps(alloc, steps) else {
         return Ran::Lacking;
@@ -146,10 +142,7 @@ fn solve_clauses<R: Wait>(
     requires clauses { All IsClauseOf clauses.now }
     requires ground { first_open_in clauses.now ≡ None }
     requires primitive { list_all (λ c. not (has_body c.matrix)) clauses.now ≡ true }
-    ensures ran { ComesTo (graph_of bench.now) result (satisfiability clauses.now) }
-    ensures unchanged { is_refusal result ≡ true → history (pass_in pass.new) ≡ history (pass_in pass.old) }
-    ensures images_stay { images_in pass.new ≡ images_in pass.old }
-    ensures extends { Extends bench.now pass.old pass.new }
+    ensures { Runs bench.now pass.old pass.new result (satisfiability clauses.now) }
 {
     let Ok(grounds) = grounds(alloc, clauses) else {
         return Ran::Lacking;
@@ -174,10 +167,7 @@ fn solve_problem<R: Wait>(
 ) -> Ran
     requires pass { IsBenchPassOf bench.now pass.old }
     requires problem { IsReadProblem problem.now }
-    ensures ran { ComesTo (graph_of bench.now) result (solves_ground (first_open_in (clauses_of problem.now.entries)) (clauses_of problem.now.entries)) }
-    ensures unchanged { is_refusal result ≡ true → history (pass_in pass.new) ≡ history (pass_in pass.old) }
-    ensures images_stay { images_in pass.new ≡ images_in pass.old }
-    ensures extends { Extends bench.now pass.old pass.new }
+    ensures { Runs bench.now pass.old pass.new result (solves_ground (first_open_in (clauses_of problem.now.entries)) (clauses_of problem.now.entries)) }
 {
     let Ok(clauses) = clauses(alloc, problem) else {
         return Ran::Lacking;
@@ -192,7 +182,7 @@ fn solve_problem<R: Wait>(
 }
 
 /// A model or a refutation of the clauses of the problem that is named, with the proof that the refutation stands for.
-#[tactic(auto, using(crate::proofs::Satisfied::absent_solved))]
+#[tactic(auto, using(crate::proofs::Givings::absent_solved))]
 pub fn satisfy<R: Wait>(
     rt: &R,
     alloc: Global,
@@ -203,10 +193,7 @@ pub fn satisfy<R: Wait>(
 ) -> Ran
     requires pass { IsBenchPassOf bench.now pass.old }
     requires fits { Fits (graph_of bench.now) value.now }
-    ensures ran { ComesTo (graph_of bench.now) result (run (Op.Sat of.now) (sense value.now ∷ [])) }
-    ensures unchanged { is_refusal result ≡ true → history (pass_in pass.new) ≡ history (pass_in pass.old) }
-    ensures images_stay { images_in pass.new ≡ images_in pass.old }
-    ensures extends { Extends bench.now pass.old pass.new }
+    ensures { Runs bench.now pass.old pass.new result (run (Op.Sat of.now) (sense value.now ∷ [])) }
 {
     match problem_given(alloc, of, value) {
         Ok(problem) => solve_problem(rt, alloc, bench, pass, problem),

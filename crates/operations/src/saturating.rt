@@ -1,6 +1,6 @@
 //! What rounds of resolution on the clauses of a problem come to.
 ghost use Rattle.std.specs.Prelude.{◌≡◌, ◌≢◌, ℕ, List, true, [], ◌∷◌, IfOk};
-ghost use Rattle.std.specs.List.{All, list_all};
+ghost use Rattle.std.specs.List.{All};
 ghost use Rattle.fol.specs.Formed.{IsFormed};
 ghost use Rattle.refutations.specs.declared.clause.Clause.{Clause as InputClause};
 ghost use Rattle.refutations.specs.Clauses.{literals_of, IsClauseOf};
@@ -9,14 +9,13 @@ ghost use Rattle.ground_laws.specs.Steps.{sequents_of};
 ghost use Rattle.clause_laws.specs.Saturation.{IsSaturation};
 ghost use Rattle.res_prover.specs.Clauses.{clause_of as sequent_of_clause, clauses_of as sequents_of_clauses};
 ghost use Rattle.res_prover.specs.Answers.{IsRefuted};
-ghost use Rattle.tptp_problem.specs.ProblemClauses.{clauses_of, IsReadProblem};
 ghost use Rattle.proof_graph.specs.declared.graph.Graph.{Graph};
-ghost use Rattle.proof_graph.specs.Graphs.{history};
-ghost use Rattle.proof_subst.specs.Benches.{graph_of, pass_in, images_in, IsBenchPassOf, Extends};
+ghost use Rattle.proof_subst.specs.Benches.{graph_of, IsBenchPassOf};
 ghost use Rattle.operation_laws.specs.Answers.{saturation};
-ghost use Rattle.operation_laws.specs.Running.{has_closure, saturates, run};
+ghost use Rattle.operation_laws.specs.Running.{run};
 ghost use Rattle.held_values.specs.Means.{sense, Fits};
 ghost use Rattle.operations.specs.Means.{is_refusal, ComesTo};
+ghost use Rattle.operations.specs.Runs.{Runs};
 
 use crate::answers::{Made, Ran};
 use crate::given::problem_given;
@@ -34,7 +33,7 @@ use res_prover::{Found, Lits, ProveFault, saturate};
 use resolution_import::import;
 use std::alloc::{AllocError, Global};
 use std::sync::Wait;
-use tptp_problem::{Problem, clauses};
+use tptp_problem::clauses;
 
 // A clause by the sets of its negative and its positive atoms.
 fn literals_in(alloc: Global, matrix: &Formula) -> Result<Lits, AllocError>
@@ -100,10 +99,7 @@ fn import_steps<R: Wait>(
     requires pass { IsBenchPassOf bench.now pass.old }
     requires clauses { All IsClauseOf clauses.now }
     requires steps { AreFormedSteps steps.items }
-    ensures ran { (n : ℕ) → IsRefuted (sequents_of clauses.now) n steps.items → ComesTo (graph_of bench.now) result (saturation clauses.now n) }
-    ensures unchanged { is_refusal result ≡ true → history (pass_in pass.new) ≡ history (pass_in pass.old) }
-    ensures images_stay { images_in pass.new ≡ images_in pass.old }
-    ensures extends { Extends bench.now pass.old pass.new }
+    ensures { (n : ℕ) → IsRefuted (sequents_of clauses.now) n steps.items → Runs bench.now pass.old pass.new result (saturation clauses.now n) }
 {
     if !are_shown_steps(&steps) {
         return Ran::Lacking;
@@ -127,10 +123,7 @@ fn saturate_clauses<R: Wait>(
 ) -> Ran
     requires pass { IsBenchPassOf bench.now pass.old }
     requires clauses { All IsClauseOf clauses.now }
-    ensures ran { ComesTo (graph_of bench.now) result (saturation clauses.now rounds) }
-    ensures unchanged { is_refusal result ≡ true → history (pass_in pass.new) ≡ history (pass_in pass.old) }
-    ensures images_stay { images_in pass.new ≡ images_in pass.old }
-    ensures extends { Extends bench.now pass.old pass.new }
+    ensures { Runs bench.now pass.old pass.new result (saturation clauses.now rounds) }
 {
     let Ok(sets) = literals_of_each(alloc, clauses) else {
         return Ran::Lacking;
@@ -143,34 +136,8 @@ fn saturate_clauses<R: Wait>(
     }
 }
 
-// The same of the clauses of a problem.
-#[tactic(auto, using(crate::proofs::Saturated::saturates_lacks, crate::proofs::Saturated::closed_comes))]
-fn saturate_problem<R: Wait>(
-    rt: &R,
-    alloc: Global,
-    bench: &Bench,
-    pass: &mut BenchPass,
-    problem: &Problem,
-    rounds: u64,
-) -> Ran
-    requires pass { IsBenchPassOf bench.now pass.old }
-    requires problem { IsReadProblem problem.now }
-    ensures ran { ComesTo (graph_of bench.now) result (saturates (clauses_of problem.now.entries) rounds) }
-    ensures unchanged { is_refusal result ≡ true → history (pass_in pass.new) ≡ history (pass_in pass.old) }
-    ensures images_stay { images_in pass.new ≡ images_in pass.old }
-    ensures extends { Extends bench.now pass.old pass.new }
-{
-    let Ok(clauses) = clauses(alloc, problem) else {
-        return Ran::Lacking;
-    };
-    if !have_closures(&clauses) {
-        return Ran::Lacking;
-    }
-    saturate_clauses(rt, alloc, bench, pass, &clauses, rounds)
-}
-
 /// A refutation of the clauses of the problem that is named, with the proof that it stands for, or the clauses that so many rounds end with.
-#[tactic(auto, using(crate::proofs::Saturated::absent_saturated))]
+#[tactic(auto, using(crate::proofs::Givings::absent_saturated, crate::proofs::Saturated::saturates_lacks, crate::proofs::Saturated::closed_comes))]
 pub fn prove_in<R: Wait>(
     rt: &R,
     alloc: Global,
@@ -182,13 +149,17 @@ pub fn prove_in<R: Wait>(
 ) -> Ran
     requires pass { IsBenchPassOf bench.now pass.old }
     requires fits { Fits (graph_of bench.now) value.now }
-    ensures ran { ComesTo (graph_of bench.now) result (run (Op.Prove of.now rounds) (sense value.now ∷ [])) }
-    ensures unchanged { is_refusal result ≡ true → history (pass_in pass.new) ≡ history (pass_in pass.old) }
-    ensures images_stay { images_in pass.new ≡ images_in pass.old }
-    ensures extends { Extends bench.now pass.old pass.new }
+    ensures { Runs bench.now pass.old pass.new result (run (Op.Prove of.now rounds) (sense value.now ∷ [])) }
 {
-    match problem_given(alloc, of, value) {
-        Ok(problem) => saturate_problem(rt, alloc, bench, pass, problem, rounds),
-        Err(absent) => Ran::from(absent),
+    let problem = match problem_given(alloc, of, value) {
+        Ok(problem) => problem,
+        Err(absent) => return Ran::from(absent),
+    };
+    let Ok(clauses) = clauses(alloc, problem) else {
+        return Ran::Lacking;
+    };
+    if !have_closures(&clauses) {
+        return Ran::Lacking;
     }
+    saturate_clauses(rt, alloc, bench, pass, &clauses, rounds)
 }

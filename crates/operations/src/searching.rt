@@ -1,17 +1,17 @@
 //! What the search for the proof of a sequent comes to.
-ghost use Rattle.std.specs.Prelude.{◌≡◌, find, option_copied, option_map, IfSome, true};
+ghost use Rattle.std.specs.Prelude.{◌≡◌, find, option_copied, option_map, IfSome};
 ghost use Rattle.std.specs.List.{All};
 ghost use Rattle.fol.specs.Formed.{IsFormed};
 ghost use Rattle.proof_graph.specs.declared.graph.Graph.{Graph as GraphMeaning};
-ghost use Rattle.proof_graph.specs.Graphs.{history};
-ghost use Rattle.proof_subst.specs.Benches.{graph_of, pass_in, images_in, IsBenchPassOf, Extends};
+ghost use Rattle.proof_subst.specs.Benches.{IsBenchPassOf};
 ghost use Rattle.search_laws.specs.Truth.{has_quantifier as is_quantified, IsPropositional};
 ghost use Rattle.search_laws.specs.Search.{walk};
 ghost use Rattle.search_laws.specs.Budgets.{found};
 ghost use Rattle.operation_laws.specs.declared.refusals.Failure.TheVariants.{Quantified};
-ghost use Rattle.operation_laws.specs.Answers.{failed};
+ghost use Rattle.operation_laws.specs.Answers.{failed, one};
 ghost use Rattle.operation_laws.specs.Running.{quantified_in as quantified_of, searched, searches};
-ghost use Rattle.operations.specs.Means.{Comes, is_refusal};
+ghost use Rattle.operations.specs.Means.{Comes};
+ghost use Rattle.operations.specs.Runs.{Runs};
 
 use crate::answers::{Made, Ran};
 use fol::Formula;
@@ -77,10 +77,7 @@ fn search_for<R: Wait>(
 ) -> Ran
     requires pass { IsBenchPassOf bench.now pass.old }
     requires propositional { IsPropositional sequent.now }
-    ensures ran { Comes (graph_of bench.now) result (searched (found budget (walk sequent.now))) }
-    ensures unchanged { is_refusal result ≡ true → history (pass_in pass.new) ≡ history (pass_in pass.old) }
-    ensures images_stay { images_in pass.new ≡ images_in pass.old }
-    ensures extends { Extends bench.now pass.old pass.new }
+    ensures { Runs bench.now pass.old pass.new result (one (searched (found budget (walk sequent.now)))) }
 {
     let graph = bench.graph();
     match search(rt, alloc, graph, Bench::graph_pass(pass), sequent, budget) {
@@ -102,10 +99,7 @@ pub fn prove_sequent<R: Wait>(
     budget: u64,
 ) -> Ran
     requires pass { IsBenchPassOf bench.now pass.old }
-    ensures ran { Comes (graph_of bench.now) result (searches (quantified_of sequent.now) sequent.now budget) }
-    ensures unchanged { is_refusal result ≡ true → history (pass_in pass.new) ≡ history (pass_in pass.old) }
-    ensures images_stay { images_in pass.new ≡ images_in pass.old }
-    ensures extends { Extends bench.now pass.old pass.new }
+    ensures { Runs bench.now pass.old pass.new result (one (searches (quantified_of sequent.now) sequent.now budget)) }
 {
     match quantified_in(sequent) {
         Some((formula, side)) => quantified(formula, side),

@@ -2,11 +2,17 @@
 #![tactic(auto)]
 
 #[cfg(test)]
+mod bundles;
+#[cfg(test)]
+mod desks;
+#[cfg(test)]
 mod ends;
 #[cfg(test)]
 mod generated;
 #[cfg(test)]
 mod lines;
+#[cfg(test)]
+mod parts;
 #[cfg(test)]
 mod pieces;
 #[cfg(test)]

@@ -14,9 +14,22 @@ const MOST_TURNS: u64 = 100_000_000;
 
 /// Holds the first job until the second one has come, and says whether the first has given up.
 #[derive(Drop)]
-struct Meeting {
+pub struct Meeting {
     came: AtomicU64,
     missed: AtomicU64,
+}
+
+impl Meeting {
+    pub fn new() -> Meeting {
+        Meeting {
+            came: AtomicU64::new(0),
+            missed: AtomicU64::new(0),
+        }
+    }
+
+    pub fn has_missed(&self) -> bool {
+        self.missed.load(Ordering::SeqCst) != 0
+    }
 }
 
 impl Gate for Meeting {
@@ -31,6 +44,20 @@ impl Gate for Meeting {
             }
         }
         self.missed.store(1, Ordering::SeqCst);
+    }
+}
+
+/// A meeting that the window isn't told of, so that there are as many workers as the program would have.
+#[derive(Drop)]
+struct Unannounced(Meeting);
+
+impl Gate for Unannounced {
+    fn pass(&self, job: u64) {
+        self.0.pass(job);
+    }
+
+    fn may_hold(&self) -> bool {
+        false
     }
 }
 
@@ -53,14 +80,23 @@ fn serve_text<R: Wait + Threads + Sync, G: Gate>(
 #[test]
 fn two_jobs_meet(rt: HostRuntime) -> Result<(), Fail> {
     let input = format!(in rt.alloc(); "{JOB}\n{}\n", JOB.replacen(rt.alloc(), "a", "b", 1)?)?;
-    let gate = Meeting {
-        came: AtomicU64::new(0),
-        missed: AtomicU64::new(0),
-    };
+    let gate = Meeting::new();
     let (status, replies) = serve_text(&rt, rt.alloc(), input.as_str(), &gate, 2)?;
-    assert_eq!(rt; gate.missed.load(Ordering::SeqCst), 0);
+    assert!(rt; !gate.has_missed());
     assert_eq!(rt; status, 0);
     assert!(rt; replies.starts_with(REPLY.as_bytes()));
+    Ok(())
+}
+
+/// So are two jobs whose work is worth two workers, though nothing is said of a gate that holds.
+#[test]
+fn costly_jobs_meet(rt: HostRuntime) -> Result<(), Fail> {
+    let job = r#"{"job":"a","op":"tautology","left":["p"],"right":["p"]}"#;
+    let input = format!(in rt.alloc(); "{job}\n{}\n", job.replacen(rt.alloc(), "a", "b", 1)?)?;
+    let gate = Unannounced(Meeting::new());
+    let (status, _) = serve_text(&rt, rt.alloc(), input.as_str(), &gate, 2)?;
+    assert!(rt; !gate.0.has_missed());
+    assert_eq!(rt; status, 0);
     Ok(())
 }
 

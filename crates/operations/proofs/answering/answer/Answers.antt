@@ -11,7 +11,7 @@ use Rattle.operations.proofs.answering.answer.Goals as goal
 
 pub conclude-requires : goal.conclude-requires
 conclude-requires g c =
-    let a = some_answer (graph_of (bench_of c.args.desk.now)) c.run_given-ran.result _ c.run_given-ran.ensures.ran in
+    let a = some_answer (graph_of (bench_of c.args.desk.now)) c.run_given-ran.result _ c.run_given-ran.ensures.runs.runs.comes in
     (a.0, subst (λ (h : Graph). Comes h c.run_given-ran.result a.0) (sym (c.graph.ensures ∙ ap graph_of c.bench.ensures)) a.2)
 
 pub returns-clause-answered : goal.returns-clause-answered
@@ -19,7 +19,7 @@ returns-clause-answered g c =
     let here = graph_of (bench_of c.args.desk.now) in
     answered_to _ _ here c.run_given-ran.result _
     (λ a comes. c.conclude.ensures.answered a (subst (λ (h : Graph). Comes h c.run_given-ran.result a) (sym (c.graph.ensures ∙ ap graph_of c.bench.ensures)) comes))
-    c.run_given-ran.ensures.ran
+    c.run_given-ran.ensures.runs.runs.comes
 
 pub returns-clause-claimed : goal.returns-clause-claimed
 returns-clause-claimed g c =
@@ -32,11 +32,11 @@ returns-clause-claimed g c =
     (λ a comes. c.conclude.ensures.answered a (subst (λ (h : Graph). Comes h c.run_given-ran.result a) (sym (c.graph.ensures ∙ ap graph_of c.bench.ensures)) comes))
     (λ made may. c.claims.ensures.claimed op vs made formed count c.are_sound.ensures may)
     (λ made may. c.claims.ensures.valid op vs made formed c.are_sound.ensures may)
-    c.run_given-ran.ensures.ran
+    c.run_given-ran.ensures.runs.runs.comes
 
 pub returns-clause-noted : goal.returns-clause-noted
 returns-clause-noted g c = λ shown. c.run_given-ran.ensures.noted (c.conclude.ensures.reduced shown)
 
 pub returns-clause-eliminations_unchanged : goal.returns-clause-eliminations_unchanged
 returns-clause-eliminations_unchanged g c = λ refused other.
-    c.run_given-ran.ensures.eliminations_unchanged (c.conclude.ensures.refused refused) (λ short. other (c.conclude.ensures.budget short))
+    c.run_given-ran.ensures.runs.eliminations_unchanged (c.conclude.ensures.refused refused) (λ short. other (c.conclude.ensures.budget short))

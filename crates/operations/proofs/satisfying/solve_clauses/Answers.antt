@@ -1,5 +1,5 @@
 -- What is found of the clauses as sequents holds of them.
-use Rattle.std.proofs.Common.{◌≡◌, List, sym, ap, ◌∙◌, subst}
+use Rattle.std.proofs.Common.{rules, ◌≡◌, List, sym, ap, ◌∙◌, subst}
 use Rattle.std.specs.List.{All}
 use Rattle.ground_laws.specs.declared.step.SatStep.{SatStep}
 use Rattle.ground_laws.specs.Deciding.{IsAnswer}
@@ -11,14 +11,20 @@ use Rattle.proof_subst.specs.Benches.{graph_of}
 use Rattle.operations.proofs.Satisfied.{AreGround, HasShownAtom, model_comes, refutes_clauses, atoms_shown}
 use Rattle.operations.proofs.satisfying.solve_clauses.Goals as goal
 
-pub returns-in-Ok-Model-clause-ran : goal.returns-in-Ok-Model-clause-ran
-returns-in-Ok-Model-clause-ran g c =
+pub returns-in-Ok-Model : goal.returns-in-Ok-Model
+returns-in-Ok-Model g c =
     let cs = c.args.clauses.now in
     let gs = c.deref.result.now in
     let known : AreGround cs = record { clauses = c.requires.clauses; ground = c.requires.ground; primitive = c.requires.primitive } in
     let same : clauses_of gs ≡ sequents_of cs = ap clauses_of c.deref.ensures.value ∙ c.in-Ok.ensures in
     let is = subst (λ (a : SatAnswer). IsAnswer (clauses_of gs) (answer_of a)) c.in-Ok-Model.field-0-is c.in-Ok-Model.ensures.answer in
-    model_comes (graph_of c.args.bench.now) cs gs c.in-Ok-Model.atoms known same is
+    record {
+      comes = model_comes (graph_of c.args.bench.now) cs gs c.in-Ok-Model.atoms known same is;
+      unchanged = search rules;
+      images_unchanged = search rules;
+      images_grown = search rules;
+      extends = search rules;
+    }
 
 pub import_found-requires-clause-refutes : goal.import_found-requires-clause-refutes
 import_found-requires-clause-refutes g c =

@@ -1,5 +1,5 @@
 -- What the rounds come to holds of the problem's clauses.
-use Rattle.std.proofs.Common.{◌≡◌, List, Err, sym, ap, ◌∙◌, subst}
+use Rattle.std.proofs.Common.{rules, ◌≡◌, List, Err, sym, ap, ◌∙◌, subst}
 use Rattle.std.specs.List.{All}
 use Rattle.lk_rules.specs.declared.sequent.Sequent.{Sequent}
 use Rattle.clause_laws.specs.Subsumption.{IsClause}
@@ -14,8 +14,14 @@ saturate-requires g c =
     let same : sequents_of_clauses c.deref.result.now ≡ sequents_of c.args.clauses.now = ap sequents_of_clauses c.deref.ensures.value ∙ c.in-Ok.ensures in
     subst (λ (ss : List Sequent). All IsClause ss) (sym same) (are_clauses c.args.clauses.now c.requires.clauses)
 
-pub returns-in-Err-Rounds-clause-ran : goal.returns-in-Err-Rounds-clause-ran
-returns-in-Err-Rounds-clause-ran g c =
+pub returns-in-Err-Rounds : goal.returns-in-Err-Rounds
+returns-in-Err-Rounds g c =
     let same : sequents_of_clauses c.deref.result.now ≡ sequents_of c.args.clauses.now = ap sequents_of_clauses c.deref.ensures.value ∙ c.in-Ok.ensures in
-    unfinished_comes (graph_of c.args.bench.now) c.args.clauses.now (sequents_of_clauses c.deref.result.now) c.args.rounds same
-    (c.saturate.ensures.rounds (c.in-Err-Rounds.is ∙ ap Err c.in-Err-Rounds.field-0-is))
+    record {
+      comes = unfinished_comes (graph_of c.args.bench.now) c.args.clauses.now (sequents_of_clauses c.deref.result.now) c.args.rounds same
+          (c.saturate.ensures.rounds (c.in-Err-Rounds.is ∙ ap Err c.in-Err-Rounds.field-0-is));
+      unchanged = search rules;
+      images_unchanged = search rules;
+      images_grown = search rules;
+      extends = search rules;
+    }
