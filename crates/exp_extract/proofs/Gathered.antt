@@ -18,7 +18,6 @@ use Rattle.proof_graph.specs.declared.node.Node.{Node}
 use Rattle.proof_graph.specs.References.{Reference, trees_of}
 use Rattle.extraction_laws.specs.Extraction.{vars_chosen, var_list_tree, var_list_trees}
 use Rattle.lk_rules.specs.Sequents.{vars_sequent}
-use Rattle.exp_extract.specs.declared.variables.Gathering.{Gathering}
 use Rattle.exp_extract.specs.Gathering.{HasVars, IsGathered}
 
 pub adds_each-append : (s : VarSet) (us ws : List Var) → set.adds_each s (us ++ ws) ≡ set.adds_each (set.adds_each s us) ws

@@ -1,9 +1,7 @@
-pub mod Pairs
 pub mod NamedPlaces
 pub mod AddressLists
 pub mod MoreEntries
 pub mod Entered
-pub mod Instances
 pub mod MarkedSets
 pub mod Quantified
 pub mod Paired

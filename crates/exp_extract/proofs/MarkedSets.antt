@@ -1,26 +1,32 @@
 -- Marks at the addresses of numbers.
-use Rattle.std.proofs.Common.{◌≡◌, ℕ, suc, ◌+◌, ◌<◌, Bool, true, false, ◌||◌, ◌&&◌, cond, List, [], ◌∷◌, ◌++◌, map, length, Option, Some, None, IsNone, Result, Ok, Err, OnOk, OnErr, refl, sym, ap, ◌∙◌, subst, arith}
+use Rattle.std.proofs.Common.{◌≡◌, ℕ, suc, ◌+◌, ◌<◌, Bool, true, false, ◌||◌, ◌&&◌, cond, List, [], ◌∷◌, ◌++◌, map, length, Option, Some, None, is_some, Result, Ok, Err, OnOk, OnErr, refl, sym, ap, ◌∙◌, subst, arith}
 use Rattle.std.specs.Prelude.{nat_eq, if◌then◌else◌, not}
-use Rattle.std.specs.List.{list_any, position_or_len, filter}
+use Rattle.std.specs.BTreeMap.{BTreeMap, get, keys, is_at, IsOrdered}
+use Rattle.std.specs.List.{list_any, position_or_len, filter, AllByRecursion}
+use Rattle.std.specs.List.Sorted.{IsStrictlySortedBy}
+use Rattle.std.specs.declared.cmp.Ordering.TheVariants.{Less}
 use Rattle.std.specs.Ordering.{eq_by_cmp}
 use Rattle.std.proofs.lemmas.Bool.{eq-eqb, eqb-true, eqb-false}
 use Rattle.std.proofs.lemmas.List.{length_push, map-append}
 use Rattle.std.proofs.lemmas.List.Folds.{list_any-append}
+use Rattle.std.proofs.lemmas.Map.Keys.{sorted_head, sorted_tail}
+use Rattle.std.proofs.lemmas.Map.Made.{is_some-lookup}
 use Rattle.fol.specs.Syntax.{Term}
 use Rattle.fol.specs.Order.{term_cmp}
 use Rattle.fol.specs.OrderLaws.{term_total}
 use Rattle.fol.proofs.OrderTies.{term_ties}
 use Rattle.finite.specs.Finite as set
 use Rattle.finite.proofs.Finite.{has-adds, has-adds_each, has-empty, same_members, listing-of_rising, has-of_rising, listing_rises}
+use Rattle.finite.proofs.Rising.{both, is_less, IsBelow}
 use Rattle.proof_trees.proofs.Booleans.{or_first, or_second, either}
 use Rattle.search_laws.proofs.Tests.{split, clash, same_truth}
-use Rattle.extraction_laws.specs.Addresses.{Address, via, address_cmp, address_total, same_address, is_listed, formula_at, side_at}
+use Rattle.extraction_laws.specs.Addresses.{Address, via, address_cmp, address_total, same_address, is_listed}
 use Rattle.extraction_laws.specs.States.{State, instantiated, with_address, place_of, terms_of, terms_at}
 use Rattle.extraction_laws.proofs.Helping.{terms-marked}
 use Rattle.extraction_laws.proofs.Equal.{address_ties, equal_addresses, tied_addresses}
-use Rattle.exp_extract.specs.Marked.{address_in}
+use Rattle.exp_extract.specs.Marked.{Marked, address_in}
 use Rattle.exp_extract.specs.Entries.{AreDistinct, FindsChild}
-use Rattle.exp_extract.specs.Quantifiers.{is_weak, is_instance, Grows, AreWithin}
+use Rattle.exp_extract.specs.Quantifiers.{is_instance, IsWeakAt, Grows, AreWithin}
 use Rattle.exp_extract.specs.Marks.{set_at, instances_in}
 use Rattle.exp_extract.proofs.AddressLists.{listed_at, in_front, apart, listed_more}
 
@@ -213,9 +219,8 @@ unlisted_numbers bs b (n ∷ ns) absent h =
     let differ : same_address b (address_in bs n) ≡ false = apart b (address_in bs n) (λ e. clash (is_listed b bs) (ap (λ x. is_listed x bs) e ∙ listed_at bs n (within_head bs n ns h)) absent) in
     λ i. differ i || unlisted_numbers bs b ns absent (within_tail bs n ns h) i
 
-pub not_opened : (bs : List Address) (b : Address) (ns : List ℕ) (o : Option ℕ) → FindsChild bs b o → AreWithin bs ns → IsNone o → set.has (set_at bs ns) b ≡ false
-not_opened bs b ns None absent h none = has_at bs ns b ∙ unlisted_numbers bs b ns absent h
-not_opened bs b ns (Some n) found h none = absurd (cc)
+pub not_opened : (bs : List Address) (b : Address) (ns : List ℕ) → is_listed b bs ≡ false → AreWithin bs ns → set.has (set_at bs ns) b ≡ false
+not_opened bs b ns absent h = has_at bs ns b ∙ unlisted_numbers bs b ns absent h
 
 -- states at numbers
 
@@ -252,10 +257,6 @@ and-true : (a : Bool) → (a && true) ≡ a
 and-true true = refl
 and-true false = refl
 
-and-false : (a : Bool) → (a && false) ≡ false
-and-false true = refl
-and-false false = refl
-
 -- rising lists of terms with the same members are equal
 same_terms : (ts us : List Term) → set.IsRising term_cmp ts → set.IsRising term_cmp us → ((t : Term) → list_any (eq_by_cmp term_cmp t) ts ≡ list_any (eq_by_cmp term_cmp t) us) → ts ≡ us
 same_terms ts us up also same =
@@ -263,16 +264,24 @@ same_terms ts us up also same =
     ∙ (ap set.listing (same_members term_total term_ties (set.of_rising ts) (set.of_rising us) (λ t. has-of_rising term_cmp ts up t ∙ (same t ∙ sym (has-of_rising term_cmp us also t))))
     ∙ listing-of_rising term_cmp us also)
 
-module _ (st : State) (bs : List Address) (a : Address) (is : st.instances ≡ instances_in bs) where
-  terms_listed : (t : Term) → list_any (eq_by_cmp term_cmp t) (terms_at st a) ≡ (is_listed (via a t) bs && is_instance (via a t))
-  terms_listed t = terms-marked st a t ∙ (ap (λ s. set.has s (via a t)) is ∙ has_instances bs (via a t))
+-- a list that is strictly sorted rises
+rises : (ts : List Term) → IsStrictlySortedBy term_cmp ts → set.IsRising term_cmp ts
+rises [] h = tt
+rises (t ∷ ts) h = both _ _ (below ts (sorted_head term_cmp t ts h)) (rises ts (sorted_tail term_cmp t ts h))
+  where
+    below : (us : List Term) → AllByRecursion (λ u. term_cmp t u ≡ Less) us → IsBelow term_cmp t us
+    below [] h = tt
+    below (u ∷ us) h = both _ _ (is_less _ h.0) (below us h.1)
 
-  terms_rise : set.IsRising term_cmp (terms_at st a)
-  terms_rise = listing_rises (set.of_list (terms_of a (set.listing st.instances)))
+-- whether the number of an address is found
+found_listed : (bs : List Address) (b : Address) (o : Option ℕ) → FindsChild bs b o → is_some o ≡ is_listed b bs
+found_listed bs b None h = sym h
+found_listed bs b (Some n) h = sym (ap (λ x. is_listed x bs) (sym h.1) ∙ listed_at bs n h.0)
 
-  pub weak_terms : (ts : List Term) → is_weak (formula_at a) (side_at a) ≡ true → set.IsRising term_cmp ts → ((t : Term) → list_any (eq_by_cmp term_cmp t) ts ≡ is_listed (via a t) bs) → ts ≡ terms_at st a
-  weak_terms ts weak up listed =
-      same_terms ts (terms_at st a) up terms_rise (λ t. listed t ∙ sym (terms_listed t ∙ (ap (λ b. is_listed (via a t) bs && b) weak ∙ and-true (is_listed (via a t) bs))))
-
-  pub no_terms : is_weak (formula_at a) (side_at a) ≡ false → [] ≡ terms_at st a
-  no_terms strong = same_terms [] (terms_at st a) tt terms_rise (λ t. sym (terms_listed t ∙ (ap (λ b. is_listed (via a t) bs && b) strong ∙ and-false (is_listed (via a t) bs))))
+-- the terms of the map of instances are those that are marked
+pub terms_found : (m : Marked) (a : Address) (ms : BTreeMap Term ℕ) → m.state.instances ≡ instances_in m.addresses → IsWeakAt a → IsOrdered term_cmp ms
+    → ((t : Term) → FindsChild m.addresses (via a t) (get term_cmp ms t)) → keys ms ≡ terms_at m.state a
+terms_found m a ms is weak ordered finds =
+    same_terms (keys ms) (terms_at m.state a) (rises (keys ms) ordered) (listing_rises (set.of_list (terms_of a (set.listing m.state.instances)))) (λ t.
+    sym (is_some-lookup (is_at (term_cmp t)) ms.entries) ∙ (found_listed m.addresses (via a t) (get term_cmp ms t) (finds t)
+    ∙ sym (terms-marked m.state a t ∙ (ap (λ s. set.has s (via a t)) is ∙ (has_instances m.addresses (via a t) ∙ (ap (λ b. is_listed (via a t) m.addresses && b) weak ∙ and-true (is_listed (via a t) m.addresses)))))))

@@ -5,11 +5,11 @@ use Rattle.std.proofs.lemmas.List.{length_push, length-set, get_or-set_same, get
 use Rattle.std.proofs.Math.ListN.{get_or-append}
 use Rattle.std.proofs.Math.Seq.{get_or-append_seam}
 use Rattle.std.specs.Prelude.{nat_eq}
-use Rattle.std.specs.FinMap as fin
+use Rattle.std.specs.BTreeMap.{BTreeMap, get, is_at, IsEmpty, IsUnchanged}
+use Rattle.std.specs.Map.{lookup}
 use Rattle.std.specs.Ordering.{eq_by_cmp}
 use Rattle.fol.specs.Syntax.{Term, Formula}
 use Rattle.fol.specs.Order.{term_cmp}
-use Rattle.fol.specs.OrderLaws.{term_total}
 use Rattle.fol.specs.Formed.{IsFormed, IsFormedTerm}
 use Rattle.lk_rules.specs.declared.sequent.Side.{Side}
 use Rattle.search_laws.proofs.Tests.{split, clash}
@@ -58,7 +58,7 @@ entry_more bs b a e no_part no_via h = record {
   formed = h.formed;
   side = h.side;
   parts = λ i l. finds_more bs b (part a i) (part_in e i) (no_part i) (h.parts i l);
-  vias = λ t. finds_more bs b (via a t) (fin.get e.vias t) (no_via t) (h.vias t);
+  vias = λ t. finds_more bs b (via a t) (get term_cmp e.vias t) (no_via t) (h.vias t);
   terms = h.terms;
 }
 
@@ -69,7 +69,7 @@ pub record IsFresh (a : Address) (e : Entry) : Type 0 where
   pub formed : IsFormed e.formula
   pub side : e.side ≡ side_at a
   pub parts : (i : ℕ) → part_in e i ≡ None
-  pub vias : e.vias ≡ fin.empty
+  pub vias : IsEmpty e.vias
 
 module _ (bs : List Address) (b : Address) (absent : is_listed b bs ≡ false) where
   -- nothing is a part or an instance of it
@@ -86,8 +86,8 @@ module _ (bs : List Address) (b : Address) (absent : is_listed b bs ≡ false) w
     terms = λ t. subst (λ (o : Option ℕ). IfSome o (λ _. IsFormedTerm t)) (sym (no_via t)) tt;
   }
     where
-      no_via : (t : Term) → fin.get e.vias t ≡ None
-      no_via t = ap (λ m. fin.get m t) h.vias ∙ fin.get-empty term_cmp t
+      no_via : (t : Term) → get term_cmp e.vias t ≡ None
+      no_via t = ap (lookup (is_at (term_cmp t))) h.vias
 
   -- with the new entry, and its parent's entry changed
   pub pushed : (es fs : List Entry) → AreEntries es bs → HasParent bs b → length fs ≡ length bs
@@ -126,7 +126,7 @@ own_part bs a e zero small h = record {
   formed = h.formed;
   side = h.side;
   parts = first_or_second;
-  vias = λ t. finds_more bs (part a 0) (via a t) (fin.get e.vias t) (λ e. cc) (h.vias t);
+  vias = λ t. finds_more bs (part a 0) (via a t) (get term_cmp e.vias t) (λ e. cc) (h.vias t);
   terms = h.terms;
 }
   where
@@ -138,7 +138,7 @@ own_part bs a e (suc zero) small h = record {
   formed = h.formed;
   side = h.side;
   parts = first_or_second;
-  vias = λ t. finds_more bs (part a 1) (via a t) (fin.get e.vias t) (λ e. cc) (h.vias t);
+  vias = λ t. finds_more bs (part a 1) (via a t) (get term_cmp e.vias t) (λ e. cc) (h.vias t);
   terms = h.terms;
 }
   where
@@ -148,46 +148,50 @@ own_part bs a e (suc zero) small h = record {
     first_or_second (suc (suc j)) k = absurd (omega arith)
 own_part bs a e (suc (suc i)) small h = absurd (omega arith)
 
-own_via : (bs : List Address) (a : Address) (e : Entry) (t : Term) → IsFormedTerm t → IsEntry bs a e → IsEntry (bs ++ via a t ∷ []) a (record e { vias = fin.insert e.vias t (length bs) })
-own_via bs a e t formed h = record {
+-- m finds the number n by the term t, and else what ms finds
+abbrev pub HasNew : BTreeMap Term ℕ → BTreeMap Term ℕ → Term → ℕ → Type 0
+HasNew ms m t n = (u : Term) → get term_cmp m u ≡ cond (eq_by_cmp term_cmp t u) (Some n) (get term_cmp ms u)
+
+own_via : (bs : List Address) (a : Address) (e : Entry) (t : Term) (m : BTreeMap Term ℕ) → HasNew e.vias m t (length bs) → IsFormedTerm t → IsEntry bs a e → IsEntry (bs ++ via a t ∷ []) a (record e { vias = m })
+own_via bs a e t m new formed h = record {
   formula = h.formula;
   formed = h.formed;
   side = h.side;
   parts = λ i k. finds_more bs (via a t) (part a i) (part_in e i) (λ e. cc) (h.parts i k);
-  vias = λ u. subst (FindsChild (bs ++ via a t ∷ []) (via a u)) (sym (fin.get-insert term_total e.vias t (length bs) u)) (by_term u);
-  terms = λ u. subst (λ (o : Option ℕ). IfSome o (λ _. IsFormedTerm u)) (sym (fin.get-insert term_total e.vias t (length bs) u)) (formed_by u);
+  vias = λ u. subst (FindsChild (bs ++ via a t ∷ []) (via a u)) (sym (new u)) (by_term u);
+  terms = λ u. subst (λ (o : Option ℕ). IfSome o (λ _. IsFormedTerm u)) (sym (new u)) (formed_by u);
 }
   where
-    by_term : (u : Term) → FindsChild (bs ++ via a t ∷ []) (via a u) (cond (eq_by_cmp term_cmp u t) (Some (length bs)) (fin.get e.vias u))
+    by_term : (u : Term) → FindsChild (bs ++ via a t ∷ []) (via a u) (cond (eq_by_cmp term_cmp t u) (Some (length bs)) (get term_cmp e.vias u))
     by_term u =
-        elim (eq_by_cmp term_cmp u t) as (λ q. eq_by_cmp term_cmp u t ≡ q → FindsChild (bs ++ via a t ∷ []) (via a u) (cond q (Some (length bs)) (fin.get e.vias u))) [
-          | true ↦ λ same. subst (λ (v : Term). FindsChild (bs ++ via a t ∷ []) (via a v) (Some (length bs))) (sym (equal_terms u t same)) (new_child bs (via a t))
-          | false ↦ λ differ. finds_more bs (via a t) (via a u) (fin.get e.vias u) (λ one. let terms : u ≡ t = cc in clash (eq_by_cmp term_cmp u t) (tied_terms u t terms) differ) (h.vias u)
+        elim (eq_by_cmp term_cmp t u) as (λ q. eq_by_cmp term_cmp t u ≡ q → FindsChild (bs ++ via a t ∷ []) (via a u) (cond q (Some (length bs)) (get term_cmp e.vias u))) [
+          | true ↦ λ same. subst (λ (v : Term). FindsChild (bs ++ via a t ∷ []) (via a v) (Some (length bs))) (equal_terms t u same) (new_child bs (via a t))
+          | false ↦ λ differ. finds_more bs (via a t) (via a u) (get term_cmp e.vias u) (λ one. let terms : t ≡ u = cc in clash (eq_by_cmp term_cmp t u) (tied_terms t u terms) differ) (h.vias u)
         ] refl
 
-    formed_by : (u : Term) → IfSome (cond (eq_by_cmp term_cmp u t) (Some (length bs)) (fin.get e.vias u)) (λ _. IsFormedTerm u)
+    formed_by : (u : Term) → IfSome (cond (eq_by_cmp term_cmp t u) (Some (length bs)) (get term_cmp e.vias u)) (λ _. IsFormedTerm u)
     formed_by u =
-        elim (eq_by_cmp term_cmp u t) as (λ q. eq_by_cmp term_cmp u t ≡ q → IfSome (cond q (Some (length bs)) (fin.get e.vias u)) (λ _. IsFormedTerm u)) [
-          | true ↦ λ same. subst (λ (v : Term). IsFormedTerm v) (sym (equal_terms u t same)) formed
+        elim (eq_by_cmp term_cmp t u) as (λ q. eq_by_cmp term_cmp t u ≡ q → IfSome (cond q (Some (length bs)) (get term_cmp e.vias u)) (λ _. IsFormedTerm u)) [
+          | true ↦ λ same. subst (λ (v : Term). IsFormedTerm v) (equal_terms t u same) formed
           | false ↦ λ differ. h.terms u
         ] refl
+
+-- what holds of the other entries and of the new one at p holds of each
+set_entries : (P : ℕ → Entry → Type 0) (es : List Entry) (p : ℕ) (x : Entry) → p < length es → P p x → ((n : ℕ) (d : Entry) → n < length es → (n ≡ p → ⊥) → P n (get_or es n d))
+    → (n : ℕ) (d : Entry) → n < length (set es p x) → P n (get_or (set es p x) n d)
+set_entries P es p x l own others n d k =
+    split (nat_eq n p)
+    (λ e. subst (λ (m : ℕ). P m (get_or (set es p x) m d)) (sym (eqb-true n p e)) (subst (P p) (sym (get_or-set_same es p x d l)) own))
+    (λ e. subst (P n) (sym (get_or-set_other es p n x d (eqb-false n p e))) (others n d (omega (arith, length-set es p x)) (eqb-false n p e)))
 
 -- a part or an instance of the address of number p, whose entry becomes x
 module _ (es : List Entry) (bs : List Address) (h : AreEntries es bs) (long : length es ≡ length bs) (p : ℕ) (l : p < length es) where
   other_entries : (b : Address) (x : Entry) → IsEntry (bs ++ b ∷ []) (address_in bs p) x
       → ((n i : ℕ) → n < length bs → part (address_in bs n) i ≡ b → n ≡ p) → ((n : ℕ) (t : Term) → n < length bs → via (address_in bs n) t ≡ b → n ≡ p)
       → (n : ℕ) (d : Entry) → n < length (set es p x) → IsEntry (bs ++ b ∷ []) (address_in bs n) (get_or (set es p x) n d)
-  other_entries b x own by_part by_via n d k =
-      let within : n < length es = omega (arith, length-set es p x) in
-      split (nat_eq n p)
-      (λ same.
-      let is : n ≡ p = eqb-true n p same in
-      subst (λ (m : ℕ). IsEntry (bs ++ b ∷ []) (address_in bs m) (get_or (set es p x) m d)) (sym is)
-      (subst (λ (y : Entry). IsEntry (bs ++ b ∷ []) (address_in bs p) y) (sym (get_or-set_same es p x d l)) own))
-      (λ differ.
-      let ne : n ≡ p → ⊥ = eqb-false n p differ in
-      subst (λ (y : Entry). IsEntry (bs ++ b ∷ []) (address_in bs n) y) (sym (get_or-set_other es p n x d ne))
-      (entry_more bs b (address_in bs n) (get_or es n d) (λ i e. ne (by_part n i (omega arith) e)) (λ t e. ne (by_via n t (omega arith) e)) (h.entries n d within)))
+  other_entries b x own by_part by_via =
+      set_entries (λ n y. IsEntry (bs ++ b ∷ []) (address_in bs n) y) es p x l own
+      (λ n d k ne. entry_more bs b (address_in bs n) (get_or es n d) (λ i e. ne (by_part n i (omega arith) e)) (λ t e. ne (by_via n t (omega arith) e)) (h.entries n d k))
 
   pub part_pushed : (i : ℕ) (old : Entry) → i < 2 → old ≡ get_or es p old → is_listed (part (address_in bs p) i) bs ≡ false
       → (e : Entry) → IsFresh (part (address_in bs p) i) e → AreEntries (set es p (with_part old i (length bs)) ++ e ∷ []) (bs ++ part (address_in bs p) i ∷ [])
@@ -200,14 +204,38 @@ module _ (es : List Entry) (bs : List Address) (h : AreEntries es bs) (long : le
       (λ n t k same. absurd (cc)))
       e fresh
 
-  pub via_pushed : (t : Term) (old : Entry) → IsFormedTerm t → old ≡ get_or es p old → is_listed (via (address_in bs p) t) bs ≡ false
-      → (e : Entry) → IsFresh (via (address_in bs p) t) e → AreEntries (set es p (record old { vias = fin.insert old.vias t (length bs) }) ++ e ∷ []) (bs ++ via (address_in bs p) t ∷ [])
-  via_pushed t old formed is absent e fresh =
+  pub via_pushed : (t : Term) (old : Entry) (m : BTreeMap Term ℕ) → HasNew old.vias m t (length bs) → IsFormedTerm t → old ≡ get_or es p old → is_listed (via (address_in bs p) t) bs ≡ false
+      → (e : Entry) → IsFresh (via (address_in bs p) t) e → AreEntries (set es p (record old { vias = m }) ++ e ∷ []) (bs ++ via (address_in bs p) t ∷ [])
+  via_pushed t old m new formed is absent e fresh =
       let a : Address = address_in bs p in
       let within : p < length bs = omega arith in
-      let changed : Entry = record old { vias = fin.insert old.vias t (length bs) } in
+      let changed : Entry = record old { vias = m } in
       pushed bs (via a t) absent es (set es p changed) h (listed_at bs p within) (length-set es p changed ∙ long)
-      (other_entries (via a t) changed (own_via bs a old t formed (subst (IsEntry bs a) (sym is) (h.entries p old l)))
+      (other_entries (via a t) changed (own_via bs a old t m new formed (subst (IsEntry bs a) (sym is) (h.entries p old l)))
       (λ n j k same. absurd (cc))
       (λ n u k same. let one : address_in bs n ≡ a = cc in h.distinct n p k within one))
       e fresh
+
+  -- the map of the entry changes, and finds what it did
+  pub same_pushed : (old : Entry) (m : BTreeMap Term ℕ) → IsUnchanged old.vias m → old ≡ get_or es p old → AreEntries (set es p (record old { vias = m })) bs
+  same_pushed old m same is = record {
+    entries = set_entries (λ n y. IsEntry bs (address_in bs n) y) es p (record old { vias = m }) l own (λ n d k ne. h.entries n d k);
+    distinct = h.distinct;
+    closed = h.closed;
+  }
+    where
+      before : IsEntry bs (address_in bs p) old
+      before = subst (IsEntry bs (address_in bs p)) (sym is) (h.entries p old l)
+
+      found : (t : Term) → get term_cmp old.vias t ≡ get term_cmp m t
+      found t = ap (lookup (is_at (term_cmp t))) (sym same)
+
+      own : IsEntry bs (address_in bs p) (record old { vias = m })
+      own = record {
+        formula = before.formula;
+        formed = before.formed;
+        side = before.side;
+        parts = before.parts;
+        vias = λ t. subst (FindsChild bs (via (address_in bs p) t)) (found t) (before.vias t);
+        terms = λ t. subst (λ (o : Option ℕ). IfSome o (λ _. IsFormedTerm t)) (found t) (before.terms t);
+      }

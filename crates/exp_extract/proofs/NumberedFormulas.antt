@@ -1,12 +1,12 @@
 -- The numbers of formulas in rising lists, and the addresses of a premise's formulas.
-use Rattle.std.proofs.Common.{◌≡◌, ℕ, ◌<◌, Bool, true, false, ◌||◌, List, [], ◌∷◌, map, length, get_or, Option, Some, None, is_some, IfSome, Result, Ok, Err, refl, sym, ap, ◌∙◌, subst, arith}
+use Rattle.std.proofs.Common.{◌≡◌, ℕ, ◌+◌, ◌<◌, Bool, true, false, ◌||◌, List, [], ◌∷◌, ◌++◌, map, length, take, get_or, Option, Some, None, is_some, IfSome, Result, Ok, Err, refl, sym, ap, ◌∙◌, subst, arith}
 use Rattle.std.specs.Prelude.{nat_eq, if◌then◌else◌}
 use Rattle.std.specs.declared.cmp.Ordering.TheVariants.{Less, Equal, Greater}
 use Rattle.std.specs.Cmp.{tied_back}
 use Rattle.std.specs.Ordering.{eq_by_cmp, is_eq}
 use Rattle.std.specs.List.{list_any}
 use Rattle.std.proofs.lemmas.Bool.{eq-eqb, eqb-true}
-use Rattle.std.proofs.lemmas.List.{length-map}
+use Rattle.std.proofs.lemmas.List.{length-map, map-append, take_more}
 use Rattle.fol.specs.declared.symbols.Var.{Var}
 use Rattle.fol.specs.Syntax.{Formula}
 use Rattle.fol.specs.Order.{formula_cmp}
@@ -170,3 +170,10 @@ context_grown bs cs s x g h side f = by_number (number_in (set.listing (side_of 
 -- the number of a formula of the sequent is that of its address
 pub context_child : (bs : List Address) (s : Sequent) (x : Sides) → AreSides bs s x → (side : Side) (f : Formula) (n : ℕ) → number_in (set.listing (side_of s side)) (numbers_of x side) f ≡ Some n → IsChild bs (context_in bs s x side f) n
 context_child bs s x h side f n is = (h.within side n (number_listed _ _ f n is), sym (ap (address_or bs) is))
+
+-- one more number
+pub numbers_more : (f : Formula → Option ℕ) (hs : List Formula) (k : ℕ) (h : Formula) (ns ms : List ℕ) (n : ℕ) → k < length hs → h ≡ get_or hs k h → ms ≡ ns ++ n ∷ [] → Some n ≡ f h → map Some ns ≡ map f (take k hs)
+    → map Some ms ≡ map f (take (k + 1) hs)
+numbers_more f hs k h ns ms n l at new number before =
+    ap (map Some) new ∙ (map-append Some ns (n ∷ []) ∙ ((λ i. before i ++ number i ∷ [])
+    ∙ (sym (map-append f (take k hs) (h ∷ [])) ∙ ap (map f) (ap (λ x. take k hs ++ x ∷ []) at ∙ sym (take_more hs k h l)))))

@@ -1,22 +1,27 @@
 -- Instances that are read one after another.
-use Rattle.std.proofs.Common.{◌≡◌, ℕ, ◌+◌, ◌<◌, ◌≤◌, true, ◌&&◌, List, [], ◌∷◌, ◌++◌, map, length, take, get_or, refl, sym, ap, ◌∙◌, subst}
+use Rattle.std.proofs.Common.{◌≡◌, ℕ, true, ◌&&◌, List, [], ◌∷◌, ◌++◌, map, Option, Some, refl, sym, ap, ◌∙◌, subst}
 use Rattle.std.proofs.lemmas.Bool.{and_parts}
-use Rattle.std.proofs.lemmas.List.{take_more, take_all, map-append}
+use Rattle.std.proofs.lemmas.List.{append-nil, append_assoc, map-append}
 use Rattle.std.specs.Cmp.Derive.{both_true}
+use Rattle.std.specs.Map.{keys_of}
 use Rattle.fol.specs.Syntax.{Term}
 use Rattle.fol.specs.Formed.{is_formed_term}
 use Rattle.expansion_laws.specs.Expansions.{Exp, more}
+use Rattle.extraction_laws.specs.Addresses.{Address, via}
 use Rattle.extraction_laws.specs.States.{instances_by}
 use Rattle.exp_tree.specs.declared.expansion.Inst.{Inst}
 use Rattle.expansion_laws.specs.Formed.{is_formed_exp, are_formed_insts}
 use Rattle.exp_tree.specs.Shown.{insts_of}
-use Rattle.exp_extract.specs.declared.markings.Marking.{Marking}
+use Rattle.exp_extract.specs.Marked.{Marked, address_in, address_at, IsPlace}
+use Rattle.exp_extract.specs.Entries.{IsChild, FindsChild}
 
 abbrev term_of : Inst → Term
 term_of i = i.term
 
-abbrev marked_term : Marking → Term
-marked_term k = k.term
+-- what the map of the instances finds
+pub child_at : (m : Marked) (bs : List Address) (p : ℕ) (t : Term) (n : ℕ) → bs ≡ m.addresses → (o : Option ℕ) → o ≡ Some n → FindsChild bs (via (address_in bs p) t) o → IsPlace m n × (address_at m n ≡ via (address_at m p) t)
+child_at m bs p t n view o is h =
+    subst (λ (cs : List Address). IsChild cs (via (address_in cs p) t) n) view (subst (FindsChild bs (via (address_in bs p) t)) is h)
 
 -- the tree of each instance is that of its term
 abbrev AreTrees : (Term → Exp) → List Inst → Type 0
@@ -37,29 +42,26 @@ formed_push (j ∷ is) i h term child =
     let parts = and_parts (is_formed_term j.term && is_formed_exp j.child) (are_formed_insts (insts_of is)) h in
     both_true parts.0 (formed_push is i parts.1 term child)
 
--- instances by the first n of the marked terms, with the trees e of the terms
-pub record AreRead (e : Term → Exp) (ks : List Marking) (n : ℕ) (is : List Inst) : Type 0 where
-  pub terms : map term_of is ≡ map marked_term (take n ks)
+-- instances by the terms before those of the entries that are left, with the trees e of the terms
+pub record AreRead (e : Term → Exp) (ts : List Term) (left : List (Term × ℕ)) (is : List Inst) : Type 0 where
+  pub terms : map term_of is ++ keys_of left ≡ ts
   pub trees : AreTrees e is
   pub formed : are_formed_insts (insts_of is) ≡ true
 
-pub none_read : (e : Term → Exp) (ks : List Marking) → AreRead e ks 0 []
-none_read e ks = record { terms = refl; trees = tt; formed = refl }
+pub none_read : (e : Term → Exp) (es : List (Term × ℕ)) → AreRead e (keys_of es) es []
+none_read e es = record { terms = refl; trees = tt; formed = refl }
 
-pub one_more : (e : Term → Exp) (ks : List Marking) (n : ℕ) (k : Marking) (is js : List Inst) (i : Inst) → n < length ks → k ≡ get_or ks n k → AreRead e ks n is → js ≡ is ++ i ∷ []
-    → i.term ≡ k.term → i.child ≡ e k.term → is_formed_term k.term ≡ true → is_formed_exp i.child ≡ true → AreRead e ks (n + 1) js
-one_more e ks n k is js i within at h new term child formed_term formed_child =
-    let longer : take (n + 1) ks ≡ take n ks ++ k ∷ [] = take_more ks n k within ∙ ap (λ (x : Marking). take n ks ++ x ∷ []) (sym at) in
-    subst (λ (xs : List Inst). AreRead e ks (n + 1) xs) (sym new) (record {
-      terms =
-          map-append term_of is (i ∷ [])
-          ∙ (λ j. h.terms j ++ term j ∷ [])
-          ∙ sym (ap (map marked_term) longer ∙ map-append marked_term (take n ks) (k ∷ []));
-      trees = trees_push e is i h.trees (child ∙ ap e (sym term));
-      formed = formed_push is i h.formed (ap is_formed_term term ∙ formed_term) formed_child;
-    })
+pub one_more : (e : Term → Exp) (ts : List Term) (t : Term) (n : ℕ) (left : List (Term × ℕ)) (is : List Inst) (i : Inst) → AreRead e ts ((t, n) ∷ left) is → i.term ≡ t → i.child ≡ e t
+    → is_formed_term t ≡ true → is_formed_exp i.child ≡ true → AreRead e ts left (is ++ i ∷ [])
+one_more e ts t n left is i h term child formed_term formed_child = record {
+  terms =
+      ap (λ us. us ++ keys_of left) (map-append term_of is (i ∷ []))
+      ∙ (append_assoc (map term_of is) (i.term ∷ []) (keys_of left)
+      ∙ (ap (λ u. map term_of is ++ (u ∷ keys_of left)) term ∙ h.terms));
+  trees = trees_push e is i h.trees (child ∙ ap e (sym term));
+  formed = formed_push is i h.formed (ap is_formed_term term ∙ formed_term) formed_child;
+}
 
 -- all of them
-pub all_read : (e : Term → Exp) (ks : List Marking) (n : ℕ) (is : List Inst) (ts : List Term) → length ks ≤ n → AreRead e ks n is → map marked_term ks ≡ ts → insts_of is ≡ instances_by e ts
-all_read e ks n is ts over h terms =
-    trees_are e is h.trees ∙ ap (instances_by e) (h.terms ∙ ap (map marked_term) (take_all n ks over) ∙ terms)
+pub all_read : (e : Term → Exp) (ts : List Term) (is : List Inst) → AreRead e ts [] is → insts_of is ≡ instances_by e ts
+all_read e ts is h = trees_are e is h.trees ∙ ap (instances_by e) (sym (append-nil (map term_of is)) ∙ h.terms)

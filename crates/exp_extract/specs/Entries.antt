@@ -3,8 +3,9 @@
 --     IsChild, FindsChild      a number is that of an address; a look-up of the number of an address
 --     IsEntry, AreEntries      what the entries keep
 use Rattle.std.specs.Prelude.{◌≡◌, ℕ, zero, suc, ◌<◌, true, false, List, [], ◌∷◌, ◌++◌, length, slice_index_or, Option, Some, None, IfSome}
-use Rattle.std.specs.FinMap as fin
+use Rattle.std.specs.BTreeMap.{get}
 use Rattle.fol.specs.Syntax.{Term, Formula, all, ex}
+use Rattle.fol.specs.Order.{term_cmp}
 use Rattle.fol.specs.Formed.{IsFormed, IsFormedTerm}
 use Rattle.lk_rules.specs.declared.sequent.Side.{Side}
 use Rattle.extraction_laws.specs.Addresses.{Address, root, part, via, is_listed, formula_at, side_at}
@@ -54,8 +55,8 @@ pub record IsEntry (bs : List Address) (a : Address) (e : Entry) : Type 0 where
   pub formed : IsFormed e.formula
   pub side : e.side ≡ side_at a
   pub parts : (i : ℕ) → i < 2 → FindsChild bs (part a i) (part_in e i)
-  pub vias : (t : Term) → FindsChild bs (via a t) (fin.get e.vias t)
-  pub terms : (t : Term) → IfSome (fin.get e.vias t) (λ _. IsFormedTerm t)
+  pub vias : (t : Term) → FindsChild bs (via a t) (get term_cmp e.vias t)
+  pub terms : (t : Term) → IfSome (get term_cmp e.vias t) (λ _. IsFormedTerm t)
 
 -- no address stands twice
 abbrev pub AreDistinct : List Address → Type 0

@@ -1,7 +1,6 @@
 pub mod Marked
 pub mod Fingerprints
 pub mod Extracting
-pub mod Markings
 pub mod Named
 pub mod Names
 pub mod AddressCodes

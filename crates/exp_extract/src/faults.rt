@@ -24,20 +24,9 @@ pub(crate) fn check(
     ensures err { IfErr result (λ fault. Extracts (Err fault) (extracting proof.now.tree budget)) }
     ensures named { IfErr result NamesFormed }
 {
-    match first_cut(alloc, graph, proof)? {
-        Some(place) => Err(ExtractFault::Cut(place)),
-        None => check_end(graph, proof, budget),
+    if let Some(place) = first_cut(alloc, graph, proof)? {
+        return Err(ExtractFault::Cut(place));
     }
-}
-
-// The first fault of a proof without cuts.
-fn check_end(graph: &Graph, proof: &ProofRef, budget: u64) -> Result<(), ExtractFault>
-    requires of { IsOf graph.now proof.now }
-    requires cut_free { position is_cut_step (steps_of proof.now.tree) ≡ None }
-    ensures ok { IfOk result (λ _. extracting proof.now.tree budget ≡ Ok (extracted proof.now.tree)) }
-    ensures err { IfErr result (λ fault. Extracts (Err fault) (extracting proof.now.tree budget)) }
-    ensures named { IfErr result NamesFormed }
-{
     match first_defined(&graph.get(proof).end)? {
         Some((formula, side)) => Err(ExtractFault::Defined { formula, side }),
         None if exceeds(proof, budget)? => Err(ExtractFault::Budget),

@@ -156,7 +156,7 @@ fn open_instance(
 {
     let term = apply_term(alloc, map, term)?;
     let place = open_main(marks, end, sides, side, main)?;
-    marks.make_instance(alloc, place, &term)
+    marks.make_via(alloc, place, &term)
 }
 
 // The main formula of a rule for a strong quantifier is used, and gets its variable. The number is that of the instance by that, and the
@@ -181,7 +181,7 @@ fn open_witness(
     let place = open_main(marks, end, sides, side, main)?;
     marks.name(alloc, place)?;
     let term = marks.variable_term(place).copy()?;
-    let witness = marks.make_witness(alloc, place, &term)?;
+    let witness = marks.make_via(alloc, place, &term)?;
     Ok((witness, term))
 }
 

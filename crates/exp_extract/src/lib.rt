@@ -7,7 +7,6 @@ mod fingerprints;
 mod inferences;
 mod maps;
 mod marked_proof;
-mod markings;
 mod marks;
 mod names;
 mod pairing;

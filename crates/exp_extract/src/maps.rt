@@ -116,7 +116,8 @@ impl Maps {
         if let Some(known) = self.known(parent, eigenvariable, variable) {
             return Ok(known);
         }
-        let number = self.next()?;
+        // There are fewer than 2^32 maps.
+        let number = u32::try_from(self.maps.len()).map_err(|_| AllocError)?;
         let mut map = self.maps[parent as usize].copy(alloc)?;
         map.set(eigenvariable.copy()?, variable.copy()?)?;
         let made = Extension {
@@ -129,17 +130,5 @@ impl Maps {
         self.made
             .insert(fingerprint(parent, eigenvariable, variable), made)?;
         Ok(number)
-    }
-
-    // The number of one more map. There are fewer than 2^32.
-    fn next(&self) -> Result<u32, AllocError>
-        ensures { IfOk result (λ n. n ≡ length self.now) }
-    {
-        let count = self.maps.len();
-        if count < 1 << 32 {
-            Ok(count as u32)
-        } else {
-            Err(AllocError)
-        }
     }
 }

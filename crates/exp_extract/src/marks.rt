@@ -7,10 +7,9 @@ ghost use Rattle.finite.specs.Finite as set;
 ghost use Rattle.extraction_laws.specs.Addresses.{root, part as part_of, via as via_of, is_listed, formula_at, side_at};
 ghost use Rattle.extraction_laws.specs.States.{unmarked, opened, instantiated, named, variable_at, terms_at};
 ghost use Rattle.exp_extract.specs.Marked.{address_at, IsPlace};
-ghost use Rattle.exp_extract.specs.Entries.{AreDistinct};
+ghost use Rattle.exp_extract.specs.Entries.{IsQuantified};
 ghost use Rattle.exp_extract.specs.Quantifiers.{is_weak, IsWeakAt, IsStrongAt, Grows};
 
-use crate::markings::Marking;
 use crate::names::Names;
 use crate::places::Places;
 use fol::{Formula, FormulaNode, Term, TermNode, Var};
@@ -24,7 +23,7 @@ use std::marker::Model;
 #[derive(Drop)]
 pub(crate) struct Marks {
     names: Names,
-    places: Places,
+    pub places: Places,
     used: HashSet<u32>,
 }
 
@@ -43,16 +42,6 @@ impl Model for Marks {
     ghost invariant = { AreMarks };
 }
 
-// Whether the quantifier at the head of a formula on a side may have several instances.
-fn is_weak_quantifier(formula: &Formula, side: Side) -> bool
-    ensures { result ≡ is_weak formula.now side }
-{
-    matches!(
-        (formula.node(), side),
-        (FormulaNode::All(_), Side::Left) | (FormulaNode::Ex(_), Side::Right)
-    )
-}
-
 impl Marks {
     /// With nothing marked. The variables of `outside` aren't given to strong quantifiers.
     pub fn new(alloc: Global, outside: Vars) -> Result<Marks, AllocError>
@@ -68,30 +57,6 @@ impl Marks {
         })
     }
 
-    /// Addresses differ.
-    pub fn known(&self)
-        ensures { AreDistinct self.now.addresses }
-    {
-        self.places.known();
-    }
-
-    /// The formula at an address.
-    pub fn formula(&self, place: u32) -> &Formula
-        requires { IsPlace self.now place }
-        ensures value { result.now ≡ formula_at (address_at self.now place) }
-        ensures formed { IsFormed result.now }
-    {
-        self.places.formula(place)
-    }
-
-    /// The side of an address.
-    pub fn side(&self, place: u32) -> Side
-        requires { IsPlace self.now place }
-        ensures { result ≡ side_at (address_at self.now place) }
-    {
-        self.places.side(place)
-    }
-
     /// Whether the formula at an address is used.
     pub fn is_used(&self, place: u32) -> bool
         requires { IsPlace self.now place }
@@ -99,30 +64,6 @@ impl Marks {
     {
         self.places.known();
         self.used.contains(&place)
-    }
-
-    /// The number of a part of an address, the first or the second. One that is used has a number.
-    pub fn part(&self, place: u32, number: u64) -> Option<u32>
-        requires place { IsPlace self.now place }
-        requires number { number < 2 }
-        ensures some { IfSome result (λ p. IsPlace self.now p × (address_at self.now p ≡ part_of (address_at self.now place) number)) }
-        ensures none { IsNone result → set.has self.now.state.opened (part_of (address_at self.now place) number) ≡ false }
-    {
-        self.places.part(place, number)
-    }
-
-    /// The instances at a weak quantifier, in rising order of the terms.
-    pub fn instances(&self, place: u32) -> &[Marking]
-        requires { IsPlace self.now place }
-        ensures terms { map (λ i. i.term) result.now ≡ terms_at self.now.state (address_at self.now place) }
-        ensures places { All (λ i. IsPlace self.now i.place × (address_at self.now i.place ≡ via_of (address_at self.now place) i.term)) result.now }
-        ensures formed { All (λ i. IsFormedTerm i.term) result.now }
-    {
-        if is_weak_quantifier(self.formula(place), self.side(place)) {
-            self.places.vias(place)
-        } else {
-            &[]
-        }
     }
 
     /// The variable of a strong quantifier as a term, and where the address has none the next one.
@@ -144,15 +85,6 @@ impl Marks {
             TermNode::Free(var) => var.copy(),
             _ => unreachable!(),
         }
-    }
-
-    /// The number of the instance at a strong quantifier by its variable. One that is used has a number.
-    pub fn by_variable(&self, place: u32) -> Option<u32>
-        requires { IsPlace self.now place }
-        ensures some { IfSome result (λ p. IsPlace self.now p × (address_at self.now p ≡ via_of (address_at self.now place) (free (variable_at self.now.outside self.now.state (address_at self.now place))))) }
-        ensures none { IsNone result → set.has self.now.state.opened (via_of (address_at self.now place) (free (variable_at self.now.outside self.now.state (address_at self.now place)))) ≡ false }
-    {
-        self.places.via(place, self.variable_term(place))
     }
 
     /// Enters the address of a formula of the sequent.
@@ -201,38 +133,16 @@ impl Marks {
         self.places.make_part(alloc, place, number)
     }
 
-    /// The number of an instance at a strong quantifier.
-    pub fn make_witness(
-        &mut self,
-        alloc: Global,
-        place: u32,
-        term: &Term,
-    ) -> Result<u32, AllocError>
+    /// The number of an instance at a quantifier. At a weak one it is marked.
+    pub fn make_via(&mut self, alloc: Global, place: u32, term: &Term) -> Result<u32, AllocError>
         requires place { IsPlace self.old place }
-        requires strong { IsStrongAt (address_at self.old place) }
+        requires quantified { IsQuantified (formula_at (address_at self.old place)) }
         requires formed { IsFormedTerm term.now }
         ensures via { IfOk result (λ p. IsPlace self.new p × (address_at self.new p ≡ via_of (address_at self.old place) term.now)) }
         ensures grown { Grows self.old.addresses self.new.addresses }
         ensures outside { self.new.outside ≡ self.old.outside }
-        ensures state { self.new.state ≡ self.old.state }
-    {
-        self.places.make_via(alloc, place, term)
-    }
-
-    /// An instance at a weak quantifier is used, and this is its number.
-    pub fn make_instance(
-        &mut self,
-        alloc: Global,
-        place: u32,
-        term: &Term,
-    ) -> Result<u32, AllocError>
-        requires place { IsPlace self.old place }
-        requires weak { IsWeakAt (address_at self.old place) }
-        requires formed { IsFormedTerm term.now }
-        ensures via { IfOk result (λ p. IsPlace self.new p × (address_at self.new p ≡ via_of (address_at self.old place) term.now)) }
-        ensures grown { Grows self.old.addresses self.new.addresses }
-        ensures outside { self.new.outside ≡ self.old.outside }
-        ensures state { OnOk result (self.new.state ≡ instantiated (address_at self.old place) term.now self.old.state) }
+        ensures weak { IsWeakAt (address_at self.old place) → OnOk result (self.new.state ≡ instantiated (address_at self.old place) term.now self.old.state) }
+        ensures strong { IsStrongAt (address_at self.old place) → self.new.state ≡ self.old.state }
     {
         self.places.make_via(alloc, place, term)
     }

@@ -33,8 +33,8 @@ fn instances(
 {
     let term = marks.variable_term(strong).copy()?;
     marks.name(alloc, strong)?;
-    let instance = marks.make_instance(alloc, weak, &term)?;
-    let witness = marks.make_witness(alloc, strong, &term)?;
+    let instance = marks.make_via(alloc, weak, &term)?;
+    let witness = marks.make_via(alloc, strong, &term)?;
     Ok((instance, witness))
 }
 
@@ -94,7 +94,7 @@ pub(crate) fn pair(
     laws::axioms();
     marks.open(left)?;
     marks.open(right)?;
-    let formula = marks.formula(left).copy()?;
+    let formula = marks.places.formula(left).copy()?;
     match formula.node() {
         FormulaNode::Atom(..) | FormulaNode::Top | FormulaNode::Bot => Ok(()),
         FormulaNode::Not(_) => pair_turned(marks, alloc, left, right, 0),

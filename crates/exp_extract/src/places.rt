@@ -1,22 +1,19 @@
 //! A table of addresses: each has a number, after that of the address of which it is a part or an instance.
-ghost use Rattle.std.specs.Prelude.{◌≡◌, ◌<◌, ℕ, true, false, [], ◌∷◌, ◌++◌, length, map, IfOk, OnOk, OnErr};
-ghost use Rattle.std.specs.FinMap as fin;
-ghost use Rattle.std.specs.List.{All, list_any};
-ghost use Rattle.expansion_laws.specs.Expansions.{turn};
-ghost use Rattle.std.specs.Ordering.{eq_by_cmp};
+ghost use Rattle.std.specs.Prelude.{◌≡◌, ◌<◌, true, false, [], ◌∷◌, ◌++◌, length, IfOk, IfSome, OnOk, OnErr};
+ghost use Rattle.std.specs.BTreeMap.{get, IsEmpty};
 ghost use Rattle.fol.specs.Syntax.{Term as Meaning};
 ghost use Rattle.fol.specs.Order.{term_cmp};
 ghost use Rattle.fol.specs.Formed.{IsFormed, IsFormedTerm};
-ghost use Rattle.finite.specs.Finite as set;
 ghost use Rattle.extraction_laws.specs.Addresses.{Address, root, part as part_of, via as via_of, part_formula, part_side, is_listed, formula_at, side_at};
 ghost use Rattle.extraction_laws.specs.States.{with_address};
 ghost use Rattle.exp_extract.specs.Marked.{address_in};
 ghost use Rattle.exp_extract.specs.Entries.{origin_address, part_in, with_part, IsChild, FindsChild, AreDistinct, HasParent, IsQuantified};
 
-use crate::markings::{Marking, Markings};
+use exp_tree::other;
 use fol::{Formula, FormulaNode, Term};
 use lk_rules::Side;
 use std::alloc::{AllocError, Global};
+use std::collections::BTreeMap;
 use std::marker::Model;
 use substitution::instance;
 
@@ -35,7 +32,7 @@ pub(crate) struct Entry {
     pub side: Side,
     pub first: Option<u32>,
     pub second: Option<u32>,
-    pub vias: Markings,
+    pub vias: BTreeMap<Term, u32>,
 }
 
 impl Drop for Entry {
@@ -80,7 +77,8 @@ impl Model for Places {
 impl Entry {
     // With no part and no instance.
     fn new(alloc: Global, origin: Origin, formula: Formula, side: Side) -> Entry
-        ensures { result ≡ record { origin = origin; formula = formula; side = side; first = None; second = None; vias = fin.empty } }
+        ensures fields { result ≡ record { origin = origin; formula = formula; side = side; first = None; second = None; vias = result.vias } }
+        ensures empty { IsEmpty result.vias }
     {
         Entry {
             origin,
@@ -88,7 +86,7 @@ impl Entry {
             side,
             first: None,
             second: None,
-            vias: Markings::new(alloc),
+            vias: BTreeMap::new(alloc),
         }
     }
 
@@ -130,18 +128,9 @@ fn side_of_part(formula: &Formula, number: u64, side: Side) -> Side
     ensures { result ≡ part_side formula.now number side }
 {
     match (formula.node(), side) {
-        (FormulaNode::Not(_), side) => other_side(side),
-        (FormulaNode::Imp(..), side) if number == 0 => other_side(side),
+        (FormulaNode::Not(_), side) => other(side),
+        (FormulaNode::Imp(..), side) if number == 0 => other(side),
         (_, side) => side,
-    }
-}
-
-fn other_side(side: Side) -> Side
-    ensures { result ≡ turn side }
-{
-    match side {
-        Side::Left => Side::Right,
-        Side::Right => Side::Left,
     }
 }
 
@@ -188,35 +177,28 @@ impl Places {
         self.entries[place as usize].part(number)
     }
 
+    /// The numbers of the instances at an address, by their terms.
+    pub fn vias(&self, place: u32) -> &BTreeMap<Term, u32>
+        requires { place < length self.now }
+        ensures places { (t : Meaning) → FindsChild self.now (via_of (address_in self.now place) t) (get term_cmp result.now t) }
+        ensures formed { (t : Meaning) → IfSome (get term_cmp result.now t) (λ _. IsFormedTerm t) }
+    {
+        &self.entries[place as usize].vias
+    }
+
     /// The number of the instance at an address by a term.
     pub fn via(&self, place: u32, term: &Term) -> Option<u32>
         requires { place < length self.now }
         ensures { FindsChild self.now (via_of (address_in self.now place) term.now) result }
     {
-        self.entries[place as usize].vias.get(term)
-    }
-
-    /// The instances at an address, in rising order of the terms.
-    pub fn vias(&self, place: u32) -> &[Marking]
-        requires { place < length self.now }
-        ensures rises { set.IsRising term_cmp (map (λ i. i.term) result.now) }
-        ensures terms { (t : Meaning) → list_any (eq_by_cmp term_cmp t) (map (λ i. i.term) result.now) ≡ is_listed (via_of (address_in self.now place) t) self.now }
-        ensures places { All (λ i. IsChild self.now (via_of (address_in self.now place) i.term) i.place) result.now }
-        ensures formed { All (λ i. IsFormedTerm i.term) result.now }
-    {
-        self.entries[place as usize].vias.as_slice()
+        self.vias(place).get(term).copied()
     }
 
     // The number of one more entry. There are fewer than 2^32.
     fn next(&self) -> Result<u32, AllocError>
         ensures { IfOk result (λ n. n ≡ length self.now) }
     {
-        let count = self.entries.len();
-        if count < 1 << 32 {
-            Ok(count as u32)
-        } else {
-            Err(AllocError)
-        }
+        u32::try_from(self.entries.len()).map_err(|_| AllocError)
     }
 
     /// Enters the address of a formula of the sequent.

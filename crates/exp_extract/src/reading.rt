@@ -11,6 +11,7 @@ ghost use Rattle.extraction_laws.specs.States.{variable_at, terms_at, instances_
 ghost use Rattle.exp_tree.specs.Shown.{insts_of};
 ghost use Rattle.expansion_laws.specs.Formed.{are_formed_insts};
 ghost use Rattle.exp_extract.specs.Marked.{address_at, IsPlace};
+ghost use Rattle.exp_extract.specs.Quantifiers.{IsWeakAt};
 ghost use Rattle.exp_extract.specs.Reading.{tree_of, instance_tree};
 
 use crate::marks::Marks;
@@ -28,7 +29,7 @@ pub(crate) fn read_tree(alloc: Global, marks: &Marks, place: u32) -> Result<Exp,
     ensures { IfOk result (λ e. e ≡ tree_of marks.now (address_at marks.now place)) }
 {
     laws::trees();
-    let formula = marks.formula(place);
+    let formula = marks.places.formula(place);
     if !marks.is_used(place) {
         return Exp::wk(alloc, formula.copy()?);
     }
@@ -52,11 +53,11 @@ pub(crate) fn read_tree(alloc: Global, marks: &Marks, place: u32) -> Result<Exp,
             let second = read_part(alloc, marks, place, 1, second)?;
             Exp::imp(alloc, first, second)
         }
-        FormulaNode::All(body) => match marks.side(place) {
+        FormulaNode::All(body) => match marks.places.side(place) {
             Side::Left => read_weak(alloc, marks, place),
             Side::Right => read_strong(alloc, marks, place, body),
         },
-        FormulaNode::Ex(body) => match marks.side(place) {
+        FormulaNode::Ex(body) => match marks.places.side(place) {
             Side::Left => read_strong(alloc, marks, place, body),
             Side::Right => read_weak(alloc, marks, place),
         },
@@ -79,7 +80,7 @@ fn read_part(
     ensures { IfOk result (λ e. e ≡ tree_of marks.now (part (address_at marks.now place) number)) }
 {
     laws::trees();
-    match marks.part(place, number) {
+    match marks.places.part(place, number) {
         Some(there) => read_tree(alloc, marks, there),
         None => Exp::wk(alloc, formula.copy()?),
     }
@@ -89,26 +90,27 @@ fn read_part(
 #[cycle(read)]
 fn read_weak(alloc: Global, marks: &Marks, place: u32) -> Result<Exp, AllocError>
     requires place { IsPlace marks.now place }
-    requires weak { tree_of marks.now (address_at marks.now place) ≡ weak_at marks.now.state (address_at marks.now place) (instance_tree marks.now (address_at marks.now place)) }
+    requires weak { IsWeakAt (address_at marks.now place) }
+    requires tree { tree_of marks.now (address_at marks.now place) ≡ weak_at marks.now.state (address_at marks.now place) (instance_tree marks.now (address_at marks.now place)) }
     ensures { IfOk result (λ e. e ≡ tree_of marks.now (address_at marks.now place)) }
 {
     let instances = read_instances(alloc, marks, place)?;
-    Exp::weak(alloc, marks.formula(place).copy()?, instances)
+    Exp::weak(alloc, marks.places.formula(place).copy()?, instances)
 }
 
-// The instances at a quantifier, with their trees.
+// The instances at a quantifier that may have several, with their trees.
 #[cycle(read)]
 fn read_instances(alloc: Global, marks: &Marks, place: u32) -> Result<Vec<Inst>, AllocError>
-    requires { IsPlace marks.now place }
+    requires place { IsPlace marks.now place }
+    requires weak { IsWeakAt (address_at marks.now place) }
     ensures instances { IfOk result (λ is. insts_of is.items ≡ instances_by (instance_tree marks.now (address_at marks.now place)) (terms_at marks.now.state (address_at marks.now place))) }
     ensures formed { IfOk result (λ is. are_formed_insts (insts_of is.items) ≡ true) }
 {
     let mut instances = Vec::new(alloc);
-    let markings = marks.instances(place);
-    for marking in markings {
-        let child = read_tree(alloc, marks, marking.place)?;
+    for (term, instance) in marks.places.vias(place) {
+        let child = read_tree(alloc, marks, *instance)?;
         child.known();
-        let term = marking.term.copy()?;
+        let term = term.copy()?;
         instances.push(Inst { term, child })?;
     }
     Ok(instances)
@@ -123,12 +125,10 @@ fn read_witness(alloc: Global, marks: &Marks, place: u32, body: &Formula) -> Res
     ensures { IfOk result (λ e. e ≡ instance_tree marks.now (address_at marks.now place) (free (variable_at marks.now.outside marks.now.state (address_at marks.now place)))) }
 {
     laws::trees();
-    match marks.by_variable(place) {
+    let variable = marks.variable_term(place);
+    match marks.places.via(place, variable) {
         Some(there) => read_tree(alloc, marks, there),
-        None => {
-            let term = Term::free(alloc, marks.variable(place)?)?;
-            Exp::wk(alloc, instance(alloc, body, &term)?)
-        }
+        None => Exp::wk(alloc, instance(alloc, body, variable)?),
     }
 }
 
@@ -143,7 +143,7 @@ fn read_strong(alloc: Global, marks: &Marks, place: u32, body: &Formula) -> Resu
 {
     let variable = marks.variable(place)?;
     let child = read_witness(alloc, marks, place, body)?;
-    Exp::strong(alloc, marks.formula(place).copy()?, variable, child)
+    Exp::strong(alloc, marks.places.formula(place).copy()?, variable, child)
 }
 
 /// The trees at addresses whose formulas rise.

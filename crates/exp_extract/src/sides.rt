@@ -149,41 +149,15 @@ fn inner_side(
     let told_apart = tell_apart(conclusion, added);
     let mut near = 0;
     for formula in formulas {
-        let (number, next) = number_in_premise(
-            conclusion, numbers, auxiliary, premise, side, near, formula, told_apart,
-        )?;
-        near = next;
+        if let Some(at) = place_near(conclusion, near, formula, told_apart) {
+            list.push_reserved(numbers[at]);
+            near = at + 1;
+            continue;
+        }
+        let number = auxiliary.place(premise, side, formula).ok_or(AllocError)?;
         list.push_reserved(number);
     }
     Ok(list)
-}
-
-// The number of a formula on a side of a premise, which is looked for near a place of the conclusion, and the place to look near for the
-// next one.
-fn number_in_premise(
-    conclusion: &[Formula],
-    numbers: &[u32],
-    auxiliary: &Auxiliary,
-    premise: u64,
-    side: Side,
-    near: usize,
-    formula: &Formula,
-    told_apart: bool,
-) -> Result<(u32, usize), AllocError>
-    requires rises { set.IsRising formula_cmp conclusion.now }
-    requires count { length numbers.now ≡ length conclusion.now }
-    requires near { near ≤ length conclusion.now }
-    requires told { IsTrue told_apart → IsToldApart conclusion.now formula.now }
-    ensures number { IfOk result (λ p. Some p.0 ≡ inner_number conclusion.now numbers.now auxiliary.now premise side formula.now) }
-    ensures near { IfOk result (λ p. p.1 ≤ length conclusion.now) }
-{
-    if let Some(at) = place_near(conclusion, near, formula, told_apart) {
-        return Ok((numbers[at], at + 1));
-    }
-    match auxiliary.place(premise, side, formula) {
-        Some(number) => Ok((number, near)),
-        None => Err(AllocError),
-    }
 }
 
 impl Sides {

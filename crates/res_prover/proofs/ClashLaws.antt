@@ -1,32 +1,35 @@
 -- No map makes atoms equal that clash.
-use Rattle.std.proofs.Common.{◌≡◌, true, not, List, ◌++◌, refl, sym, ◌∙◌}
+use Rattle.std.proofs.Common.{◌≡◌, ◌==◌, ◌&&◌, ℕ, Bool, true, false, not, if◌then◌else◌, List, ◌++◌, refl, sym, ap, ◌∙◌}
 use Rattle.std.specs.Prelude.{Contains, Option}
 use Rattle.std.specs.List.{All}
-use Rattle.std.specs.Ordering.{eq_by_cmp}
-use Rattle.std.proofs.lemmas.Bool.{both_ways, not-true}
+use Rattle.std.proofs.lemmas.Bool.{both_ways, not-true, eq-eqb}
 use Rattle.std.proofs.lemmas.List.Elements.{All-contains, Contains-append_left, Contains-append_right}
 use Rattle.fol.specs.declared.symbols.Var.{Var}
 use Rattle.fol.specs.declared.symbols.Sym.{Sym}
 use Rattle.fol.specs.Syntax.{Term, free, bound, app, Terms, nil, cons, Pred, Formula, atom}
-use Rattle.fol.specs.Order.{sym_cmp, pred_cmp}
-use Rattle.fol.proofs.OrderTies.{sym_equality_same, pred_equality_same}
+use Rattle.fol.specs.Facts.{is_open, sym_fingerprint, pred_fingerprint, formula_fingerprint}
 use Rattle.substitution.specs.Image.{image_term, image_terms, image}
+use Rattle.substitution.proofs.Booleans.{and_left, and_right}
+use Rattle.substitution.proofs.Shut.{image-shut}
 use Rattle.proof_trees.proofs.Booleans.{either}
 use Rattle.clause_laws.proofs.Atomic.{makes-listed}
 use Rattle.res_prover.specs.Choosing.{IsUnified}
-use Rattle.res_prover.specs.Clashes.{clashes, any_clash, atoms_clash}
+use Rattle.res_prover.specs.Clashes.{clashes, any_clash, symbols_clash, atoms_clash}
 
-other_symbol : (s r : Sym) → not (eq_by_cmp sym_cmp s r) ≡ true → s ≡ r → ⊥
-other_symbol s r e same = both_ways (eq_by_cmp sym_cmp s r) (not-true (eq_by_cmp sym_cmp s r) e) ((sym_equality_same s r (eq_by_cmp sym_cmp s r) refl).1 same)
+other_number : (k n : ℕ) → not (k == n) ≡ true → k ≡ n → ⊥
+other_number k n e same = both_ways (k == n) (not-true (k == n) e) (eq-eqb k n same)
 
-other_predicate : (p q : Pred) → not (eq_by_cmp pred_cmp p q) ≡ true → p ≡ q → ⊥
-other_predicate p q e same = both_ways (eq_by_cmp pred_cmp p q) (not-true (eq_by_cmp pred_cmp p q) e) ((pred_equality_same p q (eq_by_cmp pred_cmp p q) refl).1 same)
+other_symbol : (s r : Sym) → not (sym_fingerprint s == sym_fingerprint r) ≡ true → s ≡ r → ⊥
+other_symbol s r e same = other_number (sym_fingerprint s) (sym_fingerprint r) e (ap sym_fingerprint same)
+
+other_predicate : (p q : Pred) → not (pred_fingerprint p == pred_fingerprint q) ≡ true → p ≡ q → ⊥
+other_predicate p q e same = other_number (pred_fingerprint p) (pred_fingerprint q) e (ap pred_fingerprint same)
 
 module _ (h : Var → Option Term) where
   mutual
     clash_apart : (t u : Term) → clashes t u ≡ true → image_term h t ≡ image_term h u → ⊥
     clash_apart (app s ts) (app r us) e same =
-        either (not (eq_by_cmp sym_cmp s r)) (any_clash ts us)
+        either (not (sym_fingerprint s == sym_fingerprint r)) (any_clash ts us)
         (λ differ. other_symbol s r differ cc)
         (λ later. any_apart ts us later cc)
         e
@@ -44,14 +47,24 @@ module _ (h : Var → Option Term) where
     any_apart (cons t ts) nil e same = cc
     any_apart nil us e same = cc
 
-  atoms_apart : (f g : Formula) → atoms_clash f g ≡ true → image h f ≡ image h g → ⊥
-  atoms_apart (atom p ts) (atom q us) e same =
-      either (not (eq_by_cmp pred_cmp p q)) (any_clash ts us)
+  symbols_apart : (f g : Formula) → symbols_clash f g ≡ true → image h f ≡ image h g → ⊥
+  symbols_apart (atom p ts) (atom q us) e same =
+      either (not (pred_fingerprint p == pred_fingerprint q)) (any_clash ts us)
       (λ differ. other_predicate p q differ cc)
       (λ later. any_apart ts us later cc)
       e
-  atoms_apart (atom p ts) g e same = cc
-  atoms_apart f g e same = cc
+  symbols_apart (atom p ts) g e same = cc
+  symbols_apart f g e same = cc
+
+  wholes_apart : (f g : Formula) (b : Bool) → (not (is_open f) && not (is_open g)) ≡ b → (if b then not (formula_fingerprint f == formula_fingerprint g) else symbols_clash f g) ≡ true → image h f ≡ image h g → ⊥
+  wholes_apart f g true shut e same =
+      let first = image-shut h f (not-true (is_open f) (and_left (not (is_open f)) (not (is_open g)) shut)) in
+      let second = image-shut h g (not-true (is_open g) (and_right (not (is_open f)) (not (is_open g)) shut)) in
+      other_number (formula_fingerprint f) (formula_fingerprint g) e (ap formula_fingerprint (sym first ∙ same ∙ second))
+  wholes_apart f g false shut e same = symbols_apart f g e same
+
+  atoms_apart : (f g : Formula) → atoms_clash f g ≡ true → image h f ≡ image h g → ⊥
+  atoms_apart f g = wholes_apart f g (not (is_open f) && not (is_open g)) refl
 
 -- so no list with both has a unifier
 pub clash_unified : (fs gs : List Formula) (f g : Formula) → Contains fs f → Contains gs g → atoms_clash f g ≡ true → IsUnified (fs ++ gs) → ⊥

@@ -11,6 +11,7 @@ mod ClauseAtoms
 mod GoingOver
 mod Masks
 mod MarkLaws
+mod LinkLaws
 mod MarkedLaws
 mod BindingLaws
 mod ClashLaws

@@ -1,8 +1,7 @@
 -- The literals of a clause are the atoms of its sides, in any order.
-use Rattle.std.proofs.Common.{◌≡◌, ℕ, ◌+◌, ◌<◌, Bool, true, false, List, [], ◌∷◌, ◌++◌, map, length, get_or, take, sym, ap, subst, ◌∙◌, append_assoc}
+use Rattle.std.proofs.Common.{◌≡◌, Bool, true, false, List, ◌++◌, map, sym, ap, subst}
 use Rattle.std.specs.Prelude.{Contains}
 use Rattle.std.specs.List.Sorted.{IsPermutation}
-use Rattle.std.proofs.lemmas.List.{map-append}
 use Rattle.std.proofs.lemmas.List.Elements.{Contains-append_left, Contains-append_right}
 use Rattle.std.proofs.lemmas.List.Sorted.{Contains-permutation, IsPermutation-sym}
 use Rattle.fol.specs.Syntax.{Formula}
@@ -11,7 +10,6 @@ use Rattle.lk_rules.specs.declared.sequent.Sequent.{Sequent}
 use Rattle.clause_laws.proofs.Lists.{from_both, contains-map, from_map}
 use Rattle.res_prover.specs.declared.literals.Literal.{Literal}
 use Rattle.res_prover.specs.Sending.{side_at, sides, AreLiteralsOf}
-use Rattle.res_prover.proofs.Members.{next_taken}
 
 abbrev Placed : Type 0
 Placed = Bool × Formula

@@ -124,7 +124,7 @@ each_within m (f ∷ fs) gs within =
     (has_some gs f (image m f) (within f (first_in f fs)) (image_within m f (image m f) refl))
     (each_within m fs gs (λ g e. within g (or_second (eq_by_cmp formula_cmp g f) (is_in fs g) e)))
 
-members_sent : (m : Replacing) (s t : FormulaSet) → set.IsSubset (image_set m s) t → (f : Formula) → is_in (set.listing s) f ≡ true → is_in (set.listing t) (image m f) ≡ true
+pub members_sent : (m : Replacing) (s t : FormulaSet) → set.IsSubset (image_set m s) t → (f : Formula) → is_in (set.listing s) f ≡ true → is_in (set.listing t) (image m f) ≡ true
 members_sent m s t within f e = sym (has-listing t (image m f)) ∙ within (image m f) (image_member m s f (has-listing s f ∙ e))
 
 within_set : (m : Replacing) (s t : FormulaSet) → set.IsSubset (image_set m s) t → IsMaskWithin (side_marks (set.listing s)) (side_marks (set.listing t))

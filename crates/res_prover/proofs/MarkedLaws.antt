@@ -1,6 +1,6 @@
--- What lacks marks isn't subsumed, and no image.
-use Rattle.std.proofs.Common.{◌≡◌, Bool, true, false, refl, sym, ap, subst, ◌∙◌}
-use Rattle.std.specs.Prelude.{bit_or, Option, Some, None}
+-- What lacks marks or links isn't subsumed, and what lacks marks is no image.
+use Rattle.std.proofs.Common.{◌≡◌, false, refl, sym, ap, subst, ◌∙◌}
+use Rattle.std.specs.Prelude.{bit_or, Option, Some, None, IfSome}
 use Rattle.std.specs.FinMap as fin
 use Rattle.std.proofs.lemmas.Bool.{both_ways}
 use Rattle.fol.specs.Syntax.{Formula, atom}
@@ -12,9 +12,12 @@ use Rattle.clause_laws.specs.Subsumption.{IsClause, Subsumes}
 use Rattle.clause_laws.specs.Searching.{match_atom, subsumes}
 use Rattle.clause_laws.proofs.Searched.{Finds, finds_atom, subsumes-tested}
 use Rattle.res_prover.specs.declared.marked.MarkedClause.TheInside.{Inside}
+use Rattle.res_prover.specs.declared.links.Links.{Links}
 use Rattle.res_prover.specs.Marks.{is_marked_within}
+use Rattle.res_prover.specs.Links.{AreLinksOf}
 use Rattle.res_prover.specs.Marked.{IsMarked}
 use Rattle.res_prover.proofs.MarkLaws.{marks_left, marks_right, image_within}
+use Rattle.res_prover.proofs.LinkLaws.{links_within}
 
 pub shown : (one other : Inside) (c d : Sequent) → one.cell.value.clause ≡ c → other.cell.value.clause ≡ d → Subsumes c d → Subsumes one.cell.value.clause other.cell.value.clause
 shown one other c d is_c is_d h = subst (λ x. Subsumes x other.cell.value.clause) (sym is_c) (subst (Subsumes c) (sym is_d) h)
@@ -25,6 +28,14 @@ module _ (one other : Inside) (m : IsMarked one) (n : IsMarked other) (h : Subsu
 
   pub right_within : bit_or one.right_marks other.right_marks ≡ other.right_marks
   right_within = ap (λ a. bit_or a other.right_marks) m.right_marks ∙ ap (bit_or _) n.right_marks ∙ marks_right one.cell.value.clause other.cell.value.clause h ∙ sym n.right_marks
+
+  pub link_within : (l k : Links) → one.links ≡ Some l → other.links ≡ Some k → bit_or l.needed k.offered ≡ k.offered
+  link_within l k is_l is_k =
+      let c = one.cell.value.clause in
+      let d = other.cell.value.clause in
+      let mine : AreLinksOf c l = subst (λ o. IfSome o (AreLinksOf c)) is_l m.links in
+      let others : AreLinksOf d k = subst (λ o. IfSome o (AreLinksOf d)) is_k n.links in
+      ap (λ a. bit_or a k.offered) mine.needed ∙ ap (bit_or _) others.offered ∙ links_within c d h ∙ sym others.offered
 
 -- a clause that lacks a mark isn't found
 

@@ -1,8 +1,9 @@
 -- Rounds of a search, by the laws of clauses.
-use Rattle.std.proofs.Common.{◌≡◌, ℕ, suc, ◌+◌, ◌-◌, ◌≤◌, ◌||◌, ◌⊎◌, ⊎_elim, inl, inr, Bool, true, false, List, [], ◌∷◌, map, refl, sym, ap, subst, ◌∙◌, arith}
+use Rattle.std.proofs.Common.{◌≡◌, ℕ, suc, ◌+◌, ◌-◌, ◌≤◌, ◌||◌, ◌⊎◌, ⊎_elim, inl, inr, Bool, true, false, List, [], ◌∷◌, map, take, drop, refl, sym, ap, subst, ◌∙◌, arith}
 use Rattle.std.specs.Prelude.{Contains}
 use Rattle.std.specs.List.{All, AllByRecursion}
-use Rattle.std.proofs.lemmas.List.Elements.{All-from_recursion, recursion_from_All, All-contains, All-weaker, All-nil, All-contains_itself}
+use Rattle.std.proofs.lemmas.List.{drop-map, take-map}
+use Rattle.std.proofs.lemmas.List.Elements.{All-take, All-drop, All-from_recursion, recursion_from_All, All-contains, All-weaker, All-nil, All-contains_itself}
 use Rattle.lk_rules.specs.declared.sequent.Sequent.{Sequent}
 use Rattle.lk_rules.specs.Sequents.{empty}
 use Rattle.clause_laws.specs.Subsumption.{IsClause, IsTautology}
@@ -45,6 +46,18 @@ aged_alone ps ks same = sym (of_partners ps) ∙ ap (map (λ (m : Aged). m.0)) s
     of_kept : (ks : List Kept) → map (λ (m : Aged). m.0) (kept_aged ks) ≡ kept_clauses ks
     of_kept [] = refl
     of_kept (k ∷ ks) = ap (λ cs. k.clause ∷ cs) (of_kept ks)
+
+-- some of the clauses that stand one after another
+
+pub part_each : (P : Sequent → Type 0) (a n : ℕ) (ks : List Kept) → All P (kept_clauses ks) → All P (kept_clauses (take a (drop n ks)))
+part_each P a n ks all =
+    let f : Kept → Sequent = λ k. k.clause in
+    subst (All P) (ap (take a) (drop-map f n ks) ∙ take-map f a (drop n ks)) (All-take P a (drop n (map f ks)) (All-drop P n (map f ks) all))
+
+pub part_member : (cs : List Sequent) (a n : ℕ) (ks : List Kept) → ((c : Sequent) → Contains (kept_clauses ks) c → Contains cs c) → (c : Sequent) → Contains (kept_clauses (take a (drop n ks))) c → Contains cs c
+part_member cs a n ks within c m =
+    let all = All-weaker (Contains (kept_clauses ks)) (Contains cs) within (kept_clauses ks) (All-contains_itself (kept_clauses ks)) in
+    All-contains (Contains cs) (kept_clauses (take a (drop n ks))) c (part_each (Contains cs) a n ks all) m
 
 module _ (ks : List Sequent) where
   were_there : (js : List Kept) → kept_clauses js ≡ ks → All (WasThere ks) js

@@ -1,20 +1,17 @@
 -- The search over the literals of a clause, in any order, finds a map exactly where the clause subsumes the other one.
-use Rattle.std.proofs.Common.{◌≡◌, ◌↔◌, Bool, true, false, if◌then◌else◌, List, [], ◌∷◌, Option, Some, None, refl, sym, ap, subst, ◌∙◌}
+use Rattle.std.proofs.Common.{◌≡◌, Bool, true, false, List, [], ◌∷◌, Option, Some, None, refl, sym, ap, subst, ◌∙◌}
 use Rattle.std.specs.Prelude.{Contains}
-use Rattle.std.specs.Ordering.{eq_by_cmp}
 use Rattle.std.specs.FinMap as fin
 use Rattle.std.proofs.lemmas.Bool.{both_ways}
 use Rattle.std.proofs.lemmas.Cmp.{eq_by_cmp_equiv}
 use Rattle.std.proofs.lemmas.Map.Views.{Contains-from_any, list_any-from_Contains}
 use Rattle.fol.specs.declared.symbols.Var.{Var}
-use Rattle.fol.specs.Syntax.{Term, app, pred_symbol, Formula, atom}
-use Rattle.fol.specs.Order.{var_cmp, pred_cmp}
+use Rattle.fol.specs.Syntax.{Term, Formula}
+use Rattle.fol.specs.Order.{var_cmp}
 use Rattle.fol.specs.OrderLaws.{formula_total}
-use Rattle.fol.proofs.OrderTies.{pred_equality_same}
 use Rattle.finite.specs.Finite as set
 use Rattle.finite.proofs.Finite.{has-listing}
-use Rattle.free_variables.specs.Occurrence.{is_free_in_term}
-use Rattle.substitution.specs.Image.{image_term, image_terms, image}
+use Rattle.substitution.specs.Image.{image}
 use Rattle.substitution.specs.Maps.{Map}
 use Rattle.lk_rules.specs.declared.sequent.Sequent.{Sequent}
 use Rattle.lk_rules.specs.declared.sequent.Side.TheVariants.{Left, Right}
@@ -22,13 +19,11 @@ use Rattle.lk_rules.specs.Formulas.{FormulaSet}
 use Rattle.proof_trees.specs.FormulaSets.{is_atom}
 use Rattle.proof_trees.proofs.Members.{from_some, some_passes, image_member}
 use Rattle.proof_trees.proofs.FormulaSets.{equal}
-use Rattle.unify_laws.specs.Matching.{IsWithin, match_term}
+use Rattle.unify_laws.specs.Matching.{IsWithin}
 use Rattle.unify_laws.proofs.Images.{split}
-use Rattle.unify_laws.proofs.Matched.{IsRight, match_term_right, within_itself}
+use Rattle.unify_laws.proofs.Matched.{within_itself}
 use Rattle.clause_laws.specs.Subsumption.{IsClause, Subsumes}
-use Rattle.clause_laws.specs.Unifiers.{term_of, same_predicate}
 use Rattle.clause_laws.specs.Searching.{match_atom, goes_on, subsumes}
-use Rattle.clause_laws.proofs.Unified.{same_pred}
 use Rattle.clause_laws.proofs.Sets.{is_in, images_within}
 use Rattle.clause_laws.proofs.Lists.{contains_head, contains_later, contains_none, from_contains}
 use Rattle.clause_laws.proofs.Searched.{Finds, finds_atom, subsumes-tested}

@@ -1,6 +1,7 @@
 pub mod Lists
 pub mod Choosing
 pub mod Marks
+pub mod Links
 pub mod Clashes
 pub mod Kept
 pub mod Sending

@@ -1,11 +1,11 @@
-//! Atoms that have no unifier, as a walk over both shows.
+//! Atoms that have no unifier, as a walk over both shows. Symbols are told apart by their fingerprints alone: mostly that tells all that differ.
 ghost use Rattle.std.specs.Prelude.{◌≡◌, ◌++◌, true};
-ghost use Rattle.res_prover.specs.Clashes.{clashes as do_clash, any_clash as some_clash, atoms_clash as are_apart};
+ghost use Rattle.res_prover.specs.Clashes.{clashes as do_clash, any_clash as some_clash, symbols_clash as have_clash, atoms_clash as are_apart};
 ghost use Rattle.res_prover.specs.Choosing.{IsUnified};
 
 use fol::{Formula, FormulaNode, Term, TermNode, Terms, TermsLink};
 
-// Whether different function symbols stand at one place of the terms.
+// Whether function symbols with different fingerprints stand at one place of the terms.
 #[cycle(clash)]
 fn clash(first: &Term, other: &Term) -> bool
     ensures { result ≡ do_clash first.now other.now }
@@ -16,7 +16,7 @@ fn clash(first: &Term, other: &Term) -> bool
     let TermNode::App(same, others) = other.node() else {
         return false;
     };
-    symbol != same || any_clash(terms, others)
+    symbol.fingerprint() != same.fingerprint() || any_clash(terms, others)
 }
 
 #[cycle(clash)]
@@ -32,9 +32,9 @@ fn any_clash(terms: &Terms, others: &Terms) -> bool
     clash(first, other) || any_clash(rest, further)
 }
 
-// Whether the atoms have different predicate symbols, or different function symbols at one place.
-fn atoms_clash(first: &Formula, other: &Formula) -> bool
-    ensures { result ≡ are_apart first.now other.now }
+// The same of atoms, whose predicate symbols may differ as well.
+fn symbols_clash(first: &Formula, other: &Formula) -> bool
+    ensures { result ≡ have_clash first.now other.now }
 {
     let FormulaNode::Atom(predicate, terms) = first.node() else {
         return false;
@@ -42,7 +42,17 @@ fn atoms_clash(first: &Formula, other: &Formula) -> bool
     let FormulaNode::Atom(same, others) = other.node() else {
         return false;
     };
-    predicate != same || any_clash(terms, others)
+    predicate.fingerprint() != same.fingerprint() || any_clash(terms, others)
+}
+
+// The same, where atoms without variables are looked at as wholes.
+fn atoms_clash(first: &Formula, other: &Formula) -> bool
+    ensures { result ≡ are_apart first.now other.now }
+{
+    if !first.has_free() && !other.has_free() {
+        return first.fingerprint() != other.fingerprint();
+    }
+    symbols_clash(first, other)
 }
 
 /// Whether the first atoms of the two lists show that no map makes all atoms one.

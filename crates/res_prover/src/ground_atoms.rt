@@ -16,7 +16,8 @@ pub(crate) struct GroundMarks {
     pub wholes: u64,
 }
 
-fn some_free(atoms: &[Formula]) -> bool
+/// Whether one of the atoms has a variable.
+pub(crate) fn some_free(atoms: &[Formula]) -> bool
     ensures { result ≡ list_any is_open atoms.now }
 {
     atoms.iter().any(|atom| atom.has_free())

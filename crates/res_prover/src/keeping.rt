@@ -9,6 +9,22 @@ use crate::kept::{Kept, copied};
 use crate::subsumption::{is_tautology, subsumes};
 use std::alloc::{AllocError, Global};
 
+/// Whether one of the clauses that are kept subsumes this one.
+pub(crate) fn is_subsumed(alloc: Global, kept: &[Kept], one: &Kept) -> Result<bool, AllocError>
+    ensures { IfOk result (λ subsumed. All IsClause (kept_clauses kept.now) → subsumed ≡ list_any (λ k. does_subsume k.clause one.now.clause) kept.now) }
+{
+    for place in 0..kept.len() {
+        let clause = &kept[place].clause;
+        if !clause.has_marks_within(&one.clause) {
+            continue;
+        }
+        if subsumes(alloc, clause, &one.clause)? {
+            return Ok(true);
+        }
+    }
+    Ok(false)
+}
+
 /// Whether the clause is a tautology, or one of those that are kept subsumes it.
 pub(crate) fn is_covered(alloc: Global, kept: &[Kept], one: &Kept) -> Result<bool, AllocError>
     ensures { IfOk result (λ covered. All IsClause (kept_clauses kept.now) → covered ≡ is_needless kept.now one.now.clause) }
@@ -16,12 +32,7 @@ pub(crate) fn is_covered(alloc: Global, kept: &[Kept], one: &Kept) -> Result<boo
     if is_tautology(one.clause.clause()) {
         return Ok(true);
     }
-    for place in 0..kept.len() {
-        if subsumes(alloc, &kept[place].clause, &one.clause)? {
-            return Ok(true);
-        }
-    }
-    Ok(false)
+    is_subsumed(alloc, kept, one)
 }
 
 // Adds the other clause, unless the first one subsumes it.
@@ -65,7 +76,11 @@ fn subsumes_some(alloc: Global, others: &[Kept], one: &Kept) -> Result<bool, All
     ensures { IfOk result (λ some. IsClause one.now.clause → some ≡ list_any (λ k. does_subsume one.now.clause k.clause) others.now) }
 {
     for place in 0..others.len() {
-        if subsumes(alloc, &one.clause, &others[place].clause)? {
+        let clause = &others[place].clause;
+        if !one.clause.has_marks_within(clause) {
+            continue;
+        }
+        if subsumes(alloc, &one.clause, clause)? {
             return Ok(true);
         }
     }

@@ -9,6 +9,7 @@ mod ground_atoms;
 mod imaging;
 mod keeping;
 mod kept;
+mod links;
 mod literals;
 mod marked;
 mod marks;

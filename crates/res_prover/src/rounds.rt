@@ -1,12 +1,14 @@
 //! Rounds of resolution.
-ghost use Rattle.std.specs.Prelude.{◌≡◌, true, false, Contains, IfOk, Err};
+ghost use Rattle.std.specs.Prelude.{◌≡◌, Bool, true, false, List, Contains, IfOk, Err};
 ghost use Rattle.std.specs.List.{All};
+ghost use Rattle.lk_rules.specs.declared.sequent.Sequent.{Sequent as Clause};
 ghost use Rattle.lk_rules.specs.Sequents.{empty};
 ghost use Rattle.clause_laws.specs.Subsumption.{IsClause};
 ghost use Rattle.clause_laws.specs.Rounds.{IsClosed, Level};
 ghost use Rattle.res_prover.specs.declared.rounds.ProveFault.TheVariants.{Rounds};
 ghost use Rattle.res_prover.specs.Kept.{kept_clauses};
 ghost use Rattle.res_prover.specs.Reached.{IsReady, IsRoundOf};
+ghost use Rattle.res_prover.specs.Working.{IsWork};
 ghost use Rattle.res_prover.specs.Outcomes.{IsOutcome};
 
 use crate::kept::{Kept, all_as_old, clauses_alone};
@@ -60,6 +62,26 @@ fn has_empty(alloc: Global, kept: &[Kept]) -> bool
     false
 }
 
+// A round that stops, with the resolvents of so many of the last clauses, if there are more: mostly one of them is not covered already.
+fn with_last(
+    alloc: Global,
+    kept: &[Kept],
+    count: usize,
+    work: Work,
+    notes: &mut Notes,
+) -> Result<Work, AllocError>
+    requires { All IsClause (kept_clauses kept.now) }
+    ensures { IfOk result (λ w. (ks : List Clause) (b : Bool) → ((c : Clause) → Contains (kept_clauses kept.now) c → Contains ks c) → IsWork ks b work → IsWork ks b w) }
+{
+    if !work.stops || work.is_over() || kept.len() <= count {
+        return Ok(work);
+    }
+    let last = &kept[kept.len() - count..];
+    let partners = prepare_all(alloc, last)?;
+    let added = add_all(alloc, partners.as_slice(), work, notes)?;
+    Ok(added)
+}
+
 // One round more. If it stops, it is over with the first resolvent that is not covered.
 fn round(alloc: Global, kept: &[Kept], stops: bool, notes: &mut Notes) -> Result<Work, AllocError>
     requires { IsReady kept.now }
@@ -71,6 +93,11 @@ fn round(alloc: Global, kept: &[Kept], stops: bool, notes: &mut Notes) -> Result
         stops,
         stage: Stage::Covered,
     };
+    let work = with_last(alloc, kept, 16, work, notes)?;
+    let work = with_last(alloc, kept, 128, work, notes)?;
+    if work.is_over() {
+        return Ok(work);
+    }
     let partners = prepare_all(alloc, kept)?;
     let added = add_all(alloc, partners.as_slice(), work, notes)?;
     Ok(added)

@@ -80,8 +80,20 @@ fn goes_further<'a>(
     Ok(sent)
 }
 
-/// Whether the first clause subsumes the second: a search for the map that sends each atom of the first to one of the second.
-#[inline(always)]
+// A search for the map that sends each atom of the first clause to one of the second.
+fn finds_map(alloc: Global, one: &MarkedClause, other: &MarkedClause) -> Result<bool, AllocError>
+    ensures { IfOk result (λ found. IsClause one.now → found ≡ does_subsume one.now other.now) }
+{
+    if !one.has_atoms_within(other) {
+        return Ok(false);
+    }
+    let all = ordered_literals(alloc, one, other)?;
+    let mut bindings = Vec::new(alloc);
+    let sent = sends_all(all.as_slice(), other, &mut bindings)?;
+    Ok(sent)
+}
+
+/// Whether the first clause subsumes the second. Mostly a mark or a link tells soon that it doesn't.
 pub(crate) fn subsumes(
     alloc: Global,
     one: &MarkedClause,
@@ -89,13 +101,10 @@ pub(crate) fn subsumes(
 ) -> Result<bool, AllocError>
     ensures { IfOk result (λ found. IsClause one.now → found ≡ does_subsume one.now other.now) }
 {
-    if !one.is_within(other) {
+    if !one.has_marks_within(other) {
         return Ok(false);
     }
-    let all = ordered_literals(alloc, one, other)?;
-    let mut bindings = Vec::new(alloc);
-    let sent = sends_all(all.as_slice(), other, &mut bindings)?;
-    Ok(sent)
+    finds_map(alloc, one, other)
 }
 
 // Whether the atom is one of these. Unequal atoms mostly have unlike fingerprints, so each costs a look.

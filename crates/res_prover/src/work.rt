@@ -3,10 +3,11 @@ ghost use Rattle.std.specs.Prelude.{◌≡◌, Bool, List, IfOk};
 ghost use Rattle.lk_rules.specs.declared.sequent.Sequent.{Sequent as Clause};
 ghost use Rattle.res_prover.specs.Working.{is_over as over, IsNext, IsStageAfter, IsWork, GoesOver};
 
-use crate::keeping::{is_covered, put_last};
+use crate::keeping::{is_subsumed, put_last};
 use crate::kept::{Kept, as_new};
 use crate::notes::{Notes, Source};
 use crate::resolving::Made;
+use crate::subsumption::is_tautology;
 use lk_rules::Sequent;
 use std::alloc::{AllocError, Global};
 
@@ -72,8 +73,11 @@ pub(crate) fn add(
         atom,
         numbering,
     } = made;
+    if is_tautology(&clause) {
+        return Ok(work);
+    }
     let one = as_new(alloc, clause, notes.all().len())?;
-    if is_covered(alloc, work.kept.as_slice(), &one)? {
+    if is_subsumed(alloc, work.kept.as_slice(), &one)? {
         return Ok(work);
     }
     let source = Source::Resolvent {

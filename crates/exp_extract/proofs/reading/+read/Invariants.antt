@@ -2,6 +2,7 @@
 use Rattle.std.proofs.Common.{◌+◌, ◌*◌}
 use Rattle.free_variables.specs.Grade.{grade_of}
 use Rattle.extraction_laws.specs.Addresses.{part, body_of, formula_at}
+use Rattle.extraction_laws.specs.States.{terms_at}
 use Rattle.exp_extract.specs.Marked.{address_at}
 use Rattle.exp_extract.specs.Reading.{instance_tree}
 use Rattle.exp_extract.proofs.ReadInstances.{AreRead}
@@ -25,5 +26,5 @@ decreases-read_strong l = 3 * grade_of (body_of (formula_at (address_at l.marks.
 abbrev pub decreases-read_witness : goal.decreases-read_witness
 decreases-read_witness l = 3 * grade_of (body_of (formula_at (address_at l.marks.now l.place))) + 1
 
-abbrev pub invariant-read_instances-loop-marking : goal.invariant-read_instances-loop-marking
-invariant-read_instances-loop-marking l = AreRead (instance_tree l.marks (address_at l.marks l.place)) l.markings l.marking-index l.instances.items
+abbrev pub invariant-read_instances-loop-term : goal.invariant-read_instances-loop-term
+invariant-read_instances-loop-term l = AreRead (instance_tree l.marks (address_at l.marks l.place)) (terms_at l.marks.state (address_at l.marks l.place)) l.term-iterator l.instances.items

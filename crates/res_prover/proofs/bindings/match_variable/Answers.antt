@@ -2,7 +2,6 @@
 use Rattle.std.proofs.Common.{◌≡◌, Some, None, sym, ap, ◌∙◌}
 use Rattle.std.specs.Ordering.{eq_by_cmp}
 use Rattle.std.specs.FinMap as fin
-use Rattle.fol.specs.Syntax.{Term}
 use Rattle.fol.specs.Order.{term_cmp}
 use Rattle.substitution.specs.Maps.{Map}
 use Rattle.unify_laws.specs.Matching.{with_variable}

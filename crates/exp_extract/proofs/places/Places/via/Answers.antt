@@ -1,16 +1,9 @@
--- By the entry of the number.
-use Rattle.std.proofs.Common.{length, sym, ap, subst, arith}
+-- What the map of the instances finds.
+use Rattle.std.proofs.Common.{sym, ◌∙◌, subst}
 use Rattle.extraction_laws.specs.Addresses.{via}
 use Rattle.exp_extract.specs.Marked.{address_in}
 use Rattle.exp_extract.specs.Entries.{FindsChild}
-use Rattle.exp_extract.proofs.MoreEntries.{length_of}
-use Rattle.exp_extract.proofs.Entered.{read_entry}
 use Rattle.exp_extract.proofs.places.Places.via.Goals as goal
 
-pub index-requires : goal.index-requires
-index-requires c = omega (arith, ap length c.self.view_is, length_of c.self.inside.entries.items, c.self.inside.entries.ok.0)
-
 pub returns : goal.returns
-returns c =
-    subst (FindsChild c.args.self.now (via (address_in c.args.self.now c.args.place) c.args.term.now)) (sym c.get.ensures)
-    ((read_entry c.self.inside.entries.items c.args.self.now c.args.place c.index.result.now c.self.view_is c.self.invariant c.requires c.index.ensures).vias c.args.term.now)
+returns c = subst (FindsChild c.args.self.now (via (address_in c.args.self.now c.args.place) c.args.term.now)) (sym (c.copied.ensures ∙ c.get.ensures.value)) (c.vias.ensures.places c.args.term.now)

@@ -1,17 +1,10 @@
--- The clause that lacks a mark isn't subsumed, nor is one of whose atoms none has those of an atom.
+-- A clause of which some atom has no place in the other one doesn't subsume it.
 use Rattle.std.proofs.Common.{sym, ap, ◌∙◌}
 use Rattle.std.proofs.lemmas.Bool.{both_ways}
 use Rattle.finite.specs.Finite as set
 use Rattle.res_prover.specs.Marks.{each_within_some}
 use Rattle.res_prover.proofs.MarkLaws.{each_left, each_right}
-use Rattle.res_prover.proofs.MarkedLaws.{shown, left_within, right_within}
-use Rattle.res_prover.proofs.marked.MarkedClause.is_within.Goals as goal
-
-pub returns-then-self-other : goal.returns-then-self-other
-returns-then-self-other c = λ _ h. c.if-self-other.true (left_within c.self.inside c.other.inside c.self.invariant c.other.invariant (shown c.self.inside c.other.inside c.args.self.now c.args.other.now c.self.view_is c.other.view_is h))
-
-pub returns-then-self-other-2 : goal.returns-then-self-other-2
-returns-then-self-other-2 c = λ _ h. c.if-self-other-2.true (right_within c.self.inside c.other.inside c.self.invariant c.other.invariant (shown c.self.inside c.other.inside c.args.self.now c.args.other.now c.self.view_is c.other.view_is h))
+use Rattle.res_prover.proofs.marked.MarkedClause.has_atoms_within.Goals as goal
 
 pub returns-then-not-are_within_some : goal.returns-then-not-are_within_some
 returns-then-not-are_within_some c = λ _ h.
