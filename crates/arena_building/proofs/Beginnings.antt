@@ -2,7 +2,7 @@
 use Rattle.std.proofs.Common.{◌≡◌, ℕ, suc, Bool, true, false, cond, List, [], ◌∷◌, Some, None, refl, sym, ap, subst, ◌∙◌}
 use Rattle.std.specs.Prelude.{not, if◌then◌else◌, option_map, is_some}
 use Rattle.std.specs.Option.{unwrap_or}
-use Rattle.std.specs.List.{list_any, position, slice_get}
+use Rattle.std.specs.List.{list_any, slice_get}
 use Rattle.fol.specs.Syntax.{Term}
 use Rattle.fol.specs.Facts.{is_term_open}
 use Rattle.finite.specs.Finite as set
@@ -96,10 +96,4 @@ pub closed_as_ready : (ws vs : VarSet) (l : List Placed) → begins_closed l ≡
 closed_as_ready ws vs l h = record {
   place = position_is (λ (p : Placed). is_some (ready_in ws p.tree)) l ∙ (same_place vs ws l h ∙ sym (position_is (λ (p : Placed). is_some (ready_in vs p.tree)) l));
   instance = λ n p e there. same_instance vs ws l n p h (sym (position_is (λ (q : Placed). is_some (ready_in ws q.tree)) l) ∙ e) there;
-}
-
-pub as_ready : (ws vs : VarSet) (l : List Placed) → ws ≡ vs → IsAsReady ws vs l
-as_ready ws vs l same = record {
-  place = ap (λ (us : VarSet). position (λ (p : Placed). is_some (ready_in us p.tree)) l) same;
-  instance = λ n p e there. ap (λ (us : VarSet). ready_in us p.tree) same;
 }

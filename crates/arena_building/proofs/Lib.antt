@@ -1,7 +1,6 @@
 pub mod Variables
 pub mod Places
 pub mod Chosen
-pub mod Built
 pub mod Counted
 pub mod Formed
 pub mod Puts
@@ -16,5 +15,5 @@ pub mod Closing
 pub mod AddedLeaves
 pub mod Takings
 pub mod Beginnings
-pub mod Weights
 pub mod Premises
+pub mod Answered

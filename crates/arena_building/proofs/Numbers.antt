@@ -1,5 +1,5 @@
 -- Trees by the numbers of their formulas.
-use Rattle.std.proofs.Common.{◌≡◌, ℕ, Bool, ◌||◌, List, [], ◌∷◌, ◌++◌, map, Some, refl, sym, ap, subst, ◌∙◌, arith, rules}
+use Rattle.std.proofs.Common.{◌≡◌, ℕ, ◌||◌, List, [], ◌∷◌, ◌++◌, map, Some, refl, sym, ap, subst, ◌∙◌, arith, rules}
 use Rattle.std.specs.Prelude.{nat_eq}
 use Rattle.std.specs.List.{All, list_any}
 use Rattle.std.specs.Ordering.{eq_by_cmp}
@@ -37,9 +37,6 @@ same_number a m n f g distinct h k =
     let there : HasFormula a m g = subst (λ (x : Formula). HasFormula a m x) (sym (equal g f e)) h in
     let same : m ≡ n = distinct m n (formula g) there k in
     grind (arith, nat_tests, same))
-
-on_as : (s r : Side) (b c : Bool) (f : Formula) (e : Exp) → b ≡ c → both_on s r b ≡ both_on s r c
-on_as s r b c f e h = ap (both_on s r) h
 
 by_sides : (s : Side) (p : Placed) (f : Formula) → both_on s p.side (eq_by_cmp formula_cmp f (shallow p.tree)) ≡ is_formula s f p
 by_sides Left p f = by_side p.side

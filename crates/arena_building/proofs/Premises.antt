@@ -1,11 +1,13 @@
 -- The list of a premise, and the proofs of premises.
-use Rattle.std.proofs.Common.{◌≡◌, ◌<◌, List, [], ◌∷◌, Some, sym, ap, subst, ◌∙◌, arith}
+use Rattle.std.proofs.Common.{◌≡◌, ℕ, List, [], ◌∷◌, Option, Some, None, sym, ap, subst, ◌∙◌}
 use Rattle.std.specs.List.{All}
-use Rattle.proof_trees.specs.Trees.{Tree, node, none, more, size}
+use Rattle.proof_trees.specs.Trees.{Tree, none, more}
 use Rattle.arena_cells.specs.Items.{Item}
 use Rattle.arena_cells.specs.Standing.{Extends}
+use Rattle.arena_cells.proofs.Staying.{tree_stays, tree_there}
 use Rattle.building_laws.specs.Lists.{Placed}
 use Rattle.building_laws.specs.Building.{build, with_first, build_each}
+use Rattle.arena_building.specs.Building.{two_of, IsAnswered, IsProofOf, AreProofsOf}
 use Rattle.arena_building.specs.Dividing.{items_of, IsAddedNumbered, ArePremisesNumbered}
 use Rattle.arena_building.specs.Numbered.{Numbered, trees, IsNumbered}
 use Rattle.arena_building.specs.Putting.{put}
@@ -18,10 +20,6 @@ use Rattle.arena_building.specs.declared.lists.Rest.{Rest}
 use Rattle.arena_building.proofs.AddedLeaves.{added_numbered}
 use Rattle.arena_building.proofs.Numbers.{numbered_stay}
 use Rattle.arena_building.proofs.Puts.{map_put, all_put}
-
--- a proof has an inference
-pub some_inference : (t : Tree) → 0 < size t
-some_inference (node r s ts) = omega arith
 
 -- the list of a premise
 module _ (r : Rest) (x : Added) (l : List Numbered) (same : l ≡ put r.list.items r.place (items_of x)) where
@@ -48,5 +46,16 @@ rest_stays a b r grown h = record {
 }
 
 -- the proofs of two premises
-pub two_built : (l m : List Placed) (t u : Tree) → build l ≡ Some t → build m ≡ Some u → build_each build (l ∷ m ∷ []) ≡ Some (more t (more u none))
+two_built : (l m : List Placed) (t u : Tree) → build l ≡ Some t → build m ≡ Some u → build_each build (l ∷ m ∷ []) ≡ Some (more t (more u none))
 two_built l m t u e h = λ i. with_first (e i) (with_first (h i) (Some none))
+
+pub two_answered : {A : Type 0} (a b : List Item) (l m : List Placed) (o : Option A) (p q : Option ℕ) → Extends a b → IsAnswered (λ _. IsProofOf a l) o p → IsAnswered (λ _. IsProofOf b m) o q → IsAnswered (λ _. AreProofsOf b (l ∷ m ∷ [])) o (two_of p q)
+two_answered a b l m None None None grown h k = tt
+two_answered a b l m None None (Some y) grown h k = absurd k
+two_answered a b l m None (Some x) q grown h k = absurd h
+two_answered a b l m (Some s) None q grown h k = absurd h
+two_answered a b l m (Some s) (Some x) None grown h k = absurd k
+two_answered a b l m (Some s) (Some x) (Some y) grown h k = record {
+  built = two_built l m _ _ (h.built ∙ ap Some (sym (tree_stays a b grown x h.there))) k.built;
+  there = (tree_there a b grown x h.there, k.there);
+}

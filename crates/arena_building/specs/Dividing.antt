@@ -23,10 +23,6 @@ items_of (added.One p) = p ∷ []
 items_of (added.Two p q) = p ∷ q ∷ []
 
 -- the new trees of each premise
-abbrev pub items_each : Premises → List (List Numbered)
-items_each (One a) = items_of a ∷ []
-items_each (Two a b) = items_of a ∷ items_of b ∷ []
-
 abbrev pub parts_each : Premises → List (List Placed)
 parts_each (One a) = trees (items_of a) ∷ []
 parts_each (Two a b) = trees (items_of a) ∷ trees (items_of b) ∷ []

@@ -8,5 +8,6 @@ pub mod Putting
 pub mod Dividing
 pub mod Instances
 pub mod Taking
-pub mod Begun
+pub mod Kept
 pub mod Building
+pub mod Begun

@@ -3,7 +3,6 @@
 
 mod added;
 mod building;
-mod counting;
 mod dividing;
 mod instances;
 mod leaves;

@@ -9,6 +9,7 @@ ghost use Rattle.arena_building.specs.Choosing.{begins_closed as is_begun_closed
 ghost use Rattle.arena_building.specs.Dividing.{items_of};
 ghost use Rattle.arena_building.specs.Numbered.{trees as placed_in, IsNumbered};
 ghost use Rattle.arena_building.specs.Putting.{put};
+ghost use Rattle.arena_building.specs.Kept.{kept_of};
 
 use crate::dividing::Added;
 use crate::placed::{PlacedExp, place_tree};
@@ -23,6 +24,13 @@ use std::alloc::{AllocError, Global};
 pub(crate) struct Rest<'e> {
     pub list: Vec<PlacedExp<'e>>,
     pub place: usize,
+}
+
+/// What stays of a list, for the list of a premise: it is moved into that, or copied.
+#[derive(Drop)]
+pub(crate) enum Kept<'a, 'e> {
+    Moved(Rest<'e>),
+    Copied(&'a Rest<'e>),
 }
 
 /// The same list, with room for two more trees.
@@ -66,6 +74,29 @@ impl<'e> Rest<'e> {
             }
         }
         Ok(list)
+    }
+}
+
+impl<'e> Kept<'_, 'e> {
+    /// What stays.
+    pub fn rest(&self) -> &Rest<'e>
+        ensures { result.now ≡ kept_of self.now }
+    {
+        match self {
+            Kept::Moved(rest) => rest,
+            Kept::Copied(rest) => rest,
+        }
+    }
+
+    /// The list with trees that are added at the place.
+    pub fn with(self, alloc: Global, added: Added<'e>) -> Result<Vec<PlacedExp<'e>>, AllocError>
+        requires { (kept_of self).place ≤ length (kept_of self).list.items }
+        ensures { IfOk result (λ list. list.items ≡ put (kept_of self.entry).list.items (kept_of self.entry).place (items_of added.entry)) }
+    {
+        match self {
+            Kept::Moved(rest) => rest.with(added),
+            Kept::Copied(rest) => rest.copy(alloc)?.with(added),
+        }
     }
 }
 

@@ -6,6 +6,7 @@ ghost use Rattle.lk_rules.specs.Sequents.{adds_to};
 ghost use Rattle.expansion_laws.specs.Expansions.{shallow};
 ghost use Rattle.arena_cells.specs.Standing.{Extends, HasSide, HasSequent, formula_at, sequent_at, IsFormulaAt, IsSequentAt};
 ghost use Rattle.building_laws.specs.Lists.{conclusion as sequent_of, trees_on};
+ghost use Rattle.arena_building.specs.Building.{IsAnswered};
 ghost use Rattle.arena_building.specs.Dividing.{items_of, IsAddedNumbered};
 ghost use Rattle.arena_building.specs.Numbered.{trees, IsNumbered};
 ghost use Rattle.arena_building.specs.Sides.{sides_at, AreSidesAt, HasSides, with_main, added_to, is_on as is_numbered_on, number_on};
@@ -116,25 +117,28 @@ fn without_tree(
     }
 }
 
-/// The sides of what stays of a list, by the sequent of the list and what was taken out of it.
+/// The sides of what stays of a list, by the sequent of the list, where that is there, and what was taken out of it.
 pub(crate) fn rest_sides(
     arena: &mut Arena,
     alloc: Global,
-    end: u32,
+    end: Option<u32>,
     main: Option<Main>,
     list: &[PlacedExp<'_>],
-) -> Result<Sides, AllocError>
+) -> Result<Option<Sides>, AllocError>
     requires numbers { All (IsNumbered arena.old) list.now }
     requires main { IfSome main (λ m. IsFormulaAt arena.old m.formula) }
-    requires end { HasSequent arena.old end (with_main arena.old main (sequent_of (trees list.now))) }
-    ensures sides { IfOk result (λ s. HasSides arena.new s (sequent_of (trees list.now))) }
+    requires end { IfSome end (λ n. HasSequent arena.old n (with_main arena.old main (sequent_of (trees list.now)))) }
+    ensures sides { IfOk result (IsAnswered (λ _ s. HasSides arena.new s (sequent_of (trees list.now))) end) }
     ensures grown { Extends arena.old arena.new }
 {
+    let Some(end) = end else {
+        return Ok(None);
+    };
     let sides = sides_of(arena, end);
-    match main {
-        Some(Main { side, formula }) => without_tree(arena, alloc, sides, list, side, formula),
-        None => Ok(sides),
-    }
+    let Some(Main { side, formula }) = main else {
+        return Ok(Some(sides));
+    };
+    Ok(Some(without_tree(arena, alloc, sides, list, side, formula)?))
 }
 
 /// The sides with the formulas of trees that are added.

@@ -1,27 +1,34 @@
 //! The proof of an expansion proof, in an arena.
-ghost use Rattle.std.specs.Prelude.{◌≡◌, Ok, Err, IfOk};
-ghost use Rattle.proof_trees.specs.Trees.{concl, IsValid, IsCutFree};
-ghost use Rattle.proof_trees.specs.Conclusions.{IsFormedSequent, HasFormedEnd};
-ghost use Rattle.expansion_laws.specs.Proofs.{shallow_sequent, IsExpansionProof};
+ghost use Rattle.std.specs.Prelude.{◌≡◌, Some, Ok, Err, IfOk};
+ghost use Rattle.proof_trees.specs.Trees.{Tree as Proof, concl, IsValid, IsCutFree};
+ghost use Rattle.proof_trees.specs.Conclusions.{HasFormedEnd};
+ghost use Rattle.expansion_laws.specs.Proofs.{shallow_sequent};
 ghost use Rattle.exp_tree.specs.Reads.{expansion_of};
 ghost use Rattle.arena_cells.specs.Standing.{tree_at, IsTreeAt};
-ghost use Rattle.building_laws.specs.Buildable.{IsFormedExpansion};
+ghost use Rattle.building_laws.specs.Lists.{start as start_list};
+ghost use Rattle.building_laws.specs.Building.{build};
+ghost use Rattle.building_laws.specs.Buildable.{IsFormedExpansion, IsBuildable};
 ghost use Rattle.building_laws.specs.Budgets.{building};
 
 use crate::building::build_list;
-use crate::counting::count_list;
-use crate::lists::start;
+use crate::lists::{copy_list, start};
+use crate::sides::conclusion;
 use arena::Arena;
 use building_laws::{BuildFault, laws};
 use exp_tree::CheckedExp;
 use std::alloc::Global;
 
-// What is known of an expansion proof.
+// What is known of an expansion proof, and of the proof that is built for its list.
 fn known(exps: &CheckedExp)
-    ensures proof { IsExpansionProof (expansion_of exps.now) (shallow_sequent (expansion_of exps.now)) }
     ensures formed { IsFormedExpansion (expansion_of exps.now) (shallow_sequent (expansion_of exps.now)) }
-    ensures sequent { IsFormedSequent (shallow_sequent (expansion_of exps.now)) }
+    ensures buildable { IsBuildable (start_list (expansion_of exps.now)) }
+    ensures valid { (t : Proof) → build (start_list (expansion_of exps.now)) ≡ Some t → IsValid t }
+    ensures cut_free { (t : Proof) → build (start_list (expansion_of exps.now)) ≡ Some t → IsCutFree t }
+    ensures end { (t : Proof) → build (start_list (expansion_of exps.now)) ≡ Some t → concl t ≡ shallow_sequent (expansion_of exps.now) }
+    ensures formed_end { (t : Proof) → build (start_list (expansion_of exps.now)) ≡ Some t → HasFormedEnd t }
 {
+    laws::proofs();
+    laws::lists();
     let trees = exps.tree();
     let _left = trees.left.as_slice();
     let _right = trees.right.as_slice();
@@ -44,12 +51,15 @@ pub fn build_in(
     ensures end { IfOk result (λ n. concl (tree_at arena.new n) ≡ shallow_sequent (expansion_of exps.now)) }
     ensures formed { IfOk result (λ n. HasFormedEnd (tree_at arena.new n)) }
 {
-    laws::proofs();
-    laws::lists();
     known(exps);
     let list = start(arena, alloc, exps.tree())?;
     // Nothing is built for a proof that has more inferences than the budget allows.
     let mut left = budget;
-    count_list(arena, alloc, &list, &mut left)?;
-    Ok(build_list(arena, alloc, list)?)
+    build_list(arena, alloc, copy_list(alloc, &list)?, None, &mut left)?;
+    let end = conclusion(arena, alloc, &list)?;
+    let mut left = budget;
+    let Some(proof) = build_list(arena, alloc, list, Some(end), &mut left)? else {
+        unreachable!()
+    };
+    Ok(proof)
 }
