@@ -1,22 +1,39 @@
 -- What the values that jobs hold, and the answers to jobs, stand for, over the graph that the proofs share.
+--     proof_of      the proof that a refutation stands for
 --     sense      what a value means, and nothing for a name that no job has
+--     Stands      a refutation stands for a valid proof
 --     Fits      the value may be given to an operation over this graph
 --     IsAnswered, IsAnsweredTo      an outcome and what a value means are what is answered, and what may be answered to what is asked for
-use Rattle.std.specs.Prelude.{◌≡◌, ◌⊎◌, Option, Some, None}
+use Rattle.std.specs.Prelude.{◌≡◌, ◌⊎◌, ℕ, Option, Some, None, Result, Ok, Err}
 use Rattle.fol.specs.Formed.{IsFormedPred}
+use Rattle.lk_rules.specs.declared.rule.Rule.TheVariants.{BotL}
+use Rattle.lk_rules.specs.Sequents.{empty}
+use Rattle.proof_trees.specs.Trees.{Tree, node, none, IsValid}
+use Rattle.refutations.specs.declared.step.ResCause.{ResCause}
+use Rattle.refutations.specs.Refutations.{refutation, AreFormedSteps}
 use Rattle.proof_graph.specs.declared.graph.Graph.{Graph}
 use Rattle.proof_graph.specs.Graphs.{IsOf}
 use Rattle.exp_tree.specs.Reads.{expansion_of}
-use Rattle.tptp_problem.specs.ProblemClauses.{IsReadProblem}
+use Rattle.tptp_problem.specs.ProblemClauses.{clauses_of, IsReadProblem}
 use Rattle.reply_lines.specs.declared.replies.Outcome.{Outcome}
 use Rattle.reply_lines.specs.declared.replies.Outcome.TheVariants.{Memory}
 use Rattle.operation_laws.specs.declared.refusals.Refusal.{Refusal}
 use Rattle.operation_laws.specs.declared.refusals.Refusal.TheVariants.{UnknownName, Kind, Empty, Step}
+use Rattle.held_values.specs.declared.refutation.Refutation.{Refutation}
 use Rattle.held_values.specs.declared.held.Held.{Held}
 use Rattle.held_values.specs.declared.held.Held.TheVariants as held
 use Rattle.operation_laws.specs.Values.{Value, nothing, refused, lacking, proof, pair, problem, expansion, definition}
 use Rattle.operation_laws.specs.Answers.{Answer, shown_refusal, shown_failure, shown_product, held_product, Asked, one, elimination, satisfiability, saturation, May}
 use Rattle.operation_laws.specs.Answers as answers
+
+-- the tree that was made, and any other where a step was faulty
+abbrev pub tree_of : Result Tree (ℕ × ResCause) → Tree
+tree_of (Ok t) = t
+tree_of (Err fault) = node BotL empty none
+
+-- the proof that the steps stand for
+abbrev pub proof_of : Refutation → Tree
+proof_of r = tree_of (refutation (clauses_of r.problem.entries) r.steps)
 
 abbrev pub sense : Held → Option Value
 sense held.Nothing = Some nothing
@@ -24,18 +41,27 @@ sense held.Refused = Some refused
 sense held.Unheld = Some lacking
 sense held.Unknown = None
 sense (held.Proof r) = Some (proof r.tree)
+sense (held.Refutation r) = Some (proof (proof_of r))
 sense (held.Pair r s) = Some (pair r.tree s.tree)
 sense (held.Problem p) = Some (problem p)
 sense (held.Expansion e) = Some (expansion (expansion_of e))
 sense (held.Definition p) = Some (definition p)
 
--- references are of the graph, a problem is such as is read, and a symbol is well formed
+-- the problem is such as is read, and no step is faulty
+pub record Stands (r : Refutation) : Type 0 where
+  pub read : IsReadProblem r.problem
+  pub formed : AreFormedSteps r.steps
+  pub refutes : refutation (clauses_of r.problem.entries) r.steps ≡ Ok (proof_of r)
+  pub valid : IsValid (proof_of r)
+
+-- references are of the graph, a refutation stands for its proof, a problem is such as is read, and a symbol is well formed
 abbrev pub Fits : Graph → Held → Type 0
 Fits g held.Nothing = Unit {0}
 Fits g held.Refused = Unit {0}
 Fits g held.Unheld = Unit {0}
 Fits g held.Unknown = Unit {0}
 Fits g (held.Proof r) = IsOf g r
+Fits g (held.Refutation r) = Stands r
 Fits g (held.Pair r s) = IsOf g r × IsOf g s
 Fits g (held.Problem p) = IsReadProblem p
 Fits g (held.Expansion e) = Unit {0}

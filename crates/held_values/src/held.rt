@@ -4,6 +4,7 @@ ghost use Rattle.proof_graph.specs.declared.graph.Graph.{Graph};
 ghost use Rattle.operation_laws.specs.Values.{IsSound};
 ghost use Rattle.held_values.specs.Means.{sense, Fits};
 
+use crate::refutation::Refutation;
 use exp_tree::CheckedExp;
 use fol::Predicate;
 use proof_graph::ProofRef;
@@ -22,6 +23,8 @@ pub enum Held {
     Unknown,
     /// A proof, by its reference in the graph that the session's proofs share.
     Proof(ProofRef),
+    /// A proof that isn't made yet, by the refutation that it stands for.
+    Refutation(Refutation),
     /// The two proofs of an interpolant, by their references in that graph: that of the first part, and that of the second.
     Pair(ProofRef, ProofRef),
     /// A problem.
@@ -36,6 +39,7 @@ impl Drop for Held {
     fn drop(self) {
         match self {
             Held::Proof(proof) => drop(proof),
+            Held::Refutation(refutation) => drop(refutation),
             Held::Pair(first, second) => {
                 drop(first);
                 drop(second);
@@ -59,6 +63,7 @@ impl Held {
             Held::Unheld => Ok(Held::Unheld),
             Held::Unknown => Ok(Held::Unknown),
             Held::Proof(proof) => Ok(Held::Proof(proof.keep()?)),
+            Held::Refutation(refutation) => Ok(Held::Refutation(refutation.copy()?)),
             Held::Pair(first, second) => Ok(Held::Pair(first.keep()?, second.keep()?)),
             Held::Problem(problem) => Ok(Held::Problem(problem.copy()?)),
             Held::Expansion(trees) => Ok(Held::Expansion(trees.copy(alloc)?)),
@@ -85,6 +90,7 @@ impl Held {
             | Held::Refused
             | Held::Unheld
             | Held::Unknown
+            | Held::Refutation(_)
             | Held::Problem(_)
             | Held::Definition(_) => {}
         }

@@ -3,6 +3,8 @@
 
 mod held;
 mod names;
+mod refutation;
 
 pub use held::Held;
 pub use names::{base_name, first_name, name_at, pair_name, second_name};
+pub use refutation::Refutation;

@@ -20,6 +20,7 @@ refused_is held.Refused is = refl
 refused_is held.Unheld is = cc
 refused_is held.Unknown is = cc
 refused_is (held.Proof r) is = cc
+refused_is (held.Refutation r) is = cc
 refused_is (held.Pair r s) is = cc
 refused_is (held.Problem p) is = cc
 refused_is (held.Expansion e) is = cc

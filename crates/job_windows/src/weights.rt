@@ -13,6 +13,7 @@ pub const WORK_OF_A_WORKER: u64 = 1_024;
 fn size_of(held: &Held) -> u64 {
     match held {
         Held::Proof(proof) => proof.counts().nodes,
+        Held::Refutation(refutation) => refutation.steps.as_slice().len() as u64,
         Held::Pair(first, second) => first.counts().nodes.saturating_add(second.counts().nodes),
         Held::Problem(_) | Held::Expansion(_) => WORK_OF_A_WORKER,
         Held::Definition(_) | Held::Nothing | Held::Refused | Held::Unheld | Held::Unknown => 0,

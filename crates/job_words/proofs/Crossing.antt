@@ -35,10 +35,10 @@ res_step_sync : IsSync (res_step.the_field).row
 res_step_sync = search (sendable, std.crosses, rules.crosses, subst_sync) depth 20
 
 pub refutation_send : IsSend refutation.the_row
-refutation_send = search (sendable, std.crosses, res_step_send) depth 20
+refutation_send = search (sendable, std.crosses, res_step_send, res_step_sync) depth 20
 
 pub refutation_sync : IsSync refutation.the_row
-refutation_sync = search (sendable, std.crosses, res_step_sync) depth 20
+refutation_sync = search (sendable, std.crosses, res_step_send, res_step_sync) depth 20
 
 pub clauses_send : IsSend clauses.the_row
 clauses_send = search (sendable, std.crosses, rules.crosses) depth 20

@@ -1,12 +1,14 @@
 //! The steps of a proof and of a refutation.
-ghost use Rattle.std.specs.Prelude.{◌≡◌};
+ghost use Rattle.std.specs.Prelude.{◌≡◌, IfOk};
 ghost use Rattle.std.specs.List.{All};
 ghost use Rattle.lk_rules.specs.Rules.{IsFormedRule};
 ghost use Rattle.job_words.specs.Refutations.{HaveFormedParts};
 
 use lk_rules::Step;
 use refutations::ResStep;
+use std::alloc::{AllocError, Global};
 use std::marker::Model;
+use std::sync::Arc;
 
 /// The steps of a proof, each of which names a rule with well-formed parts.
 #[derive(Drop)]
@@ -60,10 +62,10 @@ impl Steps {
 }
 
 /// The steps of a refutation, each of which names a well-formed atom or a map of well-formed variables to well-formed terms, where it
-/// names one.
+/// names one. They cannot be changed, and are shared by their copies.
 #[derive(Drop)]
 pub struct RefutationSteps {
-    items: Vec<ResStep>,
+    items: Arc<Vec<ResStep>>,
 }
 
 impl Model for RefutationSteps {
@@ -78,18 +80,19 @@ impl Model for RefutationSteps {
 
     ghost coded = { Prim.hlevel (codes, step.the_row.coded) };
 
-    ghost view = { λ s. s.items.items };
+    ghost view = { λ s. s.items.value.items };
 
-    ghost invariant = { λ s. HaveFormedParts s.items.items };
+    ghost invariant = { λ s. HaveFormedParts s.items.value.items };
 }
 
 impl RefutationSteps {
-    /// The list of these steps, whose parts have to be well formed.
-    pub fn from_vec(items: Vec<ResStep>) -> RefutationSteps
+    /// The list of these steps, which are moved and not copied, and whose parts have to be well formed.
+    pub fn from_vec(alloc: Global, items: Vec<ResStep>) -> Result<RefutationSteps, AllocError>
         requires { HaveFormedParts items.items }
-        ensures { result ≡ items.items }
+        ensures { IfOk result (λ steps. steps ≡ items.items) }
     {
-        RefutationSteps { items }
+        let items = Arc::new(alloc, items)?;
+        Ok(RefutationSteps { items })
     }
 
     /// The steps, in order.
@@ -98,5 +101,13 @@ impl RefutationSteps {
         ensures formed { HaveFormedParts result.now }
     {
         self.items.as_slice()
+    }
+
+    /// The same steps, which are shared.
+    pub fn copy(&self) -> Result<RefutationSteps, AllocError>
+        ensures { IfOk result (λ copy. copy ≡ self.now) }
+    {
+        let items = Arc::try_clone(&self.items)?;
+        Ok(RefutationSteps { items })
     }
 }

@@ -46,6 +46,7 @@ behind_fault wants ds absent.Unnamed (missing r) rest shows other = shows
 behind_fault wants ds absent.Unnamed wanting rest shows other = absurd shows
 behind_fault wants ds absent.Unnamed (found d) rest shows other = absurd shows
 behind_fault wants ds absent.Wanting f rest is other = absurd (other refl)
+behind_fault wants ds absent.Unmade f rest is other = elim is [ ]
 
 -- after some names, of those of a list
 pub record AreGivenTo (texts : List (List ℕ)) (hs : List Held) (i : ℕ) (wants : Bool) (ds : List Pred) : Type 0 where

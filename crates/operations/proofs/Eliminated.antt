@@ -15,7 +15,7 @@ use Rattle.operation_laws.specs.declared.refusals.Failure.TheVariants.{Budget}
 use Rattle.operations.specs.declared.answers.Ran.{Ran}
 use Rattle.operations.specs.declared.answers.Ran.TheVariants as ran
 use Rattle.operations.specs.declared.answers.Made.TheVariants as made
-use Rattle.operation_laws.specs.Answers.{reduced, refused, lacking, product, Asked, elimination as reached_from, IsReached}
+use Rattle.operation_laws.specs.Answers.{reduced, lacking, product, Asked, elimination as reached_from, IsReached}
 use Rattle.operation_laws.specs.Given.{Found, found}
 use Rattle.operation_laws.specs.Running.{eliminates, to_eliminate}
 use Rattle.operations.specs.Means.{Comes, ComesTo}

@@ -1,5 +1,6 @@
 pub mod Asked
 pub mod Givings
+pub mod Lacking
 pub mod DefinitionsGiven
 pub mod DefinitionsUsed
 pub mod Unfolded

@@ -1,16 +1,11 @@
 -- What shows that an elimination of cuts is noted.
-use Rattle.std.proofs.Common.{◌≡◌, true, List}
+use Rattle.std.proofs.Common.{◌≡◌, List}
 use Rattle.cut_elim.specs.declared.desk.DeskPass.{DeskPass}
 use Rattle.job_lang.specs.declared.jobs.Op.{Op}
 use Rattle.job_lang.specs.declared.jobs.Op.TheVariants as ops
-use Rattle.operation_laws.specs.declared.refusals.Refusal.{Refusal}
-use Rattle.operation_laws.specs.declared.refusals.Refusal.TheVariants as refusals
-use Rattle.operation_laws.specs.declared.refusals.Failure.{Failure}
-use Rattle.operation_laws.specs.declared.refusals.Failure.TheVariants as failures
-use Rattle.operation_laws.specs.Answers.{shown_refusal, shown_failure}
 use Rattle.held_values.specs.declared.held.Held.{Held}
 use Rattle.operations.specs.Means.{a_graph, a_bench, needs}
-use Rattle.operations.specs.Noted.{IsNoted, is_reduced}
+use Rattle.operations.specs.Noted.{IsNoted}
 
 -- an operation that is run without a desk has nothing to note
 pub noted_in_graph : (op : Op) (given : List Held) (p : DeskPass) → needs op ≡ a_graph → IsNoted op given p
@@ -24,8 +19,8 @@ noted_in_graph (ops.Cutelim of n) given p e = cc
 noted_in_graph (ops.Eliminate of) given p e = cc
 noted_in_graph (ops.Define symbol vars body using) given p e = tt
 noted_in_graph (ops.Unfold of) given p e = cc
-noted_in_graph (ops.Sat of) given p e = cc
-noted_in_graph (ops.Prove of n) given p e = cc
+noted_in_graph (ops.Sat of) given p e = tt
+noted_in_graph (ops.Prove of n) given p e = tt
 noted_in_graph (ops.Resolution of steps) given p e = cc
 noted_in_graph (ops.Tautology s n) given p e = cc
 noted_in_graph (ops.Expansion flat n) given p e = tt
@@ -46,8 +41,8 @@ noted_at_bench (ops.Cutelim of n) given p e = cc
 noted_at_bench (ops.Eliminate of) given p e = cc
 noted_at_bench (ops.Define symbol vars body using) given p e = cc
 noted_at_bench (ops.Unfold of) given p e = tt
-noted_at_bench (ops.Sat of) given p e = tt
-noted_at_bench (ops.Prove of n) given p e = tt
+noted_at_bench (ops.Sat of) given p e = cc
+noted_at_bench (ops.Prove of n) given p e = cc
 noted_at_bench (ops.Resolution of steps) given p e = tt
 noted_at_bench (ops.Tautology s n) given p e = tt
 noted_at_bench (ops.Expansion flat n) given p e = cc

@@ -9,11 +9,10 @@ use Rattle.refutations.specs.declared.step.ResCause.{ResCause}
 use Rattle.refutations.specs.Refutations.{refutation}
 use Rattle.tptp_problem.specs.declared.problems.Problem.{Problem}
 use Rattle.tptp_problem.specs.ProblemClauses.{clauses_of}
-use Rattle.operation_laws.specs.declared.refusals.Refusal.{Refusal}
 use Rattle.operation_laws.specs.declared.refusals.Failure.TheVariants.{Refutation}
 use Rattle.operations.specs.declared.answers.Ran.{Ran}
 use Rattle.operations.specs.declared.answers.Ran.TheVariants as ran
-use Rattle.operation_laws.specs.Answers.{Answer, proof, refused, lacking, product}
+use Rattle.operation_laws.specs.Answers.{Answer, proof, lacking, product}
 use Rattle.operation_laws.specs.Running.{has_closure, refutation_shown, refuted, refutes_clauses, refutes}
 use Rattle.operations.specs.Means.{Comes}
 

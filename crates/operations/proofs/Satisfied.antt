@@ -1,6 +1,6 @@
 -- What the search for a model or a refutation of ground clauses answers decides what the operation comes to.
 use Rattle.std.proofs.Common.{◌≡◌, ℕ, suc, ◌+◌, Bool, true, false, cond, not as negated, ◌||◌, List, [], ◌∷◌, length, map, refl, sym, ap, ◌∙◌, subst, inl, inr, arith}
-use Rattle.std.specs.Prelude.{Option, Some, None, option_map, position, Ok, Err, nat_lt}
+use Rattle.std.specs.Prelude.{Option, Some, None, option_map, position, Result, Ok, Err, nat_lt}
 use Rattle.std.specs.List.{All, list_all, list_any, position_or_len}
 use Rattle.std.specs.Ordering.{eq_by_cmp}
 use Rattle.std.proofs.lemmas.Bool.{both_ways, not-true, and_parts, or_parts, cases_lt, cond_below, cond_above}
@@ -17,11 +17,11 @@ use Rattle.lk_rules.specs.Formulas.{FormulaSet}
 use Rattle.proof_trees.proofs.Booleans.{or_first, or_second, either}
 use Rattle.proof_trees.specs.FormulaSets.{is_atom}
 use Rattle.proof_trees.proofs.FormulaSets.{tied}
+use Rattle.proof_trees.specs.Trees.{Tree, IsValid}
 use Rattle.proof_graph.specs.declared.graph.Graph.{Graph}
-use Rattle.proof_graph.specs.Graphs.{IsOf}
-use Rattle.proof_graph.specs.References.{Reference}
 use Rattle.refutations.specs.declared.clause.Clause.{Clause}
 use Rattle.refutations.specs.declared.step.ResStep.{ResStep}
+use Rattle.refutations.specs.declared.step.ResCause.{ResCause}
 use Rattle.refutations.specs.Clauses.{literals_of, IsClauseOf}
 use Rattle.refutations.specs.Refutations.{refutation as refutation_of, IsFormedStep, AreFormedSteps}
 use Rattle.ground_laws.specs.declared.step.SatStep.{SatStep}
@@ -30,11 +30,16 @@ use Rattle.ground_laws.specs.Models.{occurs, IsModel}
 use Rattle.ground_laws.specs.Steps.{IsRefutation, res_step, sequents_of, names}
 use Rattle.ground_laws.proofs.Literals.{each_literal}
 use Rattle.ground_laws.proofs.Reached.{own_atoms}
+use Rattle.ground_laws.proofs.Ties.{proof_of as ground_proof}
 use Rattle.sat_search.specs.declared.ground.Ground.{Ground}
 use Rattle.sat_search.specs.Grounds.{clauses_of as sequents_of_grounds}
 use Rattle.job_words.specs.Refutations.{HasFormedParts, HaveFormedParts}
 use Rattle.reply_lines.specs.Shown.{IsShownFormula, IsShownStep}
+use Rattle.tptp_problem.specs.ProblemClauses.{clauses_of, IsReadProblem}
+use Rattle.held_values.specs.declared.refutation.Refutation.{Refutation}
+use Rattle.held_values.specs.Means.{tree_of, proof_of, Stands}
 use Rattle.operation_laws.specs.declared.refusals.Failure.TheVariants.{NotGround}
+use Rattle.operation_laws.proofs.Making.{closures_formed}
 use Rattle.operation_laws.specs.Answers.{lacking, product, model, refutation, one, satisfiability, IsModelOf, IsRefutationOf}
 use Rattle.operation_laws.specs.Running.{has_closure, first_open, solves_ground}
 use Rattle.operations.specs.declared.answers.Ran.{Ran}
@@ -169,19 +174,35 @@ have_formed_parts steps shown = All-map HasFormedParts res_step steps (All-weake
 pub are_formed_steps : (steps : List SatStep) → All (λ step. IsShownStep (res_step step)) steps → AreFormedSteps (map res_step steps)
 are_formed_steps steps shown = All-map IsFormedStep res_step steps (All-weaker (λ step. IsShownStep (res_step step)) (λ step. IsFormedStep (res_step step)) step_formed steps shown)
 
--- a refutation
-pub refutation_comes : (g : Graph) (cs : List Clause) (steps : List SatStep) (list : List ResStep) (r : Reference) → IsRefutation (sequents_of cs) steps
-    → list ≡ map res_step steps → All (λ step. IsShownStep (res_step step)) steps → refutation_of cs list ≡ Ok r.tree → IsOf g r → ComesTo g (ran.Done (made.Refutation list r)) (satisfiability cs)
-refutation_comes g cs steps list r refutes same shown stands of =
-    let met : IsRefutationOf cs (product (refutation list r.tree)) = record {
+-- a refutation, which stands for its proof
+
+pub is_ok : (r : Result Tree (ℕ × ResCause)) (t : Tree) → r ≡ Ok t → (r ≡ Ok (tree_of r)) × (tree_of r ≡ t)
+is_ok (Ok u) t is = (refl, cc)
+is_ok (Err fault) t is = cc
+
+pub refutation_comes : (g : Graph) (cs : List Clause) (steps : List SatStep) (r : Refutation) → All IsClauseOf cs → list_all has_closure cs ≡ true
+    → IsRefutation (sequents_of cs) steps → IsReadProblem r.problem → cs ≡ clauses_of r.problem.entries → r.steps ≡ map res_step steps
+    → All (λ step. IsShownStep (res_step step)) steps → ComesTo g (ran.Done (made.Refutation r)) (satisfiability cs)
+refutation_comes g cs steps r known closed refutes read same list shown =
+    let by = ground_proof cs steps known (closures_formed cs known closed) refutes in
+    let here : refutation_of (clauses_of r.problem.entries) r.steps ≡ Ok by.0 =
+    ap (λ (ds : List Clause). refutation_of ds r.steps) (sym same) ∙ (ap (λ (l : List ResStep). refutation_of cs l) list ∙ by.1) in
+    let ok = is_ok (refutation_of (clauses_of r.problem.entries) r.steps) by.0 here in
+    let stands : Stands r = record {
+      read = read;
+      formed = subst (λ (l : List ResStep). AreFormedSteps l) (sym list) (are_formed_steps steps shown);
+      refutes = ok.0;
+      valid = subst IsValid (sym ok.1) by.2;
+    } in
+    let met : IsRefutationOf cs (product (refutation r.steps (proof_of r))) = record {
       steps = steps;
       refutes = refutes;
-      tree = r.tree;
-      stands = subst (λ (l : List ResStep). refutation_of cs l ≡ Ok r.tree) same stands;
+      tree = proof_of r;
+      stands = by.1 ∙ ap (λ (t : Tree). Ok t) (sym ok.1);
       shown = All-map IsShownStep res_step steps shown;
-      is = ap (λ (l : List ResStep). product (refutation l r.tree)) same;
+      is = ap (λ (l : List ResStep). product (refutation l (proof_of r))) list;
     } in
-    (product (refutation list r.tree), inr (inl met), (refl, of))
+    (product (refutation r.steps (proof_of r)), inr (inl met), (refl, stands))
 
 -- want of memory may always be answered
 

@@ -1,21 +1,19 @@
 -- What rounds of resolution answer decides what the operation comes to.
-use Rattle.std.proofs.Common.{◌≡◌, ℕ, Bool, true, false, cond, ◌||◌, List, [], ◌∷◌, map, refl, sym, ap, ◌∙◌, subst, inl, inr}
-use Rattle.std.specs.Prelude.{Ok, Err}
+use Rattle.std.proofs.Common.{◌≡◌, ℕ, Bool, true, false, cond, ◌||◌, List, refl, sym, ap, ◌∙◌, subst, inl, inr}
+use Rattle.std.specs.Prelude.{Ok}
 use Rattle.std.specs.List.{All, list_all}
 use Rattle.std.specs.FinMap as fin
 use Rattle.std.proofs.lemmas.List.Elements.{All-map, All-weaker}
 use Rattle.fol.specs.declared.symbols.Var.{Var}
-use Rattle.fol.specs.Syntax.{Term, Formula, or, not}
+use Rattle.fol.specs.Syntax.{Term, Formula}
 use Rattle.finite.specs.Finite as set
 use Rattle.lk_rules.specs.declared.sequent.Sequent.{Sequent}
-use Rattle.lk_rules.specs.declared.sequent.Side.{Side}
 use Rattle.lk_rules.specs.declared.sequent.Side.TheVariants.{Left, Right}
 use Rattle.lk_rules.specs.Sequents.{empty}
 use Rattle.proof_trees.specs.FormulaSets.{is_atom}
 use Rattle.proof_trees.proofs.Booleans.{or_first, or_second}
+use Rattle.proof_trees.specs.Trees.{Tree, IsValid}
 use Rattle.proof_graph.specs.declared.graph.Graph.{Graph}
-use Rattle.proof_graph.specs.Graphs.{IsOf}
-use Rattle.proof_graph.specs.References.{Reference}
 use Rattle.refutations.specs.declared.clause.Clause.{Clause}
 use Rattle.refutations.specs.declared.step.ResStep.{ResStep}
 use Rattle.refutations.specs.declared.step.ResStep.TheVariants.{Input, Subst, Resolve}
@@ -27,6 +25,10 @@ use Rattle.clause_laws.specs.Subsumption.{IsClause}
 use Rattle.clause_laws.specs.Rounds.{IsClosed, Level}
 use Rattle.clause_laws.specs.Saturation.{IsSaturation}
 use Rattle.res_prover.specs.Answers.{IsRefuted}
+use Rattle.refutations.proofs.Refuting.{valid_refutation}
+use Rattle.tptp_problem.specs.ProblemClauses.{clauses_of, IsReadProblem}
+use Rattle.held_values.specs.declared.refutation.Refutation.{Refutation}
+use Rattle.held_values.specs.Means.{proof_of, Stands}
 use Rattle.job_words.specs.Refutations.{IsFormedBinding, HasFormedParts, HaveFormedParts}
 use Rattle.reply_lines.specs.Shown.{IsShownBinding, IsShownStep, IsShownClause}
 use Rattle.operation_laws.specs.declared.refusals.Failure.TheVariants.{Rounds}
@@ -35,7 +37,9 @@ use Rattle.operation_laws.specs.Running.{has_closure, saturates}
 use Rattle.operations.specs.declared.answers.Ran.{Ran}
 use Rattle.operations.specs.declared.answers.Ran.TheVariants as ran
 use Rattle.operations.specs.declared.answers.Made.TheVariants as made
+use Rattle.operation_laws.proofs.Making.{closures_formed}
 use Rattle.operations.specs.Means.{ComesTo}
+use Rattle.operations.proofs.Satisfied.{is_ok}
 
 -- the literals of a clause are a clause of resolution
 
@@ -66,6 +70,31 @@ parts_formed (Resolve p n a) shown = shown.2.1
 
 pub have_formed_parts : (steps : List ResStep) → All IsShownStep steps → HaveFormedParts steps
 have_formed_parts steps shown = All-weaker IsShownStep HasFormedParts parts_formed steps shown
+
+-- a refutation, which stands for its proof
+pub derivation_comes : (g : Graph) (cs : List Clause) (n : ℕ) (r : Refutation) → All IsClauseOf cs → list_all has_closure cs ≡ true → IsRefuted (sequents_of cs) n r.steps
+    → IsReadProblem r.problem → cs ≡ clauses_of r.problem.entries → All IsShownStep r.steps → ComesTo g (ran.Done (made.Derivation r)) (saturation cs n)
+derivation_comes g cs n r known closed refuted read same shown =
+    let by = refuted.refutation.refutes cs refl in
+    let here : refutation_of (clauses_of r.problem.entries) r.steps ≡ Ok by.0 = ap (λ (ds : List Clause). refutation_of ds r.steps) (sym same) ∙ by.1 in
+    let ok = is_ok (refutation_of (clauses_of r.problem.entries) r.steps) by.0 here in
+    let formed = refuted.refutation.formed in
+    let stands : Stands r = record {
+      read = read;
+      formed = formed;
+      refutes = ok.0;
+      valid = subst IsValid (sym ok.1) (valid_refutation cs r.steps by.0 known (closures_formed cs known closed) formed by.1);
+    } in
+    let met : IsRefutedIn cs n (product (derivation r.steps (proof_of r))) = record {
+      reached = refuted.reached;
+      steps = r.steps;
+      formed = formed;
+      tree = proof_of r;
+      stands = by.1 ∙ ap (λ (t : Tree). Ok t) (sym ok.1);
+      shown = shown;
+      is = refl;
+    } in
+    (product (derivation r.steps (proof_of r)), inl met, (refl, stands))
 
 -- the clauses that rounds end with
 pub saturation_comes : (g : Graph) (cs : List Clause) (n : ℕ) (ks js : List Sequent) → IsSaturation (sequents_of cs) n js → ks ≡ js → All IsShownClause ks

@@ -1,6 +1,7 @@
 -- What the program's answers stand for, over the graph that the proofs share.
 --     made_of      what a product of the program means
 --     needs      what an operation is run with
+--     Finds, FindsProof      what a field was given, and a field for a proof
 --     Comes, ComesTo      what an operation came to stands for an answer, and for one to what it asks for
 --     is_refusal      an operation came to a refusal or a failure
 --     IsShort      an operation failed because the work takes more than the budget allows
@@ -34,7 +35,7 @@ use Rattle.operations.specs.declared.answers.Absent.{Absent}
 use Rattle.operations.specs.declared.answers.Absent.TheVariants as absent
 use Rattle.held_values.specs.declared.held.Held.{Held}
 use Rattle.held_values.specs.declared.held.Held.TheVariants as held
-use Rattle.held_values.specs.Means.{ShowsName}
+use Rattle.held_values.specs.Means.{proof_of, Stands, ShowsName}
 
 -- what a product of the program means
 abbrev pub made_of : Made → Product
@@ -51,11 +52,11 @@ made_of (made.Herbrand k s) = answers.herbrand k s
 made_of (made.Introduced r b) = answers.introduced r.tree b
 made_of (made.Definition s f) = answers.definition s f
 made_of (made.Model atoms) = answers.model atoms
-made_of (made.Refutation list r) = answers.refutation list r.tree
-made_of (made.Derivation list r) = answers.derivation list r.tree
+made_of (made.Refutation r) = answers.refutation r.steps (proof_of r)
+made_of (made.Derivation r) = answers.derivation r.steps (proof_of r)
 made_of (made.Saturated clauses) = answers.saturated clauses
 
--- its references are of the graph, a problem is such as is read, and a symbol is well formed
+-- its references are of the graph, a refutation stands for its proof, a problem is such as is read, and a symbol is well formed
 abbrev pub FitsMade : Graph → Made → Type 0
 FitsMade g (made.Proof r) = IsOf g r
 FitsMade g (made.Reduced r n) = IsOf g r
@@ -70,8 +71,8 @@ FitsMade g (made.Herbrand k s) = Unit {0}
 FitsMade g (made.Introduced r b) = IsOf g r
 FitsMade g (made.Definition s f) = IsFormedPred (pred s (defined f))
 FitsMade g (made.Model atoms) = Unit {0}
-FitsMade g (made.Refutation list r) = IsOf g r
-FitsMade g (made.Derivation list r) = IsOf g r
+FitsMade g (made.Refutation r) = Stands r
+FitsMade g (made.Derivation r) = Stands r
 FitsMade g (made.Saturated clauses) = Unit {0}
 
 -- the field is given nothing, and refused so, unless there is no memory for the name that the refusal shows
@@ -79,6 +80,7 @@ abbrev pub IsAbsent : Absent → Refusal → Type 0
 IsAbsent (absent.Refused r) wanted = r ≡ wanted
 IsAbsent absent.Unnamed wanted = ShowsName wanted
 IsAbsent absent.Wanting wanted = ⊥
+IsAbsent absent.Unmade wanted = ⊥
 
 -- the field is given nothing of a value that it doesn't take: no job has the name, or the job lacked memory, or it holds another kind of value
 abbrev pub GivesNothing : Absent → List ℕ → Held → Type 0
@@ -93,11 +95,24 @@ FindsNone absent.Unnamed (given.missing r) = ShowsName r
 FindsNone absent.Unnamed given.wanting = ⊥
 FindsNone absent.Unnamed (given.found a) = ⊥
 FindsNone absent.Wanting wanted = wanted ≡ given.wanting
+FindsNone absent.Unmade wanted = ⊥
 
 -- what a field was given, in the program: what `of` says of it, or why there is nothing
 abbrev pub Finds : {T A : Type 0} → (T → A) → Result T Absent → Found A → Type 0
 Finds of (Ok x) wanted = wanted ≡ given.found (of x)
 Finds of (Err a) wanted = FindsNone a wanted
+
+-- the field is given something
+abbrev pub IsFound : {A : Type 0} → Found A → Type 0
+IsFound (given.missing r) = ⊥
+IsFound given.wanting = ⊥
+IsFound (given.found a) = Unit {0}
+
+-- the same of a proof, which there may have been no memory to make
+abbrev pub FindsProof : {T A : Type 0} → (T → A) → Result T Absent → Found A → Type 0
+FindsProof of (Ok x) wanted = wanted ≡ given.found (of x)
+FindsProof of (Err absent.Unmade) wanted = IsFound wanted
+FindsProof of (Err a) wanted = FindsNone a wanted
 
 -- what can be shown, in the program
 abbrev pub shown_as : ToShow → given.ToShow
@@ -122,6 +137,7 @@ abbrev pub without : Absent → Ran
 without (absent.Refused r) = ran.Refused r
 without absent.Unnamed = ran.Unnamed
 without absent.Wanting = ran.Lacking
+without absent.Unmade = ran.Lacking
 
 -- what steps come to that are no proof: they are refused, and with definitions put into them that is found by work
 abbrev pub faulty : List (List ℕ) → Refusal → Ran
@@ -145,8 +161,8 @@ needs (ops.Cutelim of n) = a_desk
 needs (ops.Eliminate of) = a_desk
 needs (ops.Define symbol vars body using) = a_graph
 needs (ops.Unfold of) = a_bench
-needs (ops.Sat of) = a_bench
-needs (ops.Prove of n) = a_bench
+needs (ops.Sat of) = a_graph
+needs (ops.Prove of n) = a_graph
 needs (ops.Resolution of steps) = a_bench
 needs (ops.Tautology s n) = a_bench
 needs (ops.Expansion flat n) = a_graph

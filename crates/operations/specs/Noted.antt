@@ -24,6 +24,7 @@ proof_in text held.Refused = None
 proof_in text held.Unheld = None
 proof_in text held.Unknown = None
 proof_in text (held.Proof r) = if is_some (pair_name text) then None else Some r
+proof_in text (held.Refutation r) = None
 proof_in text (held.Pair r s) = one_of text r s
 proof_in text (held.Problem p) = None
 proof_in text (held.Expansion e) = None

@@ -75,6 +75,8 @@ fn run_reading(graph: &Graph, alloc: Global, op: &Op, given: &[Held]) -> Ran
         }
         Op::Show { of } => show(graph, alloc, of, first(given)),
         Op::Measure { proof } => measure(graph, alloc, proof, first(given)),
+        Op::Sat { problem } => satisfy(alloc, problem, first(given)),
+        Op::Prove { problem, rounds } => prove_in(alloc, problem, first(given), rounds.get()),
         Op::Define {
             symbol,
             vars,
@@ -117,10 +119,6 @@ fn run_making<R: Wait + Threads + Sync>(
         Op::Resolution { problem, steps } => {
             let value = first(given);
             refute(rt, alloc, bench, pass, problem, value, steps.as_slice())
-        }
-        Op::Sat { problem } => satisfy(rt, alloc, bench, pass, problem, first(given)),
-        Op::Prove { problem, rounds } => {
-            prove_in(rt, alloc, bench, pass, problem, first(given), rounds.get())
         }
         Op::Tautology { sequent, budget } => {
             prove_sequent(rt, alloc, bench, pass, sequent, budget.get())
@@ -176,6 +174,8 @@ fn run_given<R: Wait + Threads + Sync>(
         | Op::Show { .. }
         | Op::Measure { .. }
         | Op::Define { .. }
+        | Op::Sat { .. }
+        | Op::Prove { .. }
         | Op::Expansion { .. }
         | Op::Expand { .. }
         | Op::Herbrand { .. } => run_reading(graph, alloc, op, given),
@@ -183,8 +183,6 @@ fn run_given<R: Wait + Threads + Sync>(
         | Op::Subst { .. }
         | Op::Unfold { .. }
         | Op::Resolution { .. }
-        | Op::Sat { .. }
-        | Op::Prove { .. }
         | Op::Tautology { .. }
         | Op::Fromexp { .. }
         | Op::Interpolate { .. }
@@ -219,7 +217,8 @@ fn are_sound(given: &[Held])
 /// A text with the suffix `.first` or `.second` stands for that proof of a `Pair`. A value that has a fault is refused, the first such value
 /// alone: at `Unknown` by `UnknownName`, and by `Kind` at another kind of value than the field takes, at a pair without a suffix, and at
 /// any other value with one. `Unheld` is no fault: where no value has one and one is `Unheld`, the answer is `Outcome::Memory` with
-/// `Held::Unheld`, as it is where memory runs out in the operation. Each refusal holds `Held::Refused`. Where there is no memory for the name
+/// `Held::Unheld`, as it is where memory runs out in the operation, and where a field for a proof is given a `Refutation`, whose proof isn't made
+/// here (`with_proofs` makes it). Each refusal holds `Held::Refused`. Where there is no memory for the name
 /// that a refusal shows, the answer is `Outcome::Memory` with `Held::Refused`, which is the answer in no other case.
 pub fn answer<R: Wait + Threads + Sync>(
     rt: &R,

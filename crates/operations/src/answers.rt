@@ -1,7 +1,8 @@
 //! What operations come to.
 use exp_tree::{CheckedExp, FlatExp};
 use fol::{Formula, Sym};
-use job_words::{ClauseList, FormedFormula, RefutationSteps, Steps};
+use held_values::Refutation;
+use job_words::{ClauseList, FormedFormula, Steps};
 use lk_rules::{Formulas, Sequent};
 use operation_laws::{Failure, Refusal};
 use proof_graph::ProofRef;
@@ -51,10 +52,10 @@ pub enum Made {
     Definition(Sym, Formula),
     /// The atoms that are true in a model of clauses.
     Model(Formulas),
-    /// The steps of a refutation of ground clauses, and the proof that they stand for.
-    Refutation(RefutationSteps, ProofRef),
-    /// The steps of a refutation of clauses, and the proof that they stand for.
-    Derivation(RefutationSteps, ProofRef),
+    /// A refutation of ground clauses, which stands for its proof.
+    Refutation(Refutation),
+    /// A refutation of clauses, which stands for its proof.
+    Derivation(Refutation),
     /// Clauses that rounds of resolution end with.
     Saturated(ClauseList),
 }
@@ -68,6 +69,8 @@ pub enum Absent {
     Unnamed,
     /// The job that it names reported want of memory.
     Wanting,
+    /// The job that it names holds a refutation, and there was no memory for the proof that it stands for.
+    Unmade,
 }
 
 /// What running an operation came to.
@@ -95,7 +98,7 @@ impl From<Absent> for Ran {
         match absent {
             Absent::Refused(refusal) => Ran::Refused(refusal),
             Absent::Unnamed => Ran::Unnamed,
-            Absent::Wanting => Ran::Lacking,
+            Absent::Wanting | Absent::Unmade => Ran::Lacking,
         }
     }
 }

@@ -169,8 +169,14 @@ fn hold(graph: &Graph, alloc: Global, made: Made) -> Result<(Outcome, Held), All
             Ok((Outcome::Expansion(summary), Held::Expansion(checked)))
         }
         Made::Definition(symbol, body) => hold_definition(symbol, body),
-        Made::Refutation(steps, proof) => Ok((Outcome::Unsatisfiable(steps), Held::Proof(proof))),
-        Made::Derivation(steps, proof) => Ok((Outcome::Refuted(steps), Held::Proof(proof))),
+        Made::Refutation(refutation) => {
+            let steps = refutation.steps.copy()?;
+            Ok((Outcome::Unsatisfiable(steps), Held::Refutation(refutation)))
+        }
+        Made::Derivation(refutation) => {
+            let steps = refutation.steps.copy()?;
+            Ok((Outcome::Refuted(steps), Held::Refutation(refutation)))
+        }
         Made::Proves(proves) => Ok((Outcome::Proves(proves), Held::Nothing)),
         Made::Steps(steps) => Ok((Outcome::Steps(steps), Held::Nothing)),
         Made::Sizes {

@@ -8,7 +8,7 @@ ghost use Rattle.proof_graph.specs.Graphs.{IsOf};
 ghost use Rattle.exp_tree.specs.Reads.{expansion_of};
 ghost use Rattle.operation_laws.specs.Given.{first_name as first_of_pair, second_name as second_of_pair, pair_name as pair_of, one_of as one_named, proof_given as proof_found, problem_given as problem_found, expansion_given as expansion_found, shown_given as shown_found, definition_given as definition_found, definitions_given as definitions_found, found, first_of, second_of};
 ghost use Rattle.held_values.specs.Means.{sense, Fits};
-ghost use Rattle.operations.specs.Means.{FitsShown, Finds, FindsNone, shown_as, GivesNothing};
+ghost use Rattle.operations.specs.Means.{FitsShown, Finds, FindsNone, FindsProof, shown_as, GivesNothing};
 ghost use Rattle.operations.specs.Noted.{proof_in, first_held};
 ghost use Rattle.held_values.specs.declared.held.Held.TheVariants.{Problem as ProblemHeld};
 
@@ -88,11 +88,12 @@ pub fn proof_given<'h>(
     value: &'h Held,
 ) -> Result<&'h ProofRef, Absent>
     ensures fits { IfOk result (λ r. (g : Graph) → Fits g value.now → IsOf g r.now) }
-    ensures found { Finds (λ r. r.now.tree) result (proof_found text.now (sense value.now)) }
+    ensures found { FindsProof (λ r. r.now.tree) result (proof_found text.now (sense value.now)) }
     ensures reference { IfOk result (λ r. proof_in text.now value.now ≡ Some r.now) }
 {
     match value {
         Held::Proof(proof) if !is_of_pair(text) => Ok(proof),
+        Held::Refutation(_) if !is_of_pair(text) => Err(Absent::Unmade),
         Held::Pair(first, second) => match one_of(text, first, second) {
             Some(proof) => Ok(proof),
             None => Err(nothing_given(alloc, text, value)),
@@ -145,10 +146,11 @@ pub fn shown_given<'h>(
     value: &'h Held,
 ) -> Result<ToShow<'h>, Absent>
     ensures fits { IfOk result (λ s. (g : Graph) → Fits g value.now → FitsShown g s) }
-    ensures found { Finds shown_as result (shown_found text.now (sense value.now)) }
+    ensures found { FindsProof shown_as result (shown_found text.now (sense value.now)) }
 {
     match value {
         Held::Proof(proof) if !is_of_pair(text) => Ok(ToShow::Proof(proof)),
+        Held::Refutation(_) if !is_of_pair(text) => Err(Absent::Unmade),
         Held::Expansion(trees) if !is_of_pair(text) => Ok(ToShow::Expansion(trees)),
         Held::Pair(first, second) => match one_of(text, first, second) {
             Some(proof) => Ok(ToShow::Proof(proof)),
@@ -187,6 +189,7 @@ pub fn are_defined(alloc: Global, texts: &[Utf8Text], given: &[Held]) -> Result<
             Err(Absent::Wanting) => wants = true,
             Err(Absent::Refused(refusal)) => return Err(Absent::Refused(refusal)),
             Err(Absent::Unnamed) => return Err(Absent::Unnamed),
+            Err(Absent::Unmade) => unreachable!(),
         }
     }
     if wants {

@@ -16,7 +16,7 @@ use proof_graph::Graph;
 use std::alloc::Global;
 
 /// The Herbrand sequent of the proof that is named, within a budget of inferences of its tree.
-#[tactic(auto, using(crate::proofs::Givings::absent_comes))]
+#[tactic(auto, using(crate::proofs::Givings::proofless_comes, crate::proofs::Lacking::instanced_lacks))]
 pub fn herbrand_in(graph: &Graph, alloc: Global, of: &Utf8Text, value: &Held, budget: u64) -> Ran
     requires { Fits graph.now value.now }
     ensures { ComesTo graph.now result (run (Op.Herbrand of.now budget) (sense value.now ∷ [])) }

@@ -18,7 +18,7 @@ use std::alloc::Global;
 use std::sync::Wait;
 
 /// The interpolation of the proof that is named, by two parts of its end sequent, within a budget of inferences of its tree.
-#[tactic(auto, using(crate::proofs::Givings::absent_comes))]
+#[tactic(auto, using(crate::proofs::Givings::proofless_comes, crate::proofs::Lacking::interpolated_lacks))]
 pub fn interpolate_in<R: Wait>(
     rt: &R,
     alloc: Global,

@@ -19,7 +19,7 @@ use std::thread::Threads;
 
 /// The proof that is named with a cut, where that makes it shorter, and else that proof. The width is of rows of the delta table, the budget
 /// of inferences of the proof's tree, and of sequents that each search visits.
-#[tactic(auto, using(crate::proofs::Givings::absent_comes, crate::proofs::Introduced::width_from, crate::proofs::Introduced::width_to))]
+#[tactic(auto, using(crate::proofs::Givings::proofless_comes, crate::proofs::Lacking::shortened_lacks, crate::proofs::Introduced::width_from, crate::proofs::Introduced::width_to))]
 pub fn introduce_in<R: Wait + Threads + Sync>(
     rt: &R,
     alloc: Global,

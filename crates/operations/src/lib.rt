@@ -12,6 +12,7 @@ mod given;
 mod instancing;
 mod interpolating;
 mod introducing;
+mod making;
 mod proofs;
 mod readings;
 mod refuting;
@@ -23,3 +24,4 @@ mod unfolding;
 
 pub use answering::answer;
 pub use held_values::Held;
+pub use making::{has_refutation, with_proofs};

@@ -26,7 +26,7 @@ use std::thread::Threads;
 use substitution::Subst;
 
 /// The proof that is named, under a map.
-#[tactic(auto, using(crate::proofs::Givings::absent_comes))]
+#[tactic(auto, using(crate::proofs::Givings::proofless_comes))]
 pub fn substitute_in<R: Wait>(
     rt: &R,
     alloc: Global,
@@ -52,7 +52,7 @@ pub fn substitute_in<R: Wait>(
 }
 
 /// The proof that is named, with its cuts eliminated. The ledger counts the contractions.
-#[tactic(auto, using(crate::proofs::Givings::absent_comes))]
+#[tactic(auto, using(crate::proofs::Givings::proofless_comes, crate::proofs::Lacking::eliminates_lacks))]
 pub fn eliminate_in<R: Wait + Threads + Sync, L: Ledger>(
     rt: &R,
     alloc: Global,
@@ -89,7 +89,7 @@ pub fn eliminate_in<R: Wait + Threads + Sync, L: Ledger>(
 }
 
 /// The same however many contractions that takes.
-#[tactic(auto, using(crate::proofs::Givings::absent_asked, crate::proofs::Eliminated::whole_gives, crate::proofs::Eliminated::whole_lacks))]
+#[tactic(auto, using(crate::proofs::Givings::proofless_asked, crate::proofs::Eliminated::whole_gives, crate::proofs::Eliminated::whole_lacks))]
 pub fn eliminate_all_in<R: Wait + Threads + Sync, L: Ledger>(
     rt: &R,
     alloc: Global,

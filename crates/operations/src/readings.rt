@@ -19,7 +19,7 @@ use proof_steps::{cuts, nodes, quants, size, steps};
 use std::alloc::{AllocError, Global};
 
 /// The canonical steps of the proof that is named, or the flat list of the expansion trees.
-#[tactic(auto, using(crate::proofs::Givings::absent_comes))]
+#[tactic(auto, using(crate::proofs::Givings::proofless_comes, crate::proofs::Lacking::lists_lacks))]
 pub fn show(graph: &Graph, alloc: Global, of: &Utf8Text, value: &Held) -> Ran
     requires { Fits graph.now value.now }
     ensures { ComesTo graph.now result (run (Op.Show of.now) (sense value.now ∷ [])) }
@@ -54,7 +54,7 @@ fn sizes(graph: &Graph, alloc: Global, proof: &ProofRef) -> Result<Made, AllocEr
 }
 
 /// The sizes of the proof that is named.
-#[tactic(auto, using(crate::proofs::Givings::absent_comes))]
+#[tactic(auto, using(crate::proofs::Givings::proofless_comes))]
 pub fn measure(graph: &Graph, alloc: Global, of: &Utf8Text, value: &Held) -> Ran
     requires { Fits graph.now value.now }
     ensures { ComesTo graph.now result (run (Op.Measure of.now) (sense value.now ∷ [])) }
@@ -81,7 +81,7 @@ fn compared(graph: &Graph, alloc: Global, proof: &ProofRef, problem: &Utf8Text, 
     }
 }
 
-// The fault of the field for a problem, or want of memory, where the proof's job lacked it.
+// The fault of the field for a problem, or want of memory, where the proof's job lacked it, or there was none for the proof.
 #[tactic(auto, using(crate::proofs::Givings::absent_comes))]
 fn behind_want(alloc: Global, problem: &Utf8Text, value: &Held) -> Ran
     ensures { (g : GraphMeaning) → Comes g result (over (problem_found problem.now (sense value.now)) (λ _. lacking)) }
@@ -93,7 +93,7 @@ fn behind_want(alloc: Global, problem: &Utf8Text, value: &Held) -> Ran
 }
 
 /// Whether the proof that is named proves the problem that is named.
-#[tactic(auto, using(crate::proofs::Givings::first_comes, crate::proofs::Givings::first_refused, crate::proofs::Givings::first_unnamed, crate::proofs::Givings::first_wanting))]
+#[tactic(auto, using(crate::proofs::Givings::first_comes, crate::proofs::Givings::first_refused, crate::proofs::Givings::first_unnamed, crate::proofs::Givings::first_wanting, crate::proofs::Givings::first_unmade, crate::proofs::Lacking::compares_lacks))]
 pub fn prove(
     graph: &Graph,
     alloc: Global,
@@ -110,5 +110,6 @@ pub fn prove(
         Err(Absent::Refused(refusal)) => Ran::Refused(refusal),
         Err(Absent::Unnamed) => Ran::Unnamed,
         Err(Absent::Wanting) => behind_want(alloc, problem, problem_value),
+        Err(Absent::Unmade) => behind_want(alloc, problem, problem_value),
     }
 }

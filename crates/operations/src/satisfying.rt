@@ -8,28 +8,25 @@ ghost use Rattle.refutations.specs.Clauses.{literals_of, IsClauseOf};
 ghost use Rattle.ground_laws.specs.Steps.{IsRefutation, res_step, sequents_of, names as names_atom};
 ghost use Rattle.sat_search.specs.Grounds.{clause_of as sequent_of_ground, clauses_of as sequents_of_grounds};
 ghost use Rattle.tptp_problem.specs.ProblemClauses.{clauses_of, IsReadProblem};
-ghost use Rattle.proof_subst.specs.Benches.{graph_of, IsBenchPassOf};
+ghost use Rattle.proof_graph.specs.declared.graph.Graph.{Graph};
 ghost use Rattle.reply_lines.specs.Shown.{IsShownFormula, IsShownStep};
 ghost use Rattle.operation_laws.specs.Answers.{satisfiability};
-ghost use Rattle.operation_laws.specs.Running.{first_open as first_open_in, solves_ground, run};
+ghost use Rattle.operation_laws.specs.Running.{has_closure, first_open as first_open_in, solves_ground, run};
 ghost use Rattle.held_values.specs.Means.{sense, Fits};
-ghost use Rattle.operations.specs.Runs.{Runs};
+ghost use Rattle.operations.specs.Means.{ComesTo};
 
 use crate::answers::{Made, Ran};
 use crate::given::problem_given;
 use crate::refuting::have_closures;
 use fol::Formula;
 use ground_laws::SatStep;
-use held_values::Held;
+use held_values::{Held, Refutation};
 use job_lang::Op;
 use job_words::{RefutationSteps, Utf8Text};
 use operation_laws::Failure;
-use proof_subst::{Bench, BenchPass};
 use refutations::{Clause, ResStep, literals};
-use resolution_import::import;
 use sat_search::{Ground, SatAnswer, solve};
 use std::alloc::{AllocError, Global};
-use std::sync::Wait;
 use tptp_problem::{Problem, clauses};
 
 // The place of the first clause in which a variable stands.
@@ -101,73 +98,56 @@ fn resolution_steps(alloc: Global, steps: &[SatStep]) -> Result<RefutationSteps,
     for step in steps {
         list.push(resolution_step(step)?)?;
     }
-    Ok(RefutationSteps::from_vec(list))
+    RefutationSteps::from_vec(alloc, list)
 }
 
-// The steps that were found, with the proof that they stand for.
+// The steps that were found as a refutation of the clauses of the problem.
 #[tactic(auto, using(crate::proofs::Satisfied::solving_lacks))]
-fn import_found<R: Wait>(
-    rt: &R,
-    alloc: Global,
-    bench: &Bench,
-    pass: &mut BenchPass,
-    clauses: &[Clause],
-    steps: &[SatStep],
-) -> Ran
-    requires pass { IsBenchPassOf bench.now pass.old }
-    requires clauses { All IsClauseOf clauses.now }
+fn hold_steps(alloc: Global, problem: &Problem, clauses: &[Clause], steps: &[SatStep]) -> Ran
+    requires problem { IsReadProblem problem.now }
+    requires clauses { clauses.now ≡ clauses_of problem.now.entries }
+    requires known { All IsClauseOf clauses.now }
+    requires closed { list_all has_closure clauses.now ≡ true }
     requires refutes { IsRefutation (sequents_of clauses.now) steps.now }
     requires shown { All (λ step. (f : Atom) → names_atom f step ≡ true → IsShownFormula f) steps.now }
-    ensures { Runs bench.now pass.old pass.new result (satisfiability clauses.now) }
+    ensures { (g : Graph) → ComesTo g result (satisfiability clauses.now) }
 {
+    let _clauses = clauses;
     let Ok(steps) = resolution_steps(alloc, steps) else {
         return Ran::Lacking;
     };
-    match import(rt, alloc, bench, pass, clauses, steps.as_slice()) {
-        Ok(proof) => Ran::Done(Made::Refutation(steps, proof)),
+    match problem.copy() {
+        Ok(problem) => Ran::Done(Made::Refutation(Refutation { problem, steps })),
         Err(_) => Ran::Lacking,
     }
 }
 
-// A model or a refutation of clauses in which no variable stands.
+// A model or a refutation of the clauses of the problem, in which no variable stands.
 #[tactic(auto, using(crate::proofs::Satisfied::solving_lacks))]
-fn solve_clauses<R: Wait>(
-    rt: &R,
-    alloc: Global,
-    bench: &Bench,
-    pass: &mut BenchPass,
-    clauses: &[Clause],
-) -> Ran
-    requires pass { IsBenchPassOf bench.now pass.old }
-    requires clauses { All IsClauseOf clauses.now }
+fn solve_clauses(alloc: Global, problem: &Problem, clauses: &[Clause]) -> Ran
+    requires problem { IsReadProblem problem.now }
+    requires clauses { clauses.now ≡ clauses_of problem.now.entries }
+    requires known { All IsClauseOf clauses.now }
     requires ground { first_open_in clauses.now ≡ None }
+    requires closed { list_all has_closure clauses.now ≡ true }
     requires primitive { list_all (λ c. not (has_body c.matrix)) clauses.now ≡ true }
-    ensures { Runs bench.now pass.old pass.new result (satisfiability clauses.now) }
+    ensures { (g : Graph) → ComesTo g result (satisfiability clauses.now) }
 {
     let Ok(grounds) = grounds(alloc, clauses) else {
         return Ran::Lacking;
     };
     match solve(alloc, &grounds) {
         Ok(SatAnswer::Model(atoms)) => Ran::Done(Made::Model(atoms)),
-        Ok(SatAnswer::Refutation(steps)) => {
-            import_found(rt, alloc, bench, pass, clauses, steps.as_slice())
-        }
+        Ok(SatAnswer::Refutation(steps)) => hold_steps(alloc, problem, clauses, steps.as_slice()),
         Err(_) => Ran::Lacking,
     }
 }
 
 // A model or a refutation of the clauses of a problem.
 #[tactic(auto, using(crate::proofs::Satisfied::open_comes, crate::proofs::Satisfied::ground_lacks, crate::proofs::Satisfied::ground_comes))]
-fn solve_problem<R: Wait>(
-    rt: &R,
-    alloc: Global,
-    bench: &Bench,
-    pass: &mut BenchPass,
-    problem: &Problem,
-) -> Ran
-    requires pass { IsBenchPassOf bench.now pass.old }
-    requires problem { IsReadProblem problem.now }
-    ensures { Runs bench.now pass.old pass.new result (solves_ground (first_open_in (clauses_of problem.now.entries)) (clauses_of problem.now.entries)) }
+fn solve_problem(alloc: Global, problem: &Problem) -> Ran
+    requires { IsReadProblem problem.now }
+    ensures { (g : Graph) → ComesTo g result (solves_ground (first_open_in (clauses_of problem.now.entries)) (clauses_of problem.now.entries)) }
 {
     let Ok(clauses) = clauses(alloc, problem) else {
         return Ran::Lacking;
@@ -178,25 +158,17 @@ fn solve_problem<R: Wait>(
     if !have_closures(&clauses) || !are_primitive(&clauses) {
         return Ran::Lacking;
     }
-    solve_clauses(rt, alloc, bench, pass, &clauses)
+    solve_clauses(alloc, problem, &clauses)
 }
 
-/// A model or a refutation of the clauses of the problem that is named, with the proof that the refutation stands for.
+/// A model or a refutation of the clauses of the problem that is named. A refutation is held as it is, with the proof that it stands for unmade.
 #[tactic(auto, using(crate::proofs::Givings::absent_solved))]
-pub fn satisfy<R: Wait>(
-    rt: &R,
-    alloc: Global,
-    bench: &Bench,
-    pass: &mut BenchPass,
-    of: &Utf8Text,
-    value: &Held,
-) -> Ran
-    requires pass { IsBenchPassOf bench.now pass.old }
-    requires fits { Fits (graph_of bench.now) value.now }
-    ensures { Runs bench.now pass.old pass.new result (run (Op.Sat of.now) (sense value.now ∷ [])) }
+pub fn satisfy(alloc: Global, of: &Utf8Text, value: &Held) -> Ran
+    requires { (g : Graph) × Fits g value.now }
+    ensures { (g : Graph) → ComesTo g result (run (Op.Sat of.now) (sense value.now ∷ [])) }
 {
     match problem_given(alloc, of, value) {
-        Ok(problem) => solve_problem(rt, alloc, bench, pass, problem),
+        Ok(problem) => solve_problem(alloc, problem),
         Err(absent) => Ran::from(absent),
     }
 }

@@ -157,7 +157,7 @@ pub fn admit_with<R: Wait>(
 }
 
 /// The proof that is named, with all defined symbols unfolded.
-#[tactic(auto, using(crate::proofs::Givings::absent_comes, crate::proofs::Unfolded::unfolds_lacks))]
+#[tactic(auto, using(crate::proofs::Givings::proofless_comes, crate::proofs::Unfolded::unfolds_lacks))]
 pub fn unfold_in<R: Wait>(
     rt: &R,
     alloc: Global,

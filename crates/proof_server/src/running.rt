@@ -8,7 +8,7 @@ use held_values::Held;
 use job_lang::Op;
 use job_windows::{Due, Store, Window, dues};
 use job_workers::{Gate, Runner, run_window};
-use operations::answer;
+use operations::{answer, has_refutation, with_proofs};
 use reply_lines::Outcome;
 use std::alloc::{AllocError, Global};
 use std::sync::Wait;
@@ -65,6 +65,11 @@ impl<'a> Runner for Operations<'a> {
         job: &Op,
         given: &[Held],
     ) -> (Outcome, Held) {
+        if has_refutation(given) {
+            if let Ok(made) = with_proofs(rt, alloc, self.desk, pass, given) {
+                return answer(rt, alloc, self.desk, pass, job, &made);
+            }
+        }
         answer(rt, alloc, self.desk, pass, job, given)
     }
 

@@ -16,6 +16,3 @@ interpolate_in-requires-clause-fits g c = c.first-value-in-Interpolate.ensures.f
 
 pub introduce_in-requires-clause-fits : goal.introduce_in-requires-clause-fits
 introduce_in-requires-clause-fits g c κs within = c.first-value-in-Cutintro.ensures.fits (graph_of c.args.bench.now) c.requires.fits
-
-pub satisfy-requires-clause-fits : goal.satisfy-requires-clause-fits
-satisfy-requires-clause-fits g c = c.first-in-Sat.ensures.fits (graph_of c.args.bench.now) c.requires.fits

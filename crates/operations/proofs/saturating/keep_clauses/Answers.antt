@@ -7,8 +7,8 @@ use Rattle.reply_lines.specs.Shown.{IsShownClause}
 use Rattle.operations.proofs.Saturated.{saturation_comes}
 use Rattle.operations.proofs.saturating.keep_clauses.Goals as goal
 
-pub returns-clause-ran : goal.returns-clause-ran
-returns-clause-ran c g cs n holds =
+pub returns : goal.returns
+returns c = λ g cs n holds.
     let ks = c.from_vec.result in
     let same : ks ≡ sequents_of_clauses c.args.kept.now = c.from_vec.ensures ∙ c.in-Ok.ensures in
     let shown : All IsShownClause ks =
