@@ -29,7 +29,7 @@ use Rattle.exp_extract.specs.Entries.{IsChild}
 use Rattle.exp_extract.specs.Quantifiers.{Grows}
 use Rattle.exp_extract.specs.declared.sides.Sides.{Sides}
 use Rattle.exp_extract.specs.declared.sides.Auxiliary.{Auxiliary}
-use Rattle.exp_extract.specs.Sides.{number_in, address_or, numbers_of, context_in, AreSides, auxiliary_place, AreAuxiliaries, or_else, inner_number, AreInner}
+use Rattle.exp_extract.specs.Sides.{number_in, address_or, numbers_of, context_in, AreSides, IsKnownDistinct, auxiliary_place, AreAuxiliaries, or_else, inner_number, AreInner}
 
 equal_formulas : (f g : Formula) → eq_by_cmp formula_cmp f g ≡ true → f ≡ g
 equal_formulas f g = (formula_equality_same f g (eq_by_cmp formula_cmp f g) refl).0
@@ -123,10 +123,11 @@ module _ (bs : List Address) (s e : Sequent) (x y : Sides) (a : Auxiliary) (i : 
   number_within side g q (Some n) is found = let same : n ≡ q = cc in sides.within side q (number_listed _ _ g q (is ∙ ap Some same))
   number_within side g q None is found = (by_auxiliary side g q found).0
 
-  pub inner_areSides : AreSides bs e y
-  inner_areSides = record {
+  pub inner_areSides : IsKnownDistinct e y → AreSides bs e y
+  inner_areSides distinct = record {
     counts = λ side. sym (length-map (numbers_of y side) Some) ∙ (ap length (inner side) ∙ length-map (set.listing (side_of e side)) (F side));
     within = λ side q there. let one = given_for (F side) (set.listing (side_of e side)) (numbers_of y side) q (inner side) there in number_within side one.0 q _ refl one.1;
+    distinct = distinct;
   }
 
   is_number : (side : Side) (h : Formula) → list_any (eq_by_cmp formula_cmp h) (set.listing (side_of e side)) ≡ true → number_in (set.listing (side_of e side)) (numbers_of y side) h ≡ F side h → is_some (F side h) ≡ true
@@ -158,7 +159,7 @@ module _ (bs : List Address) (s e : Sequent) (x y : Sides) (a : Auxiliary) (i : 
 
 -- while addresses grow
 pub sides_grown : (bs cs : List Address) (s : Sequent) (x : Sides) → Grows bs cs → AreSides bs s x → AreSides cs s x
-sides_grown bs cs s x g h = record { counts = h.counts; within = λ side q there. (g q (h.within side q there)).0 }
+sides_grown bs cs s x g h = record { counts = h.counts; within = λ side q there. (g q (h.within side q there)).0; distinct = h.distinct }
 
 pub context_grown : (bs cs : List Address) (s : Sequent) (x : Sides) → Grows bs cs → AreSides bs s x → (side : Side) (f : Formula) → context_in cs s x side f ≡ context_in bs s x side f
 context_grown bs cs s x g h side f = by_number (number_in (set.listing (side_of s side)) (numbers_of x side) f) refl

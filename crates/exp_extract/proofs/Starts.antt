@@ -21,7 +21,7 @@ use Rattle.exp_extract.specs.Marked.{Marked, address_in}
 use Rattle.exp_extract.specs.Quantifiers.{Grows, AreWithin}
 use Rattle.exp_extract.specs.MapList.{map_in}
 use Rattle.exp_extract.specs.declared.sides.Sides.{Sides}
-use Rattle.exp_extract.specs.Sides.{numbers_of, context_in}
+use Rattle.exp_extract.specs.Sides.{numbers_of, context_in, IsKnownDistinct}
 use Rattle.exp_extract.specs.Walking.{IsPlainTree, IsReady, IsAfter}
 use Rattle.exp_extract.proofs.MarkedSets.{map_grown, within_grown}
 use Rattle.exp_extract.proofs.RootLists.{root_context, root_counts}
@@ -65,11 +65,11 @@ roots_after bs cs t x grown h = record {
 
 -- the walk, from marks that are the same
 module _ (ms : List Map) (k m : Marked) (t : Tree) (x : Sides) (maps : ms ≡ fin.empty ∷ []) (h : AreRoots m.addresses t x) (same : k ≡ m) where
-  pub start_ready : IsPlainTree t → IsReady ms k t 0 x
-  start_ready tree =
+  pub start_ready : IsPlainTree t → IsKnownDistinct (concl t) x → IsReady ms k t 0 x
+  start_ready tree distinct =
       subst (λ (n : Marked). IsReady ms n t 0 x) (sym same) (subst (λ (ns : List Map). IsReady ns m t 0 x) (sym maps) (record {
         map = omega arith;
-        sides = record { counts = root_counts m.addresses (concl t) x h.roots; within = h.within };
+        sides = record { counts = root_counts m.addresses (concl t) x h.roots; within = h.within; distinct = distinct };
         images = λ side f there. subst (λ (a : Address). HasImage fin.empty a side f) (sym (root_context m.addresses (concl t) x h.roots side f there)) (fits_first (concl t) side f there);
         tree = tree;
       }))

@@ -36,7 +36,7 @@ use Rattle.exp_extract.specs.Marked.{Marked}
 use Rattle.exp_extract.specs.Entries.{IsChild}
 use Rattle.exp_extract.specs.Quantifiers.{Grows}
 use Rattle.exp_extract.specs.MapList.{map_in, KeepsMaps}
-use Rattle.exp_extract.specs.Sides.{context_in, AreAuxiliaries, auxiliary_place, AreInner}
+use Rattle.exp_extract.specs.Sides.{context_in, AreAuxiliaries, auxiliary_place, AreInner, IsKnownDistinct}
 use Rattle.exp_extract.specs.Inferences.{IsMet}
 use Rattle.exp_extract.specs.Visits.{IsDone, IsVisit, AreVisits}
 use Rattle.exp_extract.specs.Walking.{IsPlainTree, IsReady, IsRight, IsPremise, IsInner, IsAfter}
@@ -92,7 +92,7 @@ met_includes m n ms ns r s x k inner h = subst (λ z. Includes m.state z) (sym h
 -- premises
 
 module _ (ms : List Map) (m : Marked) (r : Rule) (s : Sequent) (x y : Sides) (k i : ℕ) (inner : Inner) (t : Tree) (c : Context) (v : Var)
-    (right : IsRight r s) (premise : IsPremise r s i t) (is : IsInner ms m r s x k inner c v) (numbers : AreInner s x inner.auxiliary i (concl t) y) where
+    (right : IsRight r s) (premise : IsPremise r s i t) (is : IsInner ms m r s x k inner c v) (numbers : AreInner s x inner.auxiliary i (concl t) y) (distinct : IsKnownDistinct (concl t) y) where
   addresses : (side : Side) (h : Formula) → set.has (side_of (concl t) side) h ≡ true → context_in m.addresses (concl t) y side h ≡ inner_context r s (map_in ms k) c v i side h
   addresses = inner_addresses m.addresses s (concl t) x y inner.auxiliary i premise.small r (map_in ms k) v c is.sides is.agree numbers is.auxiliaries
 
@@ -102,7 +102,7 @@ module _ (ms : List Map) (m : Marked) (r : Rule) (s : Sequent) (x y : Sides) (k 
   pub premise_ready : IsReady ms m t inner.map y
   premise_ready = record {
     map = is.there;
-    sides = inner_areSides m.addresses s (concl t) x y inner.auxiliary i premise.small r (map_in ms k) v c is.sides is.agree numbers is.auxiliaries;
+    sides = inner_areSides m.addresses s (concl t) x y inner.auxiliary i premise.small r (map_in ms k) v c is.sides is.agree numbers is.auxiliaries distinct;
     images = λ side h there.
         subst (λ (f : Map). HasImage f (context_in m.addresses (concl t) y side h) side h) (sym is.map)
         (subst (λ (a : Address). HasImage (inner_map r (map_in ms k) v) a side h) (sym (addresses side h there)) (images side h there));

@@ -2,9 +2,10 @@
 --     IsPlaceOf, HasNotBetween      the formula stands at a place of a list, or at none of several
 --     number_in, context_in      the number of a formula, and its address
 --     HasCounts, AreSides      there is a number for each formula
+--     IsKnownDistinct      what is said of fingerprints is true
 --     auxiliary_place, AreAuxiliaries      the numbers of the addresses of auxiliary formulas
 --     inner_number, AreInner      those of a premise's formulas
-use Rattle.std.specs.Prelude.{◌≡◌, ℕ, zero, suc, ◌<◌, ◌≤◌, true, false, if◌then◌else◌, List, [], ◌∷◌, length, get_or, map, Option, Some, None, IfSome}
+use Rattle.std.specs.Prelude.{◌≡◌, ℕ, zero, suc, ◌<◌, ◌≤◌, true, false, if◌then◌else◌, List, [], ◌∷◌, length, get_or, map, Option, Some, None, IfSome, IsTrue}
 use Rattle.std.specs.Ordering.{eq_by_cmp}
 use Rattle.fol.specs.declared.symbols.Var.{Var}
 use Rattle.fol.specs.Syntax.{Formula, top}
@@ -23,6 +24,7 @@ use Rattle.exp_extract.specs.declared.sides.Auxiliary.{Auxiliary}
 use Rattle.exp_extract.specs.declared.sides.Auxiliary.TheVariants.{Absent, Only, ByPremise, BySide, ByFormula}
 use Rattle.exp_extract.specs.Marked.{address_in}
 use Rattle.exp_extract.specs.Entries.{IsChild}
+use Rattle.exp_extract.specs.Fingerprints.{HasDistinctSides}
 use Rattle.exp_extract.specs.Quantifiers.{AreWithin}
 
 -- the formula stands at this place
@@ -56,9 +58,14 @@ context_in bs s x side h = address_or bs (number_in (set.listing (side_of s side
 abbrev pub HasCounts : Sequent → Sides → Type 0
 HasCounts s x = (side : Side) → length (numbers_of x side) ≡ length (set.listing (side_of s side))
 
+-- where no fingerprint is said to stand twice on a side, none does
+abbrev pub IsKnownDistinct : Sequent → Sides → Type 0
+IsKnownDistinct s x = IsTrue x.distinct → HasDistinctSides s
+
 pub record AreSides (bs : List Address) (s : Sequent) (x : Sides) : Type 0 where
   pub counts : HasCounts s x
   pub within : (side : Side) → AreWithin bs (numbers_of x side)
+  pub distinct : IsKnownDistinct s x
 
 -- the number of the address of an auxiliary formula of a premise
 abbrev pub auxiliary_place : Auxiliary → ℕ → Side → Formula → Option ℕ

@@ -4,13 +4,15 @@ ghost use Rattle.std.specs.List.{All};
 ghost use Rattle.std.specs.Ordering.{eq_by_cmp};
 ghost use Rattle.fol.specs.Facts.{formula_fingerprint};
 ghost use Rattle.fol.specs.Order.{formula_cmp};
-ghost use Rattle.fol.specs.Syntax.{Formula as Meaning};
-ghost use Rattle.exp_extract.specs.Fingerprints.{IsToldApart, IsNewAt, HasDistinctFingerprints, IsAmong};
+ghost use Rattle.finite.specs.Finite as set;
+ghost use Rattle.lk_rules.specs.declared.sequent.Side.{Side};
+ghost use Rattle.lk_rules.specs.Sequents.{side_of};
+ghost use Rattle.exp_extract.specs.Fingerprints.{IsToldApart, IsNewAt, HasDistinctFingerprints, HasDistinctSides, AreAmong};
 
 use fol::Formula;
-
-// Longer lists aren't tried, since each fingerprint is compared with those before it.
-const LIMIT: usize = 64;
+use lk_rules::Sequent;
+use std::alloc::Global;
+use std::collections::HashSet;
 
 /// Whether two formulas are equal. Where `told_apart` holds, their fingerprints tell.
 pub(crate) fn are_equal(first: &Formula, second: &Formula, told_apart: bool) -> bool
@@ -22,6 +24,28 @@ pub(crate) fn are_equal(first: &Formula, second: &Formula, told_apart: bool) -> 
     } else {
         first == second
     }
+}
+
+// Whether no fingerprint stands twice. Without memory for the test none is known to.
+fn are_distinct(alloc: Global, formulas: &[Formula]) -> bool
+    ensures { IsTrue result → HasDistinctFingerprints formulas.now }
+{
+    let Ok(mut fingerprints) = HashSet::with_capacity(alloc, formulas.len()) else {
+        return false;
+    };
+    for formula in formulas {
+        if !fingerprints.insert(formula.fingerprint()).unwrap_or(false) {
+            return false;
+        }
+    }
+    true
+}
+
+/// Whether on each side of a sequent no fingerprint stands twice.
+pub(crate) fn has_distinct_sides(alloc: Global, sequent: &Sequent) -> bool
+    ensures { IsTrue result → HasDistinctSides sequent.now }
+{
+    are_distinct(alloc, sequent.left()) && are_distinct(alloc, sequent.right())
 }
 
 // Whether the fingerprint at a place is none of those before it.
@@ -38,8 +62,8 @@ fn is_new(formulas: &[Formula], at: usize) -> bool
     true
 }
 
-// Whether no fingerprint stands twice.
-fn are_distinct(formulas: &[Formula]) -> bool
+// Whether no fingerprint of a few formulas stands twice: each is compared with those before it, which takes no memory.
+fn are_few_distinct(formulas: &[Formula]) -> bool
     ensures { IsTrue result → HasDistinctFingerprints formulas.now }
 {
     for at in 0..formulas.len() {
@@ -81,13 +105,36 @@ fn are_told_apart(added: &[Formula], formulas: &[Formula]) -> bool
     true
 }
 
-/// Whether fingerprints tell the formulas of two lists from those of the first: a formula of either list that has the fingerprint of one
-/// of the first is known to be that one. Comparing equal formulas goes through them, and comparing fingerprints is one look.
-pub(crate) fn tell_apart(formulas: &[Formula], added: &[Formula]) -> bool
-    ensures { IsTrue result → (h : Meaning) → IsAmong formulas.now added.now h → IsToldApart formulas.now h }
+// Whether fingerprints tell the formulas of a premise's side apart, from one another and from those of the conclusion's side, where they tell
+// those apart, and `added` has the few auxiliary formulas. Only these are compared with others.
+fn tell_side_apart(conclusion: &[Formula], added: &[Formula], premise: &[Formula]) -> bool
+    requires distinct { HasDistinctFingerprints conclusion.now }
+    requires rises { set.IsRising formula_cmp premise.now }
+    requires among { AreAmong conclusion.now added.now premise.now }
+    ensures told { IsTrue result → All (IsToldApart conclusion.now) premise.now }
+    ensures distinct { IsTrue result → HasDistinctFingerprints premise.now }
 {
-    if formulas.len() > LIMIT {
+    let _premise = premise;
+    are_few_distinct(added) && are_told_apart(added, conclusion)
+}
+
+/// Whether fingerprints tell the formulas of a premise apart, from one another and from those of the conclusion, where `distinct` says so of
+/// the conclusion's, and `added` has the auxiliary formulas. Comparing equal formulas goes through them, and comparing fingerprints is one
+/// look.
+pub(crate) fn tell_apart(
+    distinct: bool,
+    conclusion: &Sequent,
+    added: &Sequent,
+    premise: &Sequent,
+) -> bool
+    requires distinct { IsTrue distinct → HasDistinctSides conclusion.now }
+    requires among { (side : Side) → AreAmong (set.listing (side_of conclusion.now side)) (set.listing (side_of added.now side)) (set.listing (side_of premise.now side)) }
+    ensures told { IsTrue result → (side : Side) → All (IsToldApart (set.listing (side_of conclusion.now side))) (set.listing (side_of premise.now side)) }
+    ensures distinct { IsTrue result → HasDistinctSides premise.now }
+{
+    if !distinct {
         return false;
     }
-    are_distinct(formulas) && are_told_apart(added, formulas)
+    tell_side_apart(conclusion.left(), added.left(), premise.left())
+        && tell_side_apart(conclusion.right(), added.right(), premise.right())
 }

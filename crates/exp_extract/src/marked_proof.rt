@@ -10,6 +10,7 @@ ghost use Rattle.extraction_laws.specs.Addresses.{root};
 ghost use Rattle.extraction_laws.specs.Extraction.{vars_in, marks_of};
 ghost use Rattle.exp_extract.specs.Marked.{address_at, IsPlace};
 
+use crate::fingerprints::has_distinct_sides;
 use crate::maps::Maps;
 use crate::marks::Marks;
 use crate::roots::enter_roots;
@@ -63,7 +64,11 @@ pub(crate) fn mark_proof(
     let mut marks = Marks::new(alloc, outside)?;
     let left = enter_roots(&mut marks, alloc, Side::Left, end.left())?;
     let right = enter_roots(&mut marks, alloc, Side::Right, end.right())?;
-    let sides = Sides { left, right };
+    let sides = Sides {
+        left,
+        right,
+        distinct: has_distinct_sides(alloc, end),
+    };
     let mut walk = Walk {
         marks,
         maps: Maps::new(alloc)?,
@@ -75,6 +80,10 @@ pub(crate) fn mark_proof(
         maps: _,
         visits: _,
     } = walk;
-    let Sides { left, right } = sides;
+    let Sides {
+        left,
+        right,
+        distinct: _,
+    } = sides;
     Ok(MarkedProof { marks, left, right })
 }

@@ -1,5 +1,6 @@
 //! The addresses of the formulas of sequents, by number.
 ghost use Rattle.std.specs.Prelude.{◌≡◌, ◌≤◌, length, map, Some, IfOk, IfSome, IsNone, IsTrue};
+ghost use Rattle.std.specs.List.{All};
 ghost use Rattle.std.specs.Result.{result_ok};
 ghost use Rattle.fol.specs.Order.{formula_cmp};
 ghost use Rattle.finite.specs.Finite as set;
@@ -7,7 +8,7 @@ ghost use Rattle.finite.specs.Place.{place};
 ghost use Rattle.lk_rules.specs.declared.sequent.Side.{Side as SequentSide};
 ghost use Rattle.lk_rules.specs.Sequents.{side_of};
 ghost use Rattle.exp_extract.specs.Fingerprints.{IsToldApart, AreAmong};
-ghost use Rattle.exp_extract.specs.Sides.{IsPlaceOf, HasNotBetween, number_in, HasCounts, auxiliary_place, inner_number, AreInner};
+ghost use Rattle.exp_extract.specs.Sides.{IsPlaceOf, HasNotBetween, number_in, HasCounts, IsKnownDistinct, auxiliary_place, inner_number, AreInner};
 
 use crate::fingerprints::{are_equal, tell_apart};
 use fol::Formula;
@@ -19,6 +20,8 @@ use std::alloc::{AllocError, Global};
 pub(crate) struct Sides {
     pub left: Vec<u32>,
     pub right: Vec<u32>,
+    /// Whether on each side the formulas are known to have unequal fingerprints.
+    pub distinct: bool,
 }
 
 /// The numbers of the addresses of a rule's auxiliary formulas.
@@ -137,16 +140,15 @@ fn inner_side(
     auxiliary: &Auxiliary,
     premise: u64,
     side: Side,
-    added: &[Formula],
     formulas: &[Formula],
+    told_apart: bool,
 ) -> Result<Vec<u32>, AllocError>
     requires rises { set.IsRising formula_cmp conclusion.now }
     requires count { length numbers.now ≡ length conclusion.now }
-    requires among { AreAmong conclusion.now added.now formulas.now }
+    requires told { IsTrue told_apart → All (IsToldApart conclusion.now) formulas.now }
     ensures { IfOk result (λ list. map Some list.items ≡ map (inner_number conclusion.now numbers.now auxiliary.now premise side) formulas.now) }
 {
     let mut list = Vec::with_capacity(alloc, formulas.len())?;
-    let told_apart = tell_apart(conclusion, added);
     let mut near = 0;
     for formula in formulas {
         if let Some(at) = place_near(conclusion, near, formula, told_apart) {
@@ -173,9 +175,12 @@ impl Sides {
         end: &Sequent,
     ) -> Result<Sides, AllocError>
         requires counts { HasCounts conclusion.now self.now }
+        requires distinct { IsKnownDistinct conclusion.now self.now }
         requires among { (side : SequentSide) → AreAmong (set.listing (side_of conclusion.now side)) (set.listing (side_of added.now side)) (set.listing (side_of end.now side)) }
-        ensures { IfOk result (AreInner conclusion.now self.now auxiliary.now premise end.now) }
+        ensures inner { IfOk result (AreInner conclusion.now self.now auxiliary.now premise end.now) }
+        ensures distinct { IfOk result (IsKnownDistinct end.now) }
     {
+        let distinct = tell_apart(self.distinct, conclusion, added, end);
         let left = inner_side(
             alloc,
             conclusion.left(),
@@ -183,8 +188,8 @@ impl Sides {
             auxiliary,
             premise,
             Side::Left,
-            added.left(),
             end.left(),
+            distinct,
         )?;
         let right = inner_side(
             alloc,
@@ -193,9 +198,13 @@ impl Sides {
             auxiliary,
             premise,
             Side::Right,
-            added.right(),
             end.right(),
+            distinct,
         )?;
-        Ok(Sides { left, right })
+        Ok(Sides {
+            left,
+            right,
+            distinct,
+        })
     }
 }

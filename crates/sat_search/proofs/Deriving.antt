@@ -1,6 +1,8 @@
--- One more step: what was derived before still is, and so is its clause. A step whose clause is empty ends a refutation.
-use Rattle.std.proofs.Common.{◌≡◌, ◌+◌, List, [], ◌∷◌, ◌++◌, length, take, length-append, add-one, refl, sym, ap, ◌∙◌}
-use Rattle.std.specs.Prelude.{Some, slice_get, Ok}
+-- One more step: what was derived before still is, and so is its clause. A step whose clause is empty ends a refutation. A clause may be
+-- left out of a table.
+use Rattle.std.proofs.Common.{◌≡◌, ℕ, ◌+◌, List, [], ◌∷◌, ◌++◌, length, take, set, Option, None, length-append, add-one, refl, sym, ap, ◌∙◌}
+use Rattle.std.proofs.lemmas.List.Elements.{All-set}
+use Rattle.std.specs.Prelude.{Some, slice_get, Ok, IfSome}
 use Rattle.std.specs.Result.{result_unwrap_or}
 use Rattle.lk_rules.specs.declared.sequent.Sequent.{Sequent}
 use Rattle.lk_rules.specs.Sequents.{empty}
@@ -9,7 +11,7 @@ use Rattle.ground_laws.specs.declared.step.SatStep.TheVariants.{Input}
 use Rattle.ground_laws.specs.Steps.{derives, derives_all, IsRefutation}
 use Rattle.ground_laws.proofs.Derived.{kept_front, at_end, known_step, cut}
 use Rattle.sat_search.specs.declared.refuting.Derived.{Derived}
-use Rattle.sat_search.specs.Derived.{conclusions, known, IsSound, IsDerived, Derives}
+use Rattle.sat_search.specs.Derived.{conclusions, known, IsSound, IsDerived, AreDerived, Derives}
 
 module _ (cs : List Sequent) where
   pub nothing_yet : IsSound cs []
@@ -42,3 +44,7 @@ module _ (cs : List Sequent) where
 
   pub last_empty : (steps : List SatStep) (d : Derived) → IsSound cs steps → IsDerived cs steps d → d.clause ≡ empty → IsRefutation cs (take (d.step + 1) steps)
   last_empty steps d sound at is = rw add-one (cut cs (known cs steps) d.step sound.known (at ∙ ap Some is))
+
+  -- the table without a clause
+  pub released : (steps : List SatStep) (ds : List (Option Derived)) (i : ℕ) → AreDerived cs steps ds → AreDerived cs steps (set ds i None)
+  released steps ds i all = All-set (λ d. IfSome d (IsDerived cs steps)) ds i None tt all

@@ -3,7 +3,7 @@
 use crate::clauses::Clauses;
 use crate::literal::Literal;
 use crate::literal_set::LiteralSet;
-use crate::tables::{at, put};
+use crate::tables::{at, narrow, put};
 use fol::mix;
 use std::alloc::{AllocError, Global};
 
@@ -16,12 +16,17 @@ pub(crate) struct ClauseIndex {
 }
 
 impl ClauseIndex {
-    /// No clauses, with so many slots.
-    pub fn new(alloc: Global, slots: usize) -> Result<ClauseIndex, AllocError> {
-        Ok(ClauseIndex {
-            last: vec![in alloc; None; slots]?,
-            before: Vec::new(alloc),
-        })
+    /// The index of these clauses, for so many at most.
+    pub fn new(alloc: Global, clauses: &Clauses, most: usize) -> Result<ClauseIndex, AllocError> {
+        let mut index = ClauseIndex {
+            last: vec![in alloc; None; most]?,
+            before: Vec::with_capacity(alloc, most)?,
+        };
+        for number in 0..clauses.len() {
+            let number = narrow(number)?;
+            index.add(clauses.literals(number), number)?;
+        }
+        Ok(index)
     }
 
     // The slot of some literals, whatever their order.

@@ -1,16 +1,16 @@
 //! Clauses by number, with their literals in one list.
 
 use crate::literal::Literal;
-use crate::tables::{at, put};
+use crate::tables::{at, narrow, put};
 use std::alloc::{AllocError, Global};
 
 /// Where the literals of a clause stand.
 #[derive(Clone, Copy)]
 struct Span {
-    start: usize,
-    end: usize,
+    start: u32,
+    end: u32,
     // How many levels the literals had when the clause was learned.
-    glue: usize,
+    glue: u32,
     // Whether a conflict has needed it since the last look.
     is_used: bool,
 }
@@ -31,28 +31,44 @@ pub(crate) struct Clauses {
 }
 
 impl Clauses {
-    /// No clauses.
-    pub fn new(alloc: Global) -> Clauses {
-        Clauses {
-            literals: Vec::new(alloc),
-            spans: Vec::new(alloc),
-        }
+    /// No clauses, with room for so many clauses and so many literals in all.
+    pub fn new(alloc: Global, clauses: usize, literals: usize) -> Result<Clauses, AllocError> {
+        Ok(Clauses {
+            literals: Vec::with_capacity(alloc, literals)?,
+            spans: Vec::with_capacity(alloc, clauses)?,
+        })
+    }
+
+    /// Makes room for so many more clauses.
+    pub fn reserve(&mut self, clauses: usize) -> Result<(), AllocError> {
+        self.spans.reserve_exact(clauses)
+    }
+
+    /// How many clauses there are.
+    pub fn len(&self) -> usize {
+        self.spans.len()
     }
 
     /// Adds a clause, and gives its number.
-    pub fn add(&mut self, literals: &[Literal], glue: usize) -> Result<u32, AllocError> {
-        let Ok(number) = u32::try_from(self.spans.len()) else {
-            return Err(AllocError);
-        };
-        let start = self.literals.len();
+    pub fn add(&mut self, literals: &[Literal], glue: u32) -> Result<u32, AllocError> {
+        let number = narrow(self.spans.len())?;
+        let start = narrow(self.literals.len())?;
         self.literals.extend_from_slice(literals)?;
         self.spans.push(Span {
             start,
-            end: self.literals.len(),
+            end: narrow(self.literals.len())?,
             glue,
             is_used: true,
         })?;
         Ok(number)
+    }
+
+    /// Takes all clauses out but the first so many.
+    pub fn truncate(&mut self, clauses: usize) {
+        self.spans.truncate(clauses);
+        if let Some(last) = self.spans.last() {
+            self.literals.truncate(last.end as usize);
+        }
     }
 
     fn span(&self, clause: u32) -> Span {
@@ -62,7 +78,7 @@ impl Clauses {
     /// The literals of a clause; none where it was forgotten.
     pub fn literals(&self, clause: u32) -> &[Literal] {
         let span = self.span(clause);
-        match self.literals.get(span.start..span.end) {
+        match self.literals.get(span.start as usize..span.end as usize) {
             Some(literals) => literals,
             None => &[],
         }
@@ -76,14 +92,14 @@ impl Clauses {
         place: usize,
         third: Literal,
     ) {
-        let start = self.span(clause).start;
+        let start = self.span(clause).start as usize;
         put(&mut self.literals, start, front.0);
         put(&mut self.literals, start.saturating_add(1), front.1);
         put(&mut self.literals, start.saturating_add(place), third);
     }
 
     /// How many levels the literals had when the clause was learned.
-    pub fn glue(&self, clause: u32) -> usize {
+    pub fn glue(&self, clause: u32) -> u32 {
         self.span(clause).glue
     }
 

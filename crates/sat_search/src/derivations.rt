@@ -1,6 +1,7 @@
 //! How the clauses of a search were derived.
 
 use crate::literal::Literal;
+use crate::tables::narrow;
 use std::alloc::{AllocError, Global};
 
 /// Resolution with a clause: the literal goes from the clause so far, and its negation from this one.
@@ -14,7 +15,7 @@ pub(crate) struct Link {
 #[derive(Clone, Copy)]
 struct Chain {
     first: u32,
-    end: usize,
+    end: u32,
 }
 
 /// The derivations of the clauses that aren't input clauses, in the order of their numbers.
@@ -41,10 +42,8 @@ impl Derivations {
 
     /// Ends a derivation, which begins with this clause.
     pub fn end(&mut self, first: u32) -> Result<(), AllocError> {
-        self.chains.push(Chain {
-            first,
-            end: self.links.len(),
-        })?;
+        let end = narrow(self.links.len())?;
+        self.chains.push(Chain { first, end })?;
         Ok(())
     }
 
@@ -61,10 +60,10 @@ impl Derivations {
         let start = if number == 0 {
             0
         } else {
-            self.chains[number - 1].end
+            self.chains[number - 1].end as usize
         };
         let chain = self.chains[number];
-        let links = self.links.get(start..chain.end)?;
+        let links = self.links.get(start..chain.end as usize)?;
         Some((chain.first, links))
     }
 }

@@ -12,6 +12,7 @@ mod literal_set;
 mod models;
 mod numbering;
 mod order;
+mod plan;
 mod recycling;
 mod refuting;
 mod resolutions;

@@ -26,9 +26,14 @@ impl Literal {
         self.code % 2 == 1
     }
 
+    /// The number of its atom.
+    pub fn number(self) -> u32 {
+        self.code / 2
+    }
+
     /// The place of its atom in tables of atoms.
     pub fn atom(self) -> usize {
-        self.code as usize / 2
+        self.number() as usize
     }
 
     /// Its place in tables of literals.

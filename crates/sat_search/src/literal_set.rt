@@ -1,7 +1,7 @@
 //! Sets of literals.
 
 use crate::literal::Literal;
-use crate::tables::{at, put};
+use crate::tables::{at, narrow, put};
 use std::alloc::{AllocError, Global};
 
 /// A set of literals, in which a literal is found at once.
@@ -9,7 +9,7 @@ use std::alloc::{AllocError, Global};
 pub(crate) struct LiteralSet {
     literals: Vec<Literal>,
     // Where each literal stands among them.
-    places: Vec<Option<usize>>,
+    places: Vec<Option<u32>>,
 }
 
 impl LiteralSet {
@@ -34,7 +34,8 @@ impl LiteralSet {
     /// Adds a literal, unless the set has it.
     pub fn add(&mut self, literal: Literal) -> Result<(), AllocError> {
         if !self.has(literal) {
-            put(&mut self.places, literal.place(), Some(self.literals.len()));
+            let place = narrow(self.literals.len())?;
+            put(&mut self.places, literal.place(), Some(place));
             self.literals.push(literal)?;
         }
         Ok(())
@@ -53,7 +54,7 @@ impl LiteralSet {
         if let Some(place) = at(&self.places, literal.place(), None)
             && let Some(last) = self.literals.pop()
         {
-            put(&mut self.literals, place, last);
+            put(&mut self.literals, place as usize, last);
             put(&mut self.places, last.place(), Some(place));
             put(&mut self.places, literal.place(), None);
         }

@@ -2,7 +2,7 @@
 
 use crate::ground::Ground;
 use crate::literal::Literal;
-use crate::tables::put;
+use crate::tables::{narrow, put};
 use fol::Formula;
 use lk_rules::Formulas;
 use std::alloc::{AllocError, Global};
@@ -14,7 +14,7 @@ const TOO_MANY: usize = 1 << 31;
 struct Occurrence {
     atom: Formula,
     is_negative: bool,
-    place: usize,
+    place: u32,
 }
 
 impl Drop for Occurrence {
@@ -28,6 +28,17 @@ impl Drop for Occurrence {
     }
 }
 
+// How many atoms stand in the clauses, each as often as it does.
+fn occurrences_in(clauses: &[Ground]) -> usize {
+    let mut occurrences: usize = 0;
+    for clause in clauses {
+        occurrences = occurrences
+            .saturating_add(clause.negative.as_slice().len())
+            .saturating_add(clause.positive.as_slice().len());
+    }
+    occurrences
+}
+
 // Appends the occurrences of atoms or their negations.
 fn push_occurrences(
     occurrences: &mut Vec<Occurrence>,
@@ -35,7 +46,7 @@ fn push_occurrences(
     is_negative: bool,
 ) -> Result<(), AllocError> {
     for atom in atoms.as_slice() {
-        let place = occurrences.len();
+        let place = narrow(occurrences.len())?;
         occurrences.push(Occurrence {
             atom: atom.copy()?,
             is_negative,
@@ -50,7 +61,7 @@ pub(crate) struct Numbering {
     atoms: Vec<Formula>,
     // The literals of all clauses, and where those of each clause end.
     literals: Vec<Literal>,
-    ends: Vec<usize>,
+    ends: Vec<u32>,
 }
 
 impl Drop for Numbering {
@@ -69,12 +80,12 @@ impl Drop for Numbering {
 impl Numbering {
     /// The numbering of the atoms of these clauses, in O(n log n) comparisons.
     pub fn new(alloc: Global, clauses: &[Ground]) -> Result<Numbering, AllocError> {
-        let mut occurrences = Vec::new(alloc);
+        let mut occurrences = Vec::with_capacity(alloc, occurrences_in(clauses))?;
         let mut ends = Vec::with_capacity(alloc, clauses.len())?;
         for clause in clauses {
             push_occurrences(&mut occurrences, &clause.negative, true)?;
             push_occurrences(&mut occurrences, &clause.positive, false)?;
-            ends.push(occurrences.len())?;
+            ends.push(narrow(occurrences.len())?)?;
         }
         occurrences.sort_unstable_by(|one, other| one.atom.cmp(&other.atom));
         let mut numbering = Numbering {
@@ -96,11 +107,9 @@ impl Numbering {
         if self.atoms.len() >= TOO_MANY {
             return Err(AllocError);
         }
-        let Ok(number) = u32::try_from(self.atoms.len().saturating_sub(1)) else {
-            return Err(AllocError);
-        };
+        let number = narrow(self.atoms.len().saturating_sub(1))?;
         let literal = Literal::new(number, occurrence.is_negative);
-        put(&mut self.literals, occurrence.place, literal);
+        put(&mut self.literals, occurrence.place as usize, literal);
         Ok(())
     }
 
@@ -116,9 +125,14 @@ impl Numbering {
         self.atoms.len()
     }
 
+    /// How many literals the clauses have in all.
+    pub fn occurrences(&self) -> usize {
+        self.literals.len()
+    }
+
     /// The atom with a number.
-    pub fn atom(&self, number: usize) -> Option<&Formula> {
-        self.atoms.get(number)
+    pub fn atom(&self, number: u32) -> Option<&Formula> {
+        self.atoms.get(number as usize)
     }
 
     /// The literals of a clause: the negative ones and then the positive ones, in the order of its atoms.
@@ -129,9 +143,9 @@ impl Numbering {
         let start = if clause == 0 {
             0
         } else {
-            self.ends[clause - 1]
+            self.ends[clause - 1] as usize
         };
-        match self.literals.get(start..self.ends[clause]) {
+        match self.literals.get(start..self.ends[clause] as usize) {
             Some(literals) => literals,
             None => &[],
         }

@@ -1,6 +1,6 @@
 //! The order in which atoms are chosen.
 
-use crate::tables::{at, put};
+use crate::tables::{at, narrow, put};
 use std::alloc::{AllocError, Global};
 
 /// Above this, all scores are made smaller.
@@ -15,8 +15,8 @@ const SHIFT: u32 = 40;
 pub(crate) struct Order {
     scores: Vec<u64>,
     gain: u64,
-    heap: Vec<usize>,
-    places: Vec<Option<usize>>,
+    heap: Vec<u32>,
+    places: Vec<Option<u32>>,
 }
 
 impl Order {
@@ -25,6 +25,7 @@ impl Order {
         let mut heap = Vec::with_capacity(alloc, atoms)?;
         let mut places = Vec::with_capacity(alloc, atoms)?;
         for atom in 0..atoms {
+            let atom = narrow(atom)?;
             heap.push(atom)?;
             places.push(Some(atom))?;
         }
@@ -36,25 +37,26 @@ impl Order {
         })
     }
 
-    fn score_at(&self, place: usize) -> u64 {
-        at(&self.scores, at(&self.heap, place, usize::MAX), 0)
+    fn score_at(&self, place: u32) -> u64 {
+        let atom = at(&self.heap, place as usize, u32::MAX);
+        at(&self.scores, atom as usize, 0)
     }
 
     // Puts an atom at a place of the heap.
-    fn set(&mut self, place: usize, atom: usize) {
-        put(&mut self.heap, place, atom);
-        put(&mut self.places, atom, Some(place));
+    fn set(&mut self, place: u32, atom: u32) {
+        put(&mut self.heap, place as usize, atom);
+        put(&mut self.places, atom as usize, Some(place));
     }
 
-    fn swap(&mut self, place: usize, other: usize) {
-        let atom = at(&self.heap, place, 0);
-        let moved = at(&self.heap, other, 0);
+    fn swap(&mut self, place: u32, other: u32) {
+        let atom = at(&self.heap, place as usize, 0);
+        let moved = at(&self.heap, other as usize, 0);
         self.set(place, moved);
         self.set(other, atom);
     }
 
     // Moves the atom at a place up to where none below it has a higher score.
-    fn raise(&mut self, place: usize) {
+    fn raise(&mut self, place: u32) {
         let mut place = place;
         for _turn in 0..usize::BITS {
             if place == 0 {
@@ -70,10 +72,10 @@ impl Order {
     }
 
     // Of the two places below a place the one with the higher score.
-    fn below(&self, place: usize) -> usize {
+    fn below(&self, place: u32) -> u32 {
         let first = place.saturating_mul(2).saturating_add(1);
         let second = first.saturating_add(1);
-        if second < self.heap.len() && self.score_at(first) < self.score_at(second) {
+        if (second as usize) < self.heap.len() && self.score_at(first) < self.score_at(second) {
             second
         } else {
             first
@@ -81,11 +83,11 @@ impl Order {
     }
 
     // Moves the atom at a place down to where none below it has a higher score.
-    fn lower(&mut self, place: usize) {
+    fn lower(&mut self, place: u32) {
         let mut place = place;
         for _turn in 0..usize::BITS {
             let below = self.below(place);
-            if below >= self.heap.len() || self.score_at(below) <= self.score_at(place) {
+            if below as usize >= self.heap.len() || self.score_at(below) <= self.score_at(place) {
                 return;
             }
             self.swap(place, below);
@@ -94,25 +96,25 @@ impl Order {
     }
 
     /// Adds an atom, unless it is there.
-    pub fn add(&mut self, atom: usize) -> Result<(), AllocError> {
-        if at(&self.places, atom, None).is_none() {
-            let place = self.heap.len();
+    pub fn add(&mut self, atom: u32) -> Result<(), AllocError> {
+        if at(&self.places, atom as usize, None).is_none() {
+            let place = narrow(self.heap.len())?;
             self.heap.push(atom)?;
-            put(&mut self.places, atom, Some(place));
+            put(&mut self.places, atom as usize, Some(place));
             self.raise(place);
         }
         Ok(())
     }
 
     /// Takes the atom with the highest score.
-    pub fn pop(&mut self) -> Option<usize> {
+    pub fn pop(&mut self) -> Option<u32> {
         let last = self.heap.pop()?;
         let top = at(&self.heap, 0, last);
         if !self.heap.is_empty() {
             self.set(0, last);
             self.lower(0);
         }
-        put(&mut self.places, top, None);
+        put(&mut self.places, top as usize, None);
         Some(top)
     }
 

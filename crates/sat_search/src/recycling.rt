@@ -3,6 +3,7 @@
 use crate::derivations::{Derivations, Link};
 use crate::literal::Literal;
 use crate::literal_set::LiteralSet;
+use crate::tables::narrow;
 use std::alloc::{AllocError, Global};
 use std::mem;
 
@@ -12,9 +13,9 @@ const MOST_SAFE: usize = 100;
 /// What is left of a derivation: its number, its first clause, and where its links end.
 #[derive(Clone, Copy)]
 struct Chain {
-    number: usize,
+    number: u32,
     first: u32,
-    end: usize,
+    end: u32,
 }
 
 /// What is left of derivations: the last one stands first, and of each one the last link.
@@ -43,17 +44,17 @@ impl Kept {
     }
 
     /// A derivation: its number, its first clause and its links.
-    pub fn get(&self, place: usize) -> Option<(usize, u32, &[Link])> {
+    pub fn get(&self, place: usize) -> Option<(u32, u32, &[Link])> {
         if place >= self.chains.len() {
             return None;
         }
         let start = if place == 0 {
             0
         } else {
-            self.chains[place - 1].end
+            self.chains[place - 1].end as usize
         };
         let chain = self.chains[place];
-        let links = self.links.get(start..chain.end)?;
+        let links = self.links.get(start..chain.end as usize)?;
         Some((chain.number, chain.first, links))
     }
 }
@@ -156,8 +157,11 @@ impl Recycling {
             }
         }
         self.meet(first)?;
-        let end = kept.links.len();
-        kept.chains.push(Chain { number, first, end })?;
+        kept.chains.push(Chain {
+            number: narrow(number)?,
+            first,
+            end: narrow(kept.links.len())?,
+        })?;
         Ok(())
     }
 }
@@ -167,7 +171,7 @@ impl Recycling {
 /// on each path to the empty clause is resolved upon once.
 pub(crate) fn recycled(
     alloc: Global,
-    derivations: &Derivations,
+    derivations: Derivations,
     inputs: usize,
     atoms: usize,
 ) -> Result<Kept, AllocError> {

@@ -10,7 +10,7 @@ ghost use Rattle.sat_search.specs.Derived.{conclusions, IsSound, IsDerived, AreD
 use crate::answer::SatSteps;
 use crate::ground::Ground;
 use crate::numbering::Numbering;
-use crate::resolutions::{Resolution, Resolutions};
+use crate::plan::{Plan, Resolution, Uses};
 use fol::Formula;
 use ground_laws::SatStep;
 use lk_rules::Sequent;
@@ -125,7 +125,7 @@ fn next(
     alloc: Global,
     clauses: &[Ground],
     numbering: &Numbering,
-    resolutions: &Resolutions,
+    plan: &Plan,
     table: &[Option<Derived>],
     steps: &mut Vec<SatStep>,
 ) -> Result<Derived, AllocError>
@@ -137,7 +137,7 @@ fn next(
     if number < clauses.len() {
         return input(clauses, steps, number);
     }
-    match resolutions.get(number) {
+    match plan.get(number) {
         Some(resolution) => derive(alloc, clauses, numbering, table, steps, resolution),
         None => Err(AllocError),
     }
@@ -148,7 +148,7 @@ fn push_next(
     alloc: Global,
     clauses: &[Ground],
     numbering: &Numbering,
-    resolutions: &Resolutions,
+    plan: &Plan,
     table: &mut Vec<Option<Derived>>,
     steps: &mut Vec<SatStep>,
     is_needed: bool,
@@ -162,9 +162,28 @@ fn push_next(
         table.push(None)?;
         return Ok(());
     }
-    let next = next(alloc, clauses, numbering, resolutions, table, steps)?;
+    let next = next(alloc, clauses, numbering, plan, table, steps)?;
     table.push(Some(next))?;
     Ok(())
+}
+
+// Takes a use of a clause away, and the clause where it was the last.
+#[tactic(auto, using(crate::proofs::Deriving::released))]
+fn release(table: &mut Vec<Option<Derived>>, uses: &mut Uses, clause: u32)
+    ensures { (cs : List Disjunction) (steps : List Inference) → AreDerived cs steps table.old.items → AreDerived cs steps table.new.items }
+{
+    let place = clause as usize;
+    if uses.end(clause) && place < table.len() {
+        table[place] = None;
+    }
+}
+
+// Takes the uses away that a resolution made.
+fn release_both(table: &mut Vec<Option<Derived>>, uses: &mut Uses, resolution: Resolution)
+    ensures { (cs : List Disjunction) (steps : List Inference) → AreDerived cs steps table.old.items → AreDerived cs steps table.new.items }
+{
+    release(table, uses, resolution.positive);
+    release(table, uses, resolution.negative);
 }
 
 // The steps up to the one whose clause is empty.
@@ -194,23 +213,21 @@ pub(crate) fn refutation(
     alloc: Global,
     clauses: &[Ground],
     numbering: &Numbering,
-    resolutions: &Resolutions,
+    plan: &Plan,
 ) -> Result<SatSteps, AllocError>
     ensures { IfOk result (IsRefutation (clauses_of clauses.now)) }
 {
-    let needed = resolutions.needed(alloc)?;
-    let mut steps = Vec::new(alloc);
-    let mut table = Vec::new(alloc);
-    for is_needed in &needed {
+    let mut uses = plan.uses(alloc)?;
+    let mut steps = Vec::with_capacity(alloc, uses.needed())?;
+    let mut table = Vec::with_capacity(alloc, uses.len())?;
+    for number in 0..uses.len() {
+        let is_needed = uses.is_left(number);
         push_next(
-            alloc,
-            clauses,
-            numbering,
-            resolutions,
-            &mut table,
-            &mut steps,
-            *is_needed,
+            alloc, clauses, numbering, plan, &mut table, &mut steps, is_needed,
         )?;
+        if is_needed && let Some(resolution) = plan.get(number) {
+            release_both(&mut table, &mut uses, resolution);
+        }
     }
     match table.pop() {
         Some(Some(last)) => ended(alloc, clauses, steps, &last),

@@ -1,21 +1,14 @@
-//! A refutation by single resolutions.
+//! How the resolutions of a refutation are found.
 
 use crate::clause_index::ClauseIndex;
 use crate::clauses::Clauses;
 use crate::derivations::Link;
 use crate::literal::Literal;
 use crate::literal_set::LiteralSet;
+use crate::plan::{Plan, Resolution};
 use crate::recycling::Kept;
 use crate::tables::{at, put};
 use std::alloc::{AllocError, Global};
-
-/// Resolution of two clauses on an atom.
-#[derive(Clone, Copy)]
-pub(crate) struct Resolution {
-    pub positive: u32,
-    pub negative: u32,
-    pub atom: usize,
-}
 
 /// The resolutions of a refutation, and the clauses that they derive. The numbers of these follow those of the input clauses, and no two of
 /// them have the same literals.
@@ -34,36 +27,26 @@ pub(crate) struct Resolutions {
 }
 
 impl Resolutions {
-    /// No resolutions, for so many at most, of so many input clauses with so many atoms, and for so many derivations.
+    /// No resolutions, for so many at most, of these input clauses with so many atoms, and for so many derivations.
     pub fn new(
         alloc: Global,
-        inputs: usize,
+        inputs: Clauses,
         atoms: usize,
         most: usize,
         derivations: usize,
     ) -> Result<Resolutions, AllocError> {
+        let mut clauses = inputs;
+        let inputs = clauses.len();
+        clauses.reserve(most)?;
         Ok(Resolutions {
             inputs,
-            items: Vec::new(alloc),
-            clauses: Clauses::new(alloc),
-            index: ClauseIndex::new(alloc, inputs.saturating_add(most))?,
+            items: Vec::with_capacity(alloc, most)?,
+            index: ClauseIndex::new(alloc, &clauses, inputs.saturating_add(most))?,
+            clauses,
             numbers: vec![in alloc; 0u32; derivations]?,
             last: 0,
             here: LiteralSet::new(alloc, atoms)?,
         })
-    }
-
-    /// Adds the input clauses, which are the first ones of a search.
-    pub fn add_inputs(&mut self, clauses: &Clauses) -> Result<(), AllocError> {
-        for number in 0..self.inputs {
-            let Ok(number) = u32::try_from(number) else {
-                return Err(AllocError);
-            };
-            let literals = clauses.literals(number);
-            self.clauses.add(literals, 0)?;
-            self.index.add(literals, number)?;
-        }
-        Ok(())
     }
 
     // The number of a clause of the search.
@@ -115,19 +98,19 @@ impl Resolutions {
         self.items.push(Resolution {
             positive,
             negative,
-            atom: literal.atom(),
+            atom: literal.number(),
         })?;
         Ok(number)
     }
 
     // Makes the resolutions of a derivation.
-    fn replay(&mut self, derivation: (usize, u32, &[Link])) -> Result<(), AllocError> {
+    fn replay(&mut self, derivation: (u32, u32, &[Link])) -> Result<(), AllocError> {
         let (number, first, links) = derivation;
         self.visit(self.number(first))?;
         for link in links.iter().rev() {
             self.resolve(link.literal, self.number(link.clause))?;
         }
-        put(&mut self.numbers, number, self.last);
+        put(&mut self.numbers, number as usize, self.last);
         Ok(())
     }
 
@@ -141,25 +124,8 @@ impl Resolutions {
         Ok(())
     }
 
-    /// The resolution that derives the clause of a number, which isn't an input clause.
-    pub fn get(&self, clause: usize) -> Option<Resolution> {
-        let place = clause.checked_sub(self.inputs)?;
-        self.items.get(place).copied()
-    }
-
-    /// Which clauses the empty one needs: one entry for each up to itself.
-    pub fn needed(&self, alloc: Global) -> Result<Vec<bool>, AllocError> {
-        let last = self.last as usize;
-        let mut needed = vec![in alloc; false; last.saturating_add(1)]?;
-        put(&mut needed, last, true);
-        for clause in (self.inputs..needed.len()).rev() {
-            if at(&needed, clause, false)
-                && let Some(resolution) = self.get(clause)
-            {
-                put(&mut needed, resolution.positive as usize, true);
-                put(&mut needed, resolution.negative as usize, true);
-            }
-        }
-        Ok(needed)
+    /// The resolutions alone.
+    pub fn into_plan(self) -> Plan {
+        Plan::new(self.inputs, self.items, self.last)
     }
 }

@@ -21,7 +21,7 @@ const KEPT: usize = 1000;
 const MORE_KEPT: usize = 100;
 
 /// A learned clause whose literals have so few levels is always kept (Audemard, Simon 2009).
-const GLUE: usize = 2;
+const GLUE: u32 = 2;
 
 /// After so many conflicts the values to choose are changed first, and each later time after so many more.
 const REPHASE: u64 = 1000;
@@ -106,11 +106,16 @@ pub(crate) struct Solver {
 }
 
 impl Solver {
-    /// A search without clauses, for so many atoms.
-    pub fn new(alloc: Global, atoms: usize) -> Result<Solver, AllocError> {
+    /// A search without clauses, for so many atoms, and with room for so many input clauses and so many literals in all.
+    pub fn new(
+        alloc: Global,
+        atoms: usize,
+        clauses: usize,
+        literals: usize,
+    ) -> Result<Solver, AllocError> {
         Ok(Solver {
             alloc,
-            clauses: Clauses::new(alloc),
+            clauses: Clauses::new(alloc, clauses, literals)?,
             trail: Trail::new(alloc, atoms)?,
             watches: Watches::new(alloc, atoms)?,
             order: Order::new(alloc, atoms)?,
@@ -130,14 +135,10 @@ impl Solver {
         })
     }
 
-    /// The derivations so far; the last one is that of the empty clause, where the clauses are refuted.
-    pub fn derivations(&self) -> &Derivations {
-        &self.derivations
-    }
-
-    /// The clauses: the input clauses first.
-    pub fn clauses(&self) -> &Clauses {
-        &self.clauses
+    /// The clauses, the input clauses first, and the derivations of the others; the last one is that of the empty clause, where the clauses
+    /// are refuted.
+    pub fn into_parts(self) -> (Clauses, Derivations) {
+        (self.clauses, self.derivations)
     }
 
     /// Whether a literal is true.
@@ -228,10 +229,7 @@ impl Solver {
             let Some(atom) = self.order.pop() else {
                 return Ok(Some(Verdict::Satisfied));
             };
-            let Ok(number) = u32::try_from(atom) else {
-                return Err(AllocError);
-            };
-            let literal = Literal::new(number, !self.trail.phase(atom));
+            let literal = Literal::new(atom, !self.trail.phase(atom as usize));
             if self.trail.truth(literal) == Truth::Unset {
                 self.trail.open_level()?;
                 self.trail.assign(literal, None)?;
@@ -247,7 +245,7 @@ impl Solver {
             let Some(literal) = self.trail.undo_above(level) else {
                 break;
             };
-            self.order.add(literal.atom())?;
+            self.order.add(literal.number())?;
         }
         Ok(())
     }
@@ -473,7 +471,7 @@ impl Solver {
     }
 
     // The places of the literals that are implied, and of those that come in their place, in rising order.
-    fn implied(&self) -> Result<Vec<usize>, AllocError> {
+    fn implied(&self) -> Result<Vec<u32>, AllocError> {
         let mut implied = Vec::new(self.alloc);
         for literal in self.analysis.visited() {
             implied.push(self.trail.assignment(*literal).place)?;
@@ -483,9 +481,9 @@ impl Solver {
     }
 
     // Resolves implied literals away, those that became false last first.
-    fn resolve_implied(&mut self, implied: &[usize]) -> Result<(), AllocError> {
+    fn resolve_implied(&mut self, implied: &[u32]) -> Result<(), AllocError> {
         for place in implied.iter().rev() {
-            let literal = self.trail.literal(*place);
+            let literal = self.trail.literal(*place as usize);
             if let Some(reason) = self.trail.reason_of(literal) {
                 self.derivations.link(literal.negated(), reason)?;
                 self.gather(reason)?;
@@ -517,9 +515,9 @@ impl Solver {
     }
 
     // How many levels the literals have.
-    fn glue_of(&mut self, literals: &[Literal]) -> usize {
+    fn glue_of(&mut self, literals: &[Literal]) -> u32 {
         self.analysis.begin_count();
-        let mut glue: usize = 0;
+        let mut glue: u32 = 0;
         for literal in literals {
             let level = self.trail.level_of(*literal);
             if !self.analysis.is_counted(level) {

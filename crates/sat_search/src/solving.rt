@@ -12,6 +12,7 @@ use crate::answer::SatAnswer;
 use crate::ground::Ground;
 use crate::models::model;
 use crate::numbering::Numbering;
+use crate::plan::Plan;
 use crate::recycling::recycled;
 use crate::refuting::refutation;
 use crate::resolutions::Resolutions;
@@ -20,7 +21,12 @@ use std::alloc::{AllocError, Global};
 
 // A search with these clauses.
 fn solver(alloc: Global, clauses: &[Ground], numbering: &Numbering) -> Result<Solver, AllocError> {
-    let mut solver = Solver::new(alloc, numbering.len())?;
+    let mut solver = Solver::new(
+        alloc,
+        numbering.len(),
+        clauses.len(),
+        numbering.occurrences(),
+    )?;
     for (number, clause) in clauses.iter().enumerate() {
         if clause.is_tautology() {
             solver.add_tautology()?;
@@ -31,25 +37,16 @@ fn solver(alloc: Global, clauses: &[Ground], numbering: &Numbering) -> Result<So
     Ok(solver)
 }
 
-// The resolutions that the refutation of a search needs, where there are so many clauses.
-fn shortened(
-    alloc: Global,
-    clauses: usize,
-    numbering: &Numbering,
-    solver: &Solver,
-) -> Result<Resolutions, AllocError> {
-    let derivations = solver.derivations();
-    let kept = recycled(alloc, derivations, clauses, numbering.len())?;
-    let mut resolutions = Resolutions::new(
-        alloc,
-        clauses,
-        numbering.len(),
-        kept.links(),
-        derivations.len(),
-    )?;
-    resolutions.add_inputs(solver.clauses())?;
+// The resolutions that the refutation of a search needs, where there are so many input clauses and atoms. What isn't needed any more of the
+// search, and of the way to the resolutions, is given back at once.
+fn planned(alloc: Global, inputs: usize, atoms: usize, solver: Solver) -> Result<Plan, AllocError> {
+    let (mut clauses, derivations) = solver.into_parts();
+    clauses.truncate(inputs);
+    let many = derivations.len();
+    let kept = recycled(alloc, derivations, inputs, atoms)?;
+    let mut resolutions = Resolutions::new(alloc, clauses, atoms, kept.links(), many)?;
     resolutions.replay_all(&kept)?;
-    Ok(resolutions)
+    Ok(resolutions.into_plan())
 }
 
 /// A model or a refutation of the clauses. The search learns from conflicts: after Davis, Putnam, Logemann and Loveland (1962), Marques-Silva
@@ -65,8 +62,8 @@ pub fn solve(alloc: Global, clauses: &[Ground]) -> Result<SatAnswer, AllocError>
     match solver.run()? {
         Verdict::Satisfied => Ok(SatAnswer::Model(model(alloc, clauses, &numbering, &solver)?)),
         Verdict::Refuted => {
-            let resolutions = shortened(alloc, clauses.len(), &numbering, &solver)?;
-            let steps = refutation(alloc, clauses, &numbering, &resolutions)?;
+            let plan = planned(alloc, clauses.len(), numbering.len(), solver)?;
+            let steps = refutation(alloc, clauses, &numbering, &plan)?;
             Ok(SatAnswer::Refutation(steps))
         }
     }

@@ -1,7 +1,7 @@
 //! Which literals are true, and why.
 
 use crate::literal::Literal;
-use crate::tables::{at, put};
+use crate::tables::{at, narrow, put};
 use std::alloc::{AllocError, Global};
 
 /// The value of a literal.
@@ -16,8 +16,8 @@ pub(crate) enum Truth {
 /// none where the value was chosen.
 #[derive(Clone, Copy)]
 pub(crate) struct Assignment {
-    pub level: usize,
-    pub place: usize,
+    pub level: u32,
+    pub place: u32,
     pub reason: Option<u32>,
 }
 
@@ -69,7 +69,7 @@ impl Trail {
 
     /// The level at which it was.
     pub fn level_of(&self, literal: Literal) -> usize {
-        self.assignment(literal).level
+        self.assignment(literal).level as usize
     }
 
     /// The clause whose other literals were false then.
@@ -129,8 +129,8 @@ impl Trail {
     /// Makes a literal true.
     pub fn assign(&mut self, literal: Literal, reason: Option<u32>) -> Result<(), AllocError> {
         let assignment = Assignment {
-            level: self.levels.len(),
-            place: self.literals.len(),
+            level: narrow(self.levels.len())?,
+            place: narrow(self.literals.len())?,
             reason,
         };
         self.literals.push(literal)?;

@@ -1,14 +1,14 @@
 -- Each formula is told apart, and its number stands at its place in the conclusion, where it has one.
-use Rattle.std.proofs.Common.{◌≡◌, Some, sym, ap, ◌∙◌, rules, arith}
+use Rattle.std.proofs.Common.{◌≡◌, Some, sym, ap, ◌∙◌, subst, rules, arith}
+use Rattle.exp_extract.specs.Fingerprints.{IsToldApart}
 use Rattle.exp_extract.specs.Sides.{auxiliary_place, or_else, inner_number}
 use Rattle.exp_extract.proofs.FormulaPlaces.{in_range, number_at_place, number_at_no_place}
 use Rattle.exp_extract.proofs.NumberedFormulas.{numbers_more}
-use Rattle.exp_extract.proofs.ToldApart.{item_listed}
 use Rattle.exp_extract.proofs.sides.inner_side.Goals as goal
 
 pub place_near-requires-clause-told : goal.place_near-requires-clause-told
 place_near-requires-clause-told c told =
-    c.tell_apart-told_apart.ensures told c.formula-item.result (c.requires.among c.formula-item.result (item_listed c.args.formulas.now c.formula-item.result c.loop-formula.formula-index c.loop-formula-test.true c.formula-item.is))
+    subst (IsToldApart c.args.conclusion.now) (sym c.formula-item.is) (c.requires.told told c.loop-formula.formula-index c.formula-item.result c.loop-formula-test.true)
 
 pub bounds-numbers-at : goal.bounds-numbers-at
 bounds-numbers-at c = omega (arith, c.requires.count, in_range c.args.conclusion.now c.formula-item.result c.in-Some.at c.in-Some.ensures)

@@ -7,7 +7,7 @@ use Rattle.lk_rules.specs.declared.sequent.Sequent.{Sequent}
 use Rattle.lk_rules.specs.Rules.{IsWithin}
 use Rattle.proof_graph.specs.declared.node.Node.{Node}
 use Rattle.proof_trees.specs.Trees.{more, none}
-use Rattle.exp_extract.specs.Sides.{AreInner}
+use Rattle.exp_extract.specs.Sides.{AreInner, IsKnownDistinct}
 use Rattle.exp_extract.proofs.MarkedSets.{on_ok}
 use Rattle.exp_extract.proofs.Walks.{visit_after, visits_stay, met_includes, premise_ready, premise_after}
 use Rattle.exp_extract.proofs.AtRoots.{root_right, root_first, root_second, root_inner, root_one, root_later, root_two, first_after, one_tree, two_trees, home_at, first_smaller, second_smaller}
@@ -123,17 +123,19 @@ visit_premise-inner-requires-clause-among t c side =
 pub visit_premise-visit-requires : goal.visit_premise-visit-requires
 visit_premise-visit-requires t c =
     let end = ap (λ (n : Node). n.end) c.get-root.ensures in
-    let numbers = subst (λ (e : Sequent). AreInner c.args.end.now c.args.sides.now c.args.inner.now.auxiliary c.args.place e c.in_ok-inner_sides.inner_sides) end c.in_ok-inner_sides.ensures in
+    let numbers = subst (λ (e : Sequent). AreInner c.args.end.now c.args.sides.now c.args.inner.now.auxiliary c.args.place e c.in_ok-inner_sides.inner_sides) end c.in_ok-inner_sides.ensures.inner in
+    let distinct = subst (λ (e : Sequent). IsKnownDistinct e c.in_ok-inner_sides.inner_sides) end c.in_ok-inner_sides.ensures.distinct in
     let has = c.requires.inner in (
       omega (arith, c.decreases),
       (
         c.requires.visits,
-        (c.requires.of, premise_ready c.args.walk.now.maps c.args.walk.now.marks c.args.rule.now c.args.end.now c.args.sides.now c.in_ok-inner_sides.inner_sides c.args.map c.args.place c.args.inner.now c.args.premise.now.tree has.context has.variable c.requires.right c.requires.premise has.is numbers),
+        (c.requires.of, premise_ready c.args.walk.now.maps c.args.walk.now.marks c.args.rule.now c.args.end.now c.args.sides.now c.in_ok-inner_sides.inner_sides c.args.map c.args.place c.args.inner.now c.args.premise.now.tree has.context has.variable c.requires.right c.requires.premise has.is numbers distinct),
       ),
     )
 
 pub visit_premise-returns-clause-after : goal.visit_premise-returns-clause-after
 visit_premise-returns-clause-after t c =
     let end = ap (λ (n : Node). n.end) c.get-root.ensures in
-    let numbers = subst (λ (e : Sequent). AreInner c.args.end.now c.args.sides.now c.args.inner.now.auxiliary c.args.place e c.in_ok-inner_sides.inner_sides) end c.in_ok-inner_sides.ensures in
-    λ d v is. on_ok c.visit.result (premise_after c.args.walk.now.maps c.args.walk.now.marks c.args.rule.now c.args.end.now c.args.sides.now c.in_ok-inner_sides.inner_sides c.args.map c.args.place c.args.inner.now c.args.premise.now.tree d v c.requires.right c.requires.premise is numbers c.visit.new.walk.maps c.visit.new.walk.marks) c.visit.ensures.after
+    let numbers = subst (λ (e : Sequent). AreInner c.args.end.now c.args.sides.now c.args.inner.now.auxiliary c.args.place e c.in_ok-inner_sides.inner_sides) end c.in_ok-inner_sides.ensures.inner in
+    let distinct = subst (λ (e : Sequent). IsKnownDistinct e c.in_ok-inner_sides.inner_sides) end c.in_ok-inner_sides.ensures.distinct in
+    λ d v is. on_ok c.visit.result (premise_after c.args.walk.now.maps c.args.walk.now.marks c.args.rule.now c.args.end.now c.args.sides.now c.in_ok-inner_sides.inner_sides c.args.map c.args.place c.args.inner.now c.args.premise.now.tree d v c.requires.right c.requires.premise is numbers distinct c.visit.new.walk.maps c.visit.new.walk.marks) c.visit.ensures.after

@@ -1,5 +1,5 @@
 -- There are as many entries as addresses.
-use Rattle.std.proofs.Common.{◌≡◌, length, sym, ap, ◌∙◌, subst, rules, arith}
+use Rattle.std.proofs.Common.{◌≡◌, length, ap, subst, rules, arith}
 use Rattle.std.specs.Prelude.{ℕ, IfOk}
 use Rattle.exp_extract.proofs.MoreEntries.{length_of}
 use Rattle.exp_extract.proofs.places.Places.next.Goals as goal

@@ -5,7 +5,7 @@ use Rattle.fol.specs.Order.{formula_cmp}
 use Rattle.finite.specs.Finite as set
 use Rattle.finite.proofs.Finite.{listing_rises}
 use Rattle.lk_rules.specs.declared.sequent.Side.TheVariants.{Left, Right}
-use Rattle.exp_extract.proofs.ToldApart.{among_by}
+use Rattle.exp_extract.proofs.ToldApart.{told_by}
 use Rattle.exp_extract.proofs.sides.Sides.inner.Goals as goal
 
 pub inner_side-requires-clause-rises : goal.inner_side-requires-clause-rises
@@ -20,8 +20,8 @@ inner_side-requires-2-clause-rises c = subst (λ (fs : List Formula). set.IsRisi
 pub inner_side-requires-2-clause-count : goal.inner_side-requires-2-clause-count
 inner_side-requires-2-clause-count c = ap length c.deref-2.ensures.value ∙ (c.requires.counts Right ∙ sym (ap length c.right.ensures.listing))
 
-pub inner_side-requires-clause-among : goal.inner_side-requires-clause-among
-inner_side-requires-clause-among c = among_by _ _ _ _ _ _ c.left.ensures.listing c.left-2.ensures.listing c.left-3.ensures.listing (c.requires.among Left)
+pub inner_side-requires-clause-told : goal.inner_side-requires-clause-told
+inner_side-requires-clause-told c told = told_by _ _ _ _ c.left.ensures.listing c.left-2.ensures.listing (c.tell_apart-distinct.ensures.told told Left)
 
-pub inner_side-requires-2-clause-among : goal.inner_side-requires-2-clause-among
-inner_side-requires-2-clause-among c = among_by _ _ _ _ _ _ c.right.ensures.listing c.right-2.ensures.listing c.right-3.ensures.listing (c.requires.among Right)
+pub inner_side-requires-2-clause-told : goal.inner_side-requires-2-clause-told
+inner_side-requires-2-clause-told c told = told_by _ _ _ _ c.right.ensures.listing c.right-2.ensures.listing (c.tell_apart-distinct.ensures.told told Right)
